@@ -1,0 +1,5 @@
+-- The definitions and laws of allotment.
+pub mod Allot
+pub mod Lists
+pub mod Stepper
+pub mod Abreast

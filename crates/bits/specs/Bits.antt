@@ -1,0 +1,50 @@
+-- Bits and fields of a list of bytes, the most significant bit of each byte first, and what it means to take and to put a field.
+use mathlib.Core.Path.{_≡_}
+use mathlib.Core.List.{List}
+use Prim.Native.Nat.{ℕ, zero, suc, _+_, _-_, _*_, _/_, _%_, _^_, _≤_, _<_}
+use lib.ListN.{length, getD}
+
+-- every element is a byte
+abbrev pub Bytes : List ℕ → Type 0
+Bytes xs = (i : ℕ) → getD xs i 0 < 2 ^ 8
+
+-- the bit at position p: in byte p / 8, at place p % 8 from the top
+unfoldable pub bitAt : List ℕ → ℕ → ℕ
+bitAt xs p = getD xs (p / 8) 0 / 2 ^ (7 - p % 8) % 2
+
+-- the number that the w bits f p, f (p + 1), .. spell, the first of them the highest
+unfoldable pub number : (ℕ → ℕ) → ℕ → ℕ → ℕ
+number f p zero = 0
+number f p (suc w) = 2 * number f p w + f (p + w)
+
+-- the number that the w bits of a list of bytes spell from position p on
+abbrev pub fieldAt : List ℕ → ℕ → ℕ → ℕ
+fieldAt xs p w = number (bitAt xs) p w
+
+-- a field of 1 to 42 bits that lies within the bytes
+pub record Room (xs : List ℕ) (p w : ℕ) : Type 0 where
+  pub some : 1 ≤ w
+  pub narrow : w ≤ 42
+  pub within : p + w ≤ 8 * length xs
+  pub small : length xs < 2 ^ 60
+
+-- v is the field of w bits at p, and the next field is at e
+pub record Taken (xs : List ℕ) (p w v e : ℕ) : Type 0 where
+  pub value : v ≡ fieldAt xs p w
+  pub next : e ≡ p + w
+
+-- new is old with v in the w bits from p on, and every other bit as it was
+pub record Placed (old new : List ℕ) (p w v : ℕ) : Type 0 where
+  pub long : length new ≡ length old
+  pub reads : fieldAt new p w ≡ v
+  pub before : (q : ℕ) → q < p → bitAt new q ≡ bitAt old q
+  pub after : (q : ℕ) → p + w ≤ q → bitAt new q ≡ bitAt old q
+
+-- the same, and the next field is at e
+pub record Written (old new : List ℕ) (p w v e : ℕ) : Type 0 where
+  pub placed : Placed old new p w v
+  pub next : e ≡ p + w
+
+-- the byte b with the number v in its n bits above the lowest s
+unfoldable pub patch : ℕ → ℕ → ℕ → ℕ → ℕ
+patch b v n s = b / 2 ^ (n + s) * 2 ^ (n + s) + (v * 2 ^ s + b % 2 ^ s)

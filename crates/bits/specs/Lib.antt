@@ -1,0 +1,6 @@
+pub mod Bits
+pub mod BitLaws
+pub mod Table
+pub mod TableLaws
+pub mod Pack
+pub mod PackLaws

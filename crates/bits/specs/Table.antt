@@ -1,0 +1,42 @@
+-- A layout as a table of widths, and the numbers that fields of these widths spell, one right after another.
+use mathlib.Core.Path.{_≡_}
+use mathlib.Core.List.{List, [], _∷_}
+use mathlib.Core.Bool.{Bool, true, _&&_}
+use Prim.Native.Nat.{ℕ, _+_, _*_, _^_, _≤_, _<_}
+use lib.Dec.{T, leb}
+use lib.ListN.{length}
+use Rattle.bits.specs.Bits.{bitAt, fieldAt}
+
+-- how many bits the widths take
+abbrev pub total : List ℕ → ℕ
+total [] = 0
+total (w ∷ ws) = w + total ws
+
+-- what the fields from p on spell
+abbrev pub fieldsAt : List ℕ → ℕ → List ℕ → List ℕ
+fieldsAt xs p [] = []
+fieldsAt xs p (w ∷ ws) = fieldAt xs p w ∷ fieldsAt xs (p + w) ws
+
+-- each value has no more bits than its width
+abbrev pub Valid : List ℕ → List ℕ → Type 0
+Valid [] vs = Unit
+Valid (w ∷ ws) [] = Unit
+Valid (w ∷ ws) (v ∷ vs) = (v < 2 ^ w) × Valid ws vs
+
+-- each width is from 1 to 42
+abbrev pub narrow : List ℕ → Bool
+narrow [] = true
+narrow (w ∷ ws) = (leb 1 w && leb w 42) && narrow ws
+
+-- fields of these widths lie within the bytes, from p on
+pub record Fit (xs : List ℕ) (p : ℕ) (ws : List ℕ) : Type 0 where
+  pub narrows : T (narrow ws)
+  pub within : p + total ws ≤ 8 * length xs
+  pub small : length xs < 2 ^ 60
+
+-- new is old with the values in the fields from p on, and every other bit as it was
+pub record Put (old new : List ℕ) (p : ℕ) (ws vs : List ℕ) : Type 0 where
+  pub long : length new ≡ length old
+  pub reads : fieldsAt new p ws ≡ vs
+  pub before : (q : ℕ) → q < p → bitAt new q ≡ bitAt old q
+  pub after : (q : ℕ) → p + total ws ≤ q → bitAt new q ≡ bitAt old q

@@ -1,0 +1,24 @@
+-- `testable` meets its contract.
+use borrow.Author.Needs.{needs}
+use borrow.Author.Tests.{eq-eqb, ne-eqb}
+use Rattle.ids.specs.Tests.{cond-true, cond-false}
+use Rattle.calendar.specs.Calendar.{testable}
+use Rattle.calendar.proofs.testable.Statement.{statement}
+use Rattle.calendar.proofs.testable.Tie as tie
+
+between-requires : tie.Need-between-requires
+between-requires c κs = search needs
+
+summer-requires : tie.Need-summer-requires
+summer-requires c κs = search needs
+
+returns : tie.Need-returns
+unfolding testable
+returns c = cond-true _ (eq-eqb _ _ (c .before .if1 .taken)) (c .between .ensures)
+
+returns-2 : tie.Need-returns-2
+unfolding testable
+returns-2 c = cond-false _ (ne-eqb _ _ (c .before .if1 .left)) (c .summer .ensures)
+
+pub testable-spec : {M : Type 1} → statement M
+testable-spec = tie.close (tie.spec between-requires summer-requires returns returns-2)

@@ -1,0 +1,8 @@
+pub mod Owed
+pub mod Events
+pub mod Tests
+pub mod Balance
+pub mod Cap
+pub mod Independent
+pub mod Bound
+pub mod Figures

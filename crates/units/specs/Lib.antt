@@ -1,0 +1,2 @@
+-- The definitions and laws of the units.
+pub mod Units

@@ -1,0 +1,46 @@
+-- The two units of kilowatts: their limits, the conversion, and its laws.
+use Prim.Native.Nat.{ℕ, _*_, _/_, _≤_}
+use mathlib.Core.Path.{_≡_}
+use native.Mathlib.Omega.{arith}
+use native.Mathlib.Nat.{zero-mul, mul-assoc, mul-le-mul, mul-le-mul-left, mul-le-mul-right}
+
+-- the most kilowatts of one registration, nominated and unforced
+abbrev pub nominatedLimit : ℕ
+nominatedLimit = 100000
+
+abbrev pub unforcedLimit : ℕ
+unforcedLimit = 144000
+
+-- the most registrations whose kilowatts a seller's sum adds up
+abbrev pub most : ℕ
+most = 64
+
+-- the highest DR Factor and Forecast Pool Requirement, in ten-thousandths
+abbrev pub factorLimit : ℕ
+factorLimit = 12000
+
+-- a nominated kilowatts, converted: a × DR Factor × Forecast Pool Requirement / 100,000,000
+unfoldable pub convert : ℕ → ℕ → ℕ → ℕ
+convert factor requirement a = a * factor * requirement / 100000000
+
+pub convert-zero : (f r : ℕ) → convert f r 0 ≡ 0
+unfolding convert
+convert-zero f r = rw (zero-mul f, zero-mul r)
+
+pub convert-mono : (f r : ℕ) {a b : ℕ} → a ≤ b → convert f r a ≤ convert f r b
+unfolding convert
+convert-mono f r {a} {b} h =
+    let m : a * f * r ≤ b * f * r = mul-le-mul-right r (mul-le-mul-right f h) in omega arith
+
+-- the product that the conversion divides
+pub product-le : {f r : ℕ} (a : ℕ) → f ≤ factorLimit → r ≤ factorLimit → a * f * r ≤ a * 144000000
+product-le {f} {r} a hf hr = rw mul-assoc (mul-le-mul-left a (mul-le-mul hf hr))
+
+-- at most 1.44 unforced for each nominated
+pub convert-scaled : {f r : ℕ} (a : ℕ) → f ≤ factorLimit → r ≤ factorLimit → convert f r a * 100 ≤ a * 144
+unfolding convert
+convert-scaled {f} {r} a hf hr = omega (arith, product-le a hf hr)
+
+-- one registration's
+pub convert-le : {f r a : ℕ} → f ≤ factorLimit → r ≤ factorLimit → a ≤ nominatedLimit → convert f r a ≤ unforcedLimit
+convert-le {a = a} hf hr ha = omega (arith, convert-scaled a hf hr)

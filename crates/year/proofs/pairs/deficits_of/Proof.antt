@@ -1,0 +1,82 @@
+-- `year::pairs::deficits_of` meets its contract. The loop's invariant: the kilowatts of the pairs passed stand at their ids. Assumes nothing.
+use Prim.Native.Nat.{_≤_, _-_}
+use mathlib.Core.Path.{_≡_, refl}
+use native.Mathlib.Omega.{arith}
+use Rattle.year.specs.Listing.{byId}
+use Rattle.year.specs.ListingLaws.{by-id-turn}
+use Rattle.year.proofs.pairs.deficits_of.Statement.{statement}
+use Rattle.year.proofs.pairs.deficits_of.Tie as tie
+
+abbrev Inv-loop : tie.InvT-loop
+Inv-loop at n values deficits₀ k₀ deficits k = (k ≤ n) × (deficits ≡ byId 16 values at k)
+
+abbrev μ-loop : tie.MeasureT-loop
+μ-loop at n values deficits₀ k₀ deficits k = n - k
+
+loop-holds : tie.Need-loop-holds Inv-loop μ-loop
+unfolding byId
+loop-holds c = (omega arith, refl)
+
+mul-p : tie.Need-mul-p Inv-loop μ-loop
+mul-p c = omega arith
+
+add-p : tie.Need-add-p Inv-loop μ-loop
+add-p c = omega arith
+
+mul-id : tie.Need-mul-id Inv-loop μ-loop
+mul-id c = omega arith
+
+array-read-id : tie.Need-array-read-id Inv-loop μ-loop
+array-read-id c = omega arith
+
+add-deficits : tie.Need-add-deficits Inv-loop μ-loop
+add-deficits c = omega arith
+
+mul-deficits : tie.Need-mul-deficits Inv-loop μ-loop
+mul-deficits c = omega arith
+
+array-read-deficits : tie.Need-array-read-deficits Inv-loop μ-loop
+array-read-deficits c = omega arith
+
+cast-deficits : tie.Need-cast-deficits Inv-loop μ-loop
+cast-deficits c = omega (arith, c .before .before .pre .kilowatts (c .before .loop .k) (omega arith))
+
+mul-deficits-2 : tie.Need-mul-deficits-2 Inv-loop μ-loop
+mul-deficits-2 c = omega (arith, c .before .before .pre .ids (c .before .loop .k) (omega arith))
+
+array-write-deficits : tie.Need-array-write-deficits Inv-loop μ-loop
+array-write-deficits c = omega (arith, c .before .before .pre .ids (c .before .loop .k) (omega arith))
+
+add-k : tie.Need-add-k Inv-loop μ-loop
+add-k c = omega arith
+
+loop-less : tie.Need-loop-less Inv-loop μ-loop
+loop-less c = omega arith
+
+loop-again : tie.Need-loop-again Inv-loop μ-loop
+loop-again c = (omega arith, by-id-turn 16 _ _ (c .before .loop .k) (c .before .loop .inv .1))
+
+returns : tie.Need-returns Inv-loop μ-loop
+returns c = let all : c .before .loop .k ≡ c .before .before .args .n = omega arith in rw all at (c .before .loop .inv .1)
+
+pub deficits-of-spec : {M : Type 1} → statement M
+deficits-of-spec =
+    tie.close
+    (tie.spec
+    Inv-loop
+    μ-loop
+    loop-holds
+    mul-p
+    add-p
+    mul-id
+    array-read-id
+    add-deficits
+    mul-deficits
+    array-read-deficits
+    cast-deficits
+    mul-deficits-2
+    array-write-deficits
+    add-k
+    loop-less
+    loop-again
+    returns)

@@ -1,0 +1,95 @@
+-- A new year is sound, and each step keeps it so.
+use Prim.Native.Nat.{ℕ, _<_, _≤_}
+use mathlib.Core.Path.{_≡_, refl, _∙_}
+use mathlib.Core.Bool.{Bool, true, false}
+use mathlib.Core.List.{List}
+use native.Mathlib.Omega.{arith}
+use lib.Dec.{lit≤, lit<}
+use lib.ListN.{getD, replicate, length-replicate, getD-replicate, length-set}
+use Rattle.ids.specs.Each.{each-set, each-replicate}
+use Rattle.year.specs.declared.Registration.{Registration}
+use Rattle.year.specs.declared.Event.{Event}
+use Rattle.year.specs.declared.Test.{Test}
+use Rattle.year.specs.declared.Terms.{Terms}
+use Rattle.year.specs.declared.Amounts.{Amounts}
+use Rattle.year.specs.declared.Year.{Year}
+use Rattle.year.specs.Year.{noRegistration, noListing, noEvent, noTest, noTerms, noAmounts, newYear, pastEvent, pastTest, listed, zone, product}
+use Rattle.year.specs.Steps.{withTerms, withOpening, withRegistration, withLse, withEvent, withTest, withClose}
+use Rattle.year.specs.Sound.{SoundRegistration, AtMost, SoundListing, SoundEvent, SoundTest, Factors, SoundTerms, Fits42, SoundAmounts, Sound}
+use Rattle.year.specs.Sets.{kept-set}
+
+sound-no-listing : SoundListing noListing
+sound-no-listing =
+    record { listed = length-replicate 64 false; reductions = each-replicate (AtMost 100000) 0 64 (lit≤ tt); deficits = each-replicate (AtMost 1000000) 0 16 (lit≤ tt) }
+
+sound-no-event : SoundEvent noEvent
+sound-no-event = record { month = lit≤ tt; listing = sound-no-listing }
+
+pub sound-no-registration : SoundRegistration noRegistration
+sound-no-registration =
+    record { seller = lit< tt; area = lit< tt; zone = lit< tt; product = lit< tt; committed = lit≤ tt; rate = lit≤ tt; blank = λ e. refl }
+
+sound-no-terms : SoundTerms noTerms
+sound-no-terms =
+    record { factors = record { leap = lit≤ tt; factor = lit≤ tt; requirement = lit≤ tt }; registrations = each-replicate SoundRegistration noRegistration 64 sound-no-registration; obligations = each-replicate (AtMost 1000000) 0 16 (lit≤ tt) }
+
+sound-no-amounts : SoundAmounts noAmounts
+sound-no-amounts =
+    let none = each-replicate Fits42 0 16 (lit< tt) in
+    record { compliance = none; test = none; credit = none; lse = none }
+
+false-true : {X : Type 0} {b : Bool} → b ≡ false → b ≡ true → X
+false-true e t = absurd (let z : _≡_ {A = ℕ} 0 1 = cc in omega arith)
+
+-- the tests, each at its place
+abbrev SoundTests : Terms → List Test → Type 0
+SoundTests T ts = (k : ℕ) → k < 24 → SoundTest T k (getD ts k pastTest)
+
+-- blank tests list nothing, so they suit all terms
+sound-no-tests : (T : Terms) {ts : List Test} → ts ≡ replicate 24 noTest → SoundTests T ts
+unfolding listed
+sound-no-tests T e k l =
+    rw (e, getD-replicate 24 k noTest pastTest l)
+    (record { listing = sound-no-listing; own = λ i m t. false-true (getD-replicate 64 i false false m) t })
+
+pub sound-new : Sound newYear
+sound-new =
+    record { closed = lit≤ tt; held = lit≤ tt; terms = sound-no-terms; events = each-replicate SoundEvent pastEvent 16 sound-no-event; places = length-replicate 24 noTest; tests = sound-no-tests noTerms refl; billed = sound-no-amounts; fresh = λ e. (refl, refl, refl) }
+
+module _ {y : Year} (s : Sound y) where
+  sound-terms : {opened : Bool} {T : Terms} → SoundTerms T → SoundTests T (y .tests) → Sound (withTerms y opened T)
+  sound-terms t h =
+      record { closed = s .closed; held = s .held; terms = t; events = s .events; places = s .places; tests = h; billed = s .billed; fresh = s .fresh }
+
+  -- other terms with the same registrations
+  sound-others : {opened : Bool} {T : Terms} → T .registrations ≡ y .terms .registrations → SoundTerms T → Sound (withTerms y opened T)
+  unfolding zone product
+  sound-others e t =
+      sound-terms t (λ k l. record { listing = s .tests k l .listing; own = λ i m h. rw e (s .tests k l .own i m h) })
+
+  pub sound-opening : {leap factor requirement : ℕ} → Factors leap factor requirement → Sound (withOpening y leap factor requirement)
+  sound-opening f =
+      sound-others refl (record { factors = f; registrations = s .terms .registrations; obligations = s .terms .obligations })
+
+  pub sound-registration : y .started ≡ false → (id : ℕ) {r : Registration} → SoundRegistration r → Sound (withRegistration y id r)
+  sound-registration e id h =
+      sound-terms
+      (record { factors = s .terms .factors; registrations = each-set SoundRegistration noRegistration (s .terms .registrations) id h; obligations = s .terms .obligations })
+      (sound-no-tests _ (s .fresh e .2))
+
+  pub sound-lse : (id : ℕ) {kw : ℕ} → kw ≤ 1000000 → Sound (withLse y id kw)
+  sound-lse id l =
+      sound-others refl
+      (record { factors = s .terms .factors; registrations = s .terms .registrations; obligations = each-set (AtMost 1000000) 0 (s .terms .obligations) id l })
+
+  pub sound-event : y .held < 16 → {e : Event} → SoundEvent e → Sound (withEvent y e)
+  sound-event l h =
+      record { closed = s .closed; held = omega arith; terms = s .terms; events = each-set SoundEvent pastEvent (s .events) (y .held) h; places = s .places; tests = s .tests; billed = s .billed; fresh = λ e. false-true e refl }
+
+  pub sound-test : (place : ℕ) {t : Test} → SoundTest (y .terms) place t → Sound (withTest y place t)
+  sound-test place {t} h =
+      record { closed = s .closed; held = s .held; terms = s .terms; events = s .events; places = length-set (y .tests) place t ∙ s .places; tests = kept-set (λ k u. k < 24 → SoundTest (y .terms) k u) pastTest (y .tests) place (λ l. h) (s .tests); billed = s .billed; fresh = λ e. false-true e refl }
+
+  pub sound-close : y .closed < 15 → {billed : Amounts} → SoundAmounts billed → Sound (withClose y billed)
+  sound-close l h =
+      record { closed = omega arith; held = s .held; terms = s .terms; events = s .events; places = s .places; tests = s .tests; billed = h; fresh = λ e. false-true e refl }

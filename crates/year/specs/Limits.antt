@@ -1,0 +1,75 @@
+-- What sound terms and listings say of every id, also past the arrays' ends.
+use Prim.Native.Nat.{ℕ, zero, suc, _≤_, _<_}
+use mathlib.Core.Path.{_≡_}
+use mathlib.Core.Bool.{false}
+use mathlib.Core.List.{List, [], _∷_}
+use native.Mathlib.Omega.{arith}
+use lib.Dec.{lit≤}
+use lib.ListN.{length, getD}
+use Rattle.ids.specs.Each.{Each}
+use Rattle.year.specs.declared.Listing.{Listing}
+use Rattle.year.specs.declared.Terms.{Terms}
+use Rattle.year.specs.Year.{registration, known, seller, area, zone, product, committed, rate, obligation, size, lses, reduction, deficit}
+use Rattle.year.specs.Sound.{SoundRegistration, AtMost, SoundListing, SoundTerms}
+use Rattle.year.specs.Kept.{sound-no-registration}
+
+-- what holds of the default and of each element holds of what is read anywhere
+module _ {A : Type 0} (P : A → Type 0) {d : A} (h : P d) where
+  anywhere : (l : List A) → ((k : ℕ) → k < length l → P (getD l k d)) → (i : ℕ) → P (getD l i d)
+  anywhere [] e i = h
+  anywhere (x ∷ xs) e zero = e zero (omega arith)
+  anywhere (x ∷ xs) e (suc i) = anywhere xs (λ k l. e (suc k) (omega arith)) i
+
+  pub each-anywhere : {n : ℕ} {l : List A} → Each P d n l → (i : ℕ) → P (getD l i d)
+  each-anywhere {l = l} e = anywhere l (λ k b. e .at k (omega (arith, e .long)))
+
+module _ {T : Terms} (s : SoundTerms T) where
+  pub registration-sound : (i : ℕ) → SoundRegistration (registration T i)
+  registration-sound = each-anywhere SoundRegistration sound-no-registration (s .registrations)
+
+  pub seller-below : (i : ℕ) → seller T i < 16
+  unfolding seller
+  seller-below i = registration-sound i .seller
+
+  pub area-below : (i : ℕ) → area T i < 8
+  unfolding area
+  area-below i = registration-sound i .area
+
+  pub zone-below : (i : ℕ) → zone T i < 8
+  unfolding zone
+  zone-below i = registration-sound i .zone
+
+  pub product-below : (i : ℕ) → product T i < 3
+  unfolding product
+  product-below i = registration-sound i .product
+
+  pub committed-most : (i : ℕ) → committed T i ≤ 100000
+  unfolding committed
+  committed-most i = registration-sound i .committed
+
+  pub committed-blank : (i : ℕ) → known T i ≡ false → committed T i ≡ 0
+  unfolding known committed
+  committed-blank i e = registration-sound i .blank e
+
+  pub rate-most : (i : ℕ) → rate T i ≤ 100000
+  unfolding rate
+  rate-most i = registration-sound i .rate
+
+  pub obligation-most : (j : ℕ) → obligation T j ≤ 1000000
+  unfolding obligation
+  obligation-most = each-anywhere (AtMost 1000000) (lit≤ tt) (s .obligations)
+
+  pub size-is : size T ≡ 64
+  size-is = s .registrations .long
+
+  pub lses-is : lses T ≡ 16
+  lses-is = s .obligations .long
+
+module _ {l : Listing} (s : SoundListing l) where
+  pub reduction-most : (i : ℕ) → reduction l i ≤ 100000
+  unfolding reduction
+  reduction-most = each-anywhere (AtMost 100000) (lit≤ tt) (s .reductions)
+
+  pub deficit-most : (j : ℕ) → deficit l j ≤ 1000000
+  unfolding deficit
+  deficit-most = each-anywhere (AtMost 1000000) (lit≤ tt) (s .deficits)

@@ -1,0 +1,103 @@
+-- A new year, and what the rules read of a year.
+use Prim.Native.Nat.{ℕ}
+use mathlib.Core.List.{List, []}
+use mathlib.Core.Bool.{Bool, false}
+use lib.ListN.{getD, length, take, replicate}
+use Rattle.ids.specs.Ids.{at, holds}
+use Rattle.year.specs.declared.Registration.{Registration}
+use Rattle.year.specs.declared.Listing.{Listing}
+use Rattle.year.specs.declared.Event.{Event}
+use Rattle.year.specs.declared.Test.{Test}
+use Rattle.year.specs.declared.Terms.{Terms}
+use Rattle.year.specs.declared.Amounts.{Amounts}
+use Rattle.year.specs.declared.Year.{Year}
+
+abbrev pub noRegistration : Registration
+noRegistration =
+    record { known = false; seller = 0; area = 0; zone = 0; product = 0; committed = record { 0 = 0 }; rate = 0 }
+
+abbrev pub noListing : Listing
+noListing = record { listed = replicate 64 false; reductions = replicate 64 0; deficits = replicate 16 0 }
+
+abbrev pub noEvent : Event
+noEvent = record { area = 0; month = 0; period = 0; listing = noListing }
+
+abbrev pub noTest : Test
+noTest = record { taken = false; month = 0; listing = noListing }
+
+abbrev pub noTerms : Terms
+noTerms =
+    record { leap = 0; factor = 0; requirement = 0; registrations = replicate 64 noRegistration; obligations = replicate 16 0 }
+
+abbrev pub noAmounts : Amounts
+noAmounts = record { compliance = replicate 16 0; test = replicate 16 0; credit = replicate 16 0; lse = replicate 16 0 }
+
+-- no year yet
+abbrev pub newYear : Year
+newYear =
+    record { opened = false; started = false; closed = 0; terms = noTerms; events = replicate 16 noEvent; held = 0; tests = replicate 24 noTest; billed = noAmounts }
+
+-- what the code reads past an array's end: every number 0, every test false, every list empty
+abbrev pub pastListing : Listing
+pastListing = record { listed = []; reductions = []; deficits = [] }
+
+abbrev pub pastEvent : Event
+pastEvent = record { area = 0; month = 0; period = 0; listing = pastListing }
+
+abbrev pub pastTest : Test
+pastTest = record { taken = false; month = 0; listing = pastListing }
+
+-- the accepted events, in order of acceptance
+abbrev pub accepted : Year → List Event
+accepted y = take (y .held) (y .events)
+
+-- is registration i listed, and with which reduction; the deficit of seller s, 0 where it is absent
+unfoldable pub listed : Listing → ℕ → Bool
+listed l i = holds (l .listed) i
+
+unfoldable pub reduction : Listing → ℕ → ℕ
+reduction l i = at (l .reductions) i
+
+unfoldable pub deficit : Listing → ℕ → ℕ
+deficit l s = at (l .deficits) s
+
+-- of registration i
+module _ (T : Terms) where
+  abbrev pub registration : ℕ → Registration
+  registration i = getD (T .registrations) i noRegistration
+
+  unfoldable pub known : ℕ → Bool
+  known i = registration i .known
+
+  unfoldable pub seller : ℕ → ℕ
+  seller i = registration i .seller
+
+  unfoldable pub area : ℕ → ℕ
+  area i = registration i .area
+
+  unfoldable pub zone : ℕ → ℕ
+  zone i = registration i .zone
+
+  unfoldable pub product : ℕ → ℕ
+  product i = registration i .product
+
+  unfoldable pub committed : ℕ → ℕ
+  committed i = registration i .committed .0
+
+  unfoldable pub rate : ℕ → ℕ
+  rate i = registration i .rate
+
+  -- the obligation of LSE j, 0 where it is not known
+  unfoldable pub obligation : ℕ → ℕ
+  obligation j = at (T .obligations) j
+
+  -- the ids of registrations and of LSEs are below these
+  abbrev pub size : ℕ
+  size = length (T .registrations)
+
+  abbrev pub lses : ℕ
+  lses = length (T .obligations)
+
+-- the ids of sellers are below this
+abbrev pub sellers : ℕ
+sellers = 16
