@@ -5,7 +5,7 @@ use mathlib.Core.Logic.{inl, inr}
 use native.Mathlib.Omega.{arith}
 use native.Mathlib.Nat.{le-trans, div-mul-le-self, le-div-iff-mul-le, div-zero, eq-zero-or-pos, mul-le-mul-left, mul-le-mul-right, mul-zero, zero-div, mul-div-cancel, add-mul-div-right, sub-self, le-refl, add-zero, zero-lt-suc}
 use Rattle.ids.specs.Ids.{sumTo}
-use Rattle.ids.specs.Sums.{sum-zero, sum-one}
+use Rattle.ids.specs.Sums.{sum-same, sum-zero, sum-one}
 
 -- of a by the n weights w, share i: a × S(i + 1) / W less a × S(i) / W, with S(i) the sum of the weights before i and W of all
 unfoldable pub share : ℕ → (ℕ → ℕ) → ℕ → ℕ → ℕ
@@ -56,3 +56,9 @@ share-le n w a i h = elim (eq-zero-or-pos (sumTo n w)) [
 -- nor the amount
 pub share-most : {n i : ℕ} (w : ℕ → ℕ) (a : ℕ) → i < n → share n w a i ≤ a
 share-most {n} w a l = le-trans (sum-one (share n w a) l) (shares-le n w a)
+
+-- weights that are equal have equal shares
+pub share-same : {n i : ℕ} {w v : ℕ → ℕ} (a : ℕ) → ((j : ℕ) → j < n → w j ≡ v j) → i < n → share n w a i ≡ share n v a i
+unfolding share
+share-same {n} {i} {w} {v} a h l =
+    rw (sum-same n h, sum-same (suc i) {f = w} {g = v} (λ j m. h j (omega arith)), sum-same i {f = w} {g = v} (λ j m. h j (omega arith)))

@@ -21,12 +21,12 @@ number f p (suc w) = 2 * number f p w + f (p + w)
 abbrev pub fieldAt : List ℕ → ℕ → ℕ → ℕ
 fieldAt xs p w = number (bitAt xs) p w
 
--- a field of 1 to 42 bits that lies within the bytes
+-- a field of 1 to 42 bits that lies within the bytes, and whose end is a number that a position can hold
 pub record Room (xs : List ℕ) (p w : ℕ) : Type 0 where
   pub some : 1 ≤ w
   pub narrow : w ≤ 42
   pub within : p + w ≤ 8 * length xs
-  pub small : length xs < 2 ^ 60
+  pub small : p + w ≤ 2 ^ 60
 
 -- v is the field of w bits at p, and the next field is at e
 pub record Taken (xs : List ℕ) (p w v e : ℕ) : Type 0 where

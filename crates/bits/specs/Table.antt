@@ -32,7 +32,7 @@ narrow (w ∷ ws) = (leb 1 w && leb w 42) && narrow ws
 pub record Fit (xs : List ℕ) (p : ℕ) (ws : List ℕ) : Type 0 where
   pub narrows : T (narrow ws)
   pub within : p + total ws ≤ 8 * length xs
-  pub small : length xs < 2 ^ 60
+  pub small : p + total ws ≤ 2 ^ 60
 
 -- new is old with the values in the fields from p on, and every other bit as it was
 pub record Put (old new : List ℕ) (p : ℕ) (ws vs : List ℕ) : Type 0 where

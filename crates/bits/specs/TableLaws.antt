@@ -1,6 +1,6 @@
 -- Laws of tables of fields: two tables in a row, one more field read or written, and what the fields depend on.
 use mathlib.Core.Path.{_≡_, refl, ap, _∙_}
-use mathlib.Core.List.{List, [], _∷_, _++_, append-assoc, append-nil}
+use mathlib.Core.List.{List, [], _∷_, _++_, append-assoc}
 use mathlib.Core.Bool.{_&&_}
 use Prim.Native.Nat.{ℕ, zero, suc, _+_, _*_, _^_, _≤_, _<_}
 use native.Mathlib.Nat.{add-zero, add-assoc}
@@ -8,7 +8,7 @@ use native.Mathlib.Numerals.{add-one}
 use native.Mathlib.Omega.{arith}
 use lib.Dec.{T, leb, leb→le}
 use lib.ListN.{length, getD, take, drop, set}
-use lib.Seq.{take-suc, drop-cons, set-at, length-take-le, take-length, drop-length}
+use lib.Seq.{take-suc, drop-cons, set-at, length-take-le}
 use mir.Facts.{and-yes}
 use Rattle.bits.specs.Bits.{fieldAt, Room, Placed}
 use Rattle.bits.specs.BitLaws.{Agree, agree-join, agree-field, agree-append, agree-take, field-lt, field-bits}
@@ -85,23 +85,19 @@ fields-more xs p ws i h = rw (add-one, take-suc ws i 0, fields-append)
 pub fit-room : {xs ws : List ℕ} {p : ℕ} (i q : ℕ) → Fit xs p ws → i < length ws → q ≡ p + total (take i ws) → Room xs q (getD ws i 0)
 fit-room {xs} {ws} {p} i q f h e =
     let w = width-in ws i (f .narrows) h in
-    record { some = w .0; narrow = w .1; within = omega (arith, total-in ws i h, f .within); small = f .small }
+    record { some = w .0; narrow = w .1; within = omega (arith, total-in ws i h, f .within); small = omega (arith, total-in ws i h, f .small) }
 
 pub fit-same : {xs ys ws : List ℕ} {p : ℕ} → length ys ≡ length xs → Fit xs p ws → Fit ys p ws
-fit-same e f = record { narrows = f .narrows; within = rw e (f .within); small = rw e (f .small) }
+fit-same e f = record { narrows = f .narrows; within = rw e (f .within); small = f .small }
 
 -- one more field read into out, whose other elements are as in old
-pub out-more : (xs : List ℕ) (p : ℕ) (ws out old : List ℕ) (i : ℕ) → i < length ws → length old ≡ length ws
+pub out-more : (xs : List ℕ) (p : ℕ) (ws out old : List ℕ) (i : ℕ) → i < length ws → length ws ≤ length old
     → out ≡ fieldsAt xs p (take i ws) ++ drop i old
     → set out i (fieldAt xs (p + total (take i ws)) (getD ws i 0)) ≡ fieldsAt xs p (take (i + 1) ws) ++ drop (i + 1) old
 out-more xs p ws out old i h n e =
     let l : length (fieldsAt xs p (take i ws)) ≡ i = length-fields xs p (take i ws) ∙ length-take-le i ws (omega arith) in
     let d : drop i old ≡ getD old i 0 ∷ drop (i + 1) old = rw add-one (drop-cons old i 0 (omega arith)) in
     rw (e, d, fields-more xs p ws i h, set-at (fieldsAt xs p (take i ws)) (getD old i 0) (drop (i + 1) old) (fieldAt xs (p + total (take i ws)) (getD ws i 0)) i l, append-assoc)
-
--- all fields read
-pub out-all : (xs : List ℕ) (p : ℕ) (ws out old : List ℕ) → length old ≡ length ws → out ≡ fieldsAt xs p (take (length ws) ws) ++ drop (length ws) old → out ≡ fieldsAt xs p ws
-out-all xs p ws out old n e = e ∙ rw (← n, drop-length, n, take-length, append-nil)
 
 -- a table's fields depend on their own bits alone
 pub fields-cong : (xs ys : List ℕ) (p : ℕ) (ws : List ℕ) → Agree xs ys p (p + total ws) → fieldsAt xs p ws ≡ fieldsAt ys p ws

@@ -1,7 +1,12 @@
-// A cursor by value over the bits of a byte slice, the most significant bit of each byte first.
+// A cursor by value over the bits of a byte slice, the most significant bit of each byte first, and tables of fields.
 ghost use mathlib.Core.Path.{_≡_};
-ghost use Prim.Native.Nat.{_+_, _^_, _≤_, _<_, min};
-ghost use Rattle.bits.specs.Bits.{Room, Taken, Written, patch};
+ghost use mathlib.Core.List.{_++_};
+ghost use Prim.Native.Nat.{_+_, _-_, _*_, _^_, _≤_, _<_, min};
+ghost use lib.Dec.{T};
+ghost use lib.ListN.{length, drop};
+ghost use Rattle.bits.specs.Bits.{Room, Taken, Placed, Written, patch};
+ghost use Rattle.bits.specs.Table.{total, fieldsAt, narrow, Valid, Fit};
+ghost use Rattle.bits.specs.Pack.{bytesFor, encode};
 
 // The position of a bit.
 pub struct Cursor {
@@ -75,4 +80,59 @@ fn patched(b: u8, part: u64, n: usize, low: usize) -> u8
     let high = (word >> top) << top;
     let rest = (part << low) | (word & ((1u64 << low) - 1));
     (high | rest) as u8
+}
+
+// The fields of these widths from a bit on, into the front of out; the bit behind them.
+pub fn take_all(bytes: &[u8], at: usize, widths: &[u8], out: &mut [u64]) -> usize
+    requires { ⌜ Fit (now bytes) at (now widths) ⌝ }
+    requires { ⌜ length (now widths) ≤ length (now out) ⌝ }
+    ensures { λ r. ⌜ r ≡ at + total (now (widths .entry)) ⌝ }
+    ensures { λ r. ⌜ now (out .exit) ≡ fieldsAt (now (bytes .entry)) at (now (widths .entry)) ++ drop (length (now (widths .entry))) (now (out .entry)) ⌝ }
+{
+    let mut c = Cursor { at: at };
+    let mut i = 0;
+    while i < widths.len() {
+        let w = widths[i] as usize;
+        let f = c.take(bytes, w);
+        out[i] = f.value;
+        c = f.next;
+        i += 1;
+    }
+    c.at
+}
+
+// The values in fields of these widths from the first bit on, and zero bits up to the end of the last byte; the bytes so filled.
+pub fn put_all(bytes: &mut [u8], widths: &[u8], values: &[u64]) -> usize
+    requires { ⌜ T (narrow (now widths)) ⌝ }
+    requires { ⌜ length (now values) ≡ length (now widths) ⌝ }
+    requires { ⌜ Valid (now widths) (now values) ⌝ }
+    requires { ⌜ bytesFor (total (now widths)) ≤ length (now bytes) ⌝ }
+    requires { ⌜ total (now widths) < 2 ^ 60 ⌝ }
+    ensures { λ r. ⌜ r ≡ bytesFor (total (now (widths .entry))) ⌝ }
+    ensures { λ r. ⌜ now (bytes .exit) ≡ encode (now (widths .entry)) (now (values .entry)) ++ drop (bytesFor (total (now (widths .entry)))) (now (bytes .entry)) ⌝ }
+{
+    let mut c = Cursor { at: 0 };
+    let mut i = 0;
+    while i < widths.len() {
+        let w = widths[i] as usize;
+        c = c.put(bytes, w, values[i]);
+        i += 1;
+    }
+    fill(bytes, c.at)
+}
+
+// Zero bits from a bit on up to the end of its byte; how many bytes end there.
+fn fill(bytes: &mut [u8], at: usize) -> usize
+    requires { ⌜ bytesFor at ≤ length (now bytes) ⌝ }
+    requires { ⌜ at < 2 ^ 60 ⌝ }
+    ensures { λ r. ⌜ r ≡ bytesFor at ⌝ }
+    ensures { λ r. ⌜ Placed (now (bytes .entry)) (now (bytes .exit)) at (8 * bytesFor at - at) 0 ⌝ }
+{
+    let size = (at + 7) >> 3;
+    let left = (size << 3) - at;
+    if left == 0 {
+        return size;
+    }
+    Cursor { at: at }.put(bytes, left, 0);
+    size
 }

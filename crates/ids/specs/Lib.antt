@@ -5,3 +5,4 @@ pub mod Tests
 pub mod Tables
 pub mod Each
 pub mod Fill
+pub mod Update

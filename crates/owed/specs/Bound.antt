@@ -97,6 +97,17 @@ module _ (T : Terms) (S : SoundTerms T) where
   pub worth-total : (p : ℕ → Bool) (s : ℕ) → total T p s (λ i. committed T i * rate T i) ≤ 640000000000
   worth-total p s = total-le 10000000000 p s (λ i. committed T i * rate T i) (λ i l. mul-le-mul (committed-le i l) (rate-le i l))
 
+  pub worth-le : (p : ℕ → Bool) (s : ℕ) → total T p s (λ i. committed T i * rate T i) ≤ total T p s (committed T) * 100000
+  unfolding total part
+  worth-le p s =
+      let f : ℕ → ℕ = λ i. cond (p i && eqb (seller T i) s) (committed T i) 0 in
+      let g : ℕ → ℕ = λ i. cond (p i && eqb (seller T i) s) (committed T i * rate T i) 0 in
+      omega (
+        arith,
+        sum-mul (size T) f 100000,
+        sum-le (size T) {f = g} {g = λ i. f i * 100000} (λ i l. cond-mul (p i && eqb (seller T i) s) (committed T i) (rate T i) (rate-le i l)),
+      )
+
   pub short-total : (l : Listing) (p : ℕ → Bool) (s : ℕ) → total T p s (λ i. committed T i - reduction l i) ≤ 6400000
   short-total l p s = total-le 100000 p s (λ i. committed T i - reduction l i) (λ i b. omega (arith, committed-le i b))
 
@@ -139,7 +150,7 @@ module _ (T : Terms) (S : SoundTerms T) where
         let h : min (asked T n ev i) (cap T i - t) ≤ 14400000000 = omega (arith, cap-le i l) in
         mul-le-mul h (D-le k)
 
-    charge-le : (k : ℕ) (ev : Event) (t : ℕ → ℕ) (i : ℕ) → i < size T → charge T n k ev t i ≤ 5270400000
+    pub charge-le : (k : ℕ) (ev : Event) (t : ℕ → ℕ) (i : ℕ) → i < size T → charge T n k ev t i ≤ 5270400000
     unfolding charge
     charge-le k ev t i l =
         cond-le (leb (due (product T i) (ev .month)) k) (daily T n ev i (t i) * D T k / 1000) 5270400000 (omega (arith, daily-days k ev i (t i) l))
@@ -225,18 +236,8 @@ module _ (T : Terms) (S : SoundTerms T) where
   -- of a test
   module _ (c : ℕ → Bool) where
     pub raised-le : (te : Test) (s : ℕ) → raised (base T c te s) ≤ 120000
-    unfolding raised base total part
-    raised-le te s =
-        let p : ℕ → Bool = λ i. tested T c te i && eqb (seller T i) s in
-        let f : ℕ → ℕ = λ i. cond (p i) (committed T i) 0 in
-        let g : ℕ → ℕ = λ i. cond (p i) (committed T i * rate T i) 0 in
-        let h : sumTo (size T) g ≤ sumTo (size T) f * 100000 =
-        omega (
-          arith,
-          sum-mul (size T) f 100000,
-          sum-le (size T) {f = g} {g = λ i. f i * 100000} (λ i l. cond-mul (p i) (committed T i) (rate T i) (rate-le i l)),
-        ) in
-        omega (arith, div-le-of-le-mul (sumTo (size T) f) h)
+    unfolding raised base
+    raised-le te s = omega (arith, div-le-of-le-mul (total T (tested T c te) s (committed T)) (worth-le (tested T c te) s))
 
     pub test-daily : (te : Test) (s : ℕ) → shortfall T (te .listing) (tested T c te) s * raised (base T c te s) ≤ 1105920000000
     test-daily te s = mul-le-mul (shortfall-le (te .listing) (tested T c te) s) (raised-le te s)
@@ -357,7 +358,7 @@ module _ (y : Year) (S : Sound y) where
       }
 
   -- what is left for the LSEs, allotted
-  obligations-le : sumTo (lses (y .terms)) (obligation (y .terms)) ≤ 16000000
+  pub obligations-le : sumTo (lses (y .terms)) (obligation (y .terms)) ≤ 16000000
   unfolding obligation
   obligations-le =
       omega (

@@ -35,7 +35,7 @@ module _ (T : Terms) (r : ℕ) where
   pub record SameTest (a b : Test) : Type 0 where
     pub listing : SameListing (a .listing) (b .listing)
 
-  same-called : {xs zs : List Event} → Pairwise SameEvent xs zs → (i : ℕ) → called xs i ≡ called zs i
+  pub same-called : {xs zs : List Event} → Pairwise SameEvent xs zs → (i : ℕ) → called xs i ≡ called zs i
   unfolding called
   same-called nil i = refl
   same-called (cons h t) i = cc (h .listing .listed i, same-called t i)

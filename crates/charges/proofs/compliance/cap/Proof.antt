@@ -1,0 +1,26 @@
+-- `charges::compliance::cap` meets its contract.
+use native.Mathlib.Omega.{arith}
+use borrow.Author.Needs.{needs}
+use Rattle.ids.specs.Ids.{at}
+use Rattle.units.specs.Units.{convert-le}
+use Rattle.charges.specs.Bounds.{product-fits}
+use Rattle.charges.proofs.compliance.cap.Statement.{statement}
+use Rattle.charges.proofs.compliance.cap.Tie as tie
+
+new-requires : tie.Need-new-requires
+new-requires c κs = search needs
+
+unforced-requires : tie.Need-unforced-requires
+unforced-requires c κs = search needs
+
+mul-result : tie.Need-mul-result
+mul-result c =
+    let p = c .before .before .before .pre in
+    let converted = rw (c .before .before .new .ensures) at (c .before .unforced .ensures) in
+    record { fits = product-fits 144000 100000 (rw converted (convert-le (p .0) (p .1 .0) (p .1 .1 .0))) (omega arith) (omega arith) }
+
+returns : tie.Need-returns
+returns c = cc
+
+pub cap-spec : {M : Type 1} → statement M
+cap-spec = tie.close (tie.spec new-requires unforced-requires mul-result returns)

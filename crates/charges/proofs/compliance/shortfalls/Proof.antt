@@ -1,0 +1,84 @@
+-- `charges::compliance::shortfalls` meets its contract: the loop fills the array.
+use Prim.Native.Nat.{_-_}
+use mathlib.Core.Path.{refl}
+use native.Mathlib.Omega.{arith}
+use Rattle.ids.specs.Ids.{at}
+use Rattle.ids.specs.Fill.{Filled, filled-none, filled-more, filled-all}
+use Rattle.units.specs.Units.{convert}
+use Rattle.charges.proofs.compliance.shortfalls.Statement.{statement}
+use Rattle.charges.proofs.compliance.shortfalls.Tie as tie
+
+abbrev Inv-loop : tie.InvT-loop
+Inv-loop factor requirement committed reduction deficits r₀ s₀ r s = Filled 0 16 (λ j. convert factor requirement (at committed j - at reduction j) - at deficits j) r s
+
+abbrev μ-loop : tie.MeasureT-loop
+μ-loop factor requirement committed reduction deficits r₀ s₀ r s = 16 - s
+
+loop-holds : tie.Need-loop-holds Inv-loop μ-loop
+loop-holds c = filled-none refl
+
+mul-shortfall : tie.Need-mul-shortfall Inv-loop μ-loop
+mul-shortfall c = omega arith
+
+array-read-shortfall : tie.Need-array-read-shortfall Inv-loop μ-loop
+array-read-shortfall c = omega arith
+
+mul-shortfall-2 : tie.Need-mul-shortfall-2 Inv-loop μ-loop
+mul-shortfall-2 c = omega arith
+
+array-read-shortfall-2 : tie.Need-array-read-shortfall-2 Inv-loop μ-loop
+array-read-shortfall-2 c = omega arith
+
+mul-wide : tie.Need-mul-wide Inv-loop μ-loop
+mul-wide c = omega arith
+
+array-read-wide : tie.Need-array-read-wide Inv-loop μ-loop
+array-read-wide c = omega arith
+
+wide-requires : tie.Need-wide-requires Inv-loop μ-loop
+wide-requires c κs = tt
+
+shortfall-requires : tie.Need-shortfall-requires Inv-loop μ-loop
+shortfall-requires c κs =
+    let l = c .before .before in
+    omega (arith, l .before .pre .1 .1 (l .loop .s))
+
+mul-r : tie.Need-mul-r Inv-loop μ-loop
+mul-r c = omega arith
+
+array-write-r : tie.Need-array-write-r Inv-loop μ-loop
+array-write-r c = omega arith
+
+add-s : tie.Need-add-s Inv-loop μ-loop
+add-s c = omega arith
+
+loop-less : tie.Need-loop-less Inv-loop μ-loop
+loop-less c = omega arith
+
+loop-again : tie.Need-loop-again Inv-loop μ-loop
+loop-again c = filled-more (c .before .before .before .loop .inv) (omega arith) (rw (c .before .wide .ensures) at (c .shortfall .ensures))
+
+returns : tie.Need-returns Inv-loop μ-loop
+returns c = filled-all (c .before .loop .inv) (c .loop-test .left)
+
+pub shortfalls-spec : {M : Type 1} → statement M
+shortfalls-spec =
+    tie.close
+    (tie.spec
+    Inv-loop
+    μ-loop
+    loop-holds
+    mul-shortfall
+    array-read-shortfall
+    mul-shortfall-2
+    array-read-shortfall-2
+    mul-wide
+    array-read-wide
+    wide-requires
+    shortfall-requires
+    mul-r
+    array-write-r
+    add-s
+    loop-less
+    loop-again
+    returns)

@@ -1,0 +1,83 @@
+-- `charges::shares::allot` meets its contract. The loop fills the shares, with the allotment before the next of them.
+use Prim.Native.Nat.{_-_}
+use mathlib.Core.Path.{refl}
+use native.Mathlib.Omega.{arith}
+use lib.ListN.{length}
+use Rattle.ids.specs.Ids.{at}
+use Rattle.ids.specs.Fill.{Filled, filled-none, filled-more, filled-all}
+use Rattle.allotment.specs.Allot.{share}
+use Rattle.allotment.specs.Stepper.{Before, before-first, share-asks, share-value, share-next}
+use Rattle.charges.proofs.shares.allot.Statement.{statement}
+use Rattle.charges.proofs.shares.allot.Tie as tie
+
+abbrev Inv-loop : tie.InvT-loop
+Inv-loop amount weights shares₀ a₀ i₀ shares a i = Filled 0 (length weights) (share (length weights) (at weights) amount) shares i × Before (length weights) (at weights) amount i a
+
+abbrev μ-loop : tie.MeasureT-loop
+μ-loop amount weights shares₀ a₀ i₀ shares a i = length weights - i
+
+sum-of-requires : tie.Need-sum-of-requires Inv-loop μ-loop
+sum-of-requires c κs = c .before .before .pre .1 .0
+
+new-requires : tie.Need-new-requires Inv-loop μ-loop
+new-requires c κs = tt
+
+loop-holds : tie.Need-loop-holds Inv-loop μ-loop
+loop-holds c = (filled-none (c .before .before .before .before .pre .0), before-first refl (c .before .sum-of .ensures) (c .new .ensures))
+
+mul-share : tie.Need-mul-share Inv-loop μ-loop
+mul-share c = omega arith
+
+shared-slice-read-share : tie.Need-shared-slice-read-share Inv-loop μ-loop
+shared-slice-read-share c = omega arith
+
+share-requires : tie.Need-share-requires Inv-loop μ-loop
+share-requires c κs =
+    let l = c .before .before in
+    share-asks (l .loop .inv .1) (omega arith) refl (l .before .before .before .before .before .pre .1 .1)
+
+mul-shares : tie.Need-mul-shares Inv-loop μ-loop
+mul-shares c = omega arith
+
+slice-write-shares : tie.Need-slice-write-shares Inv-loop μ-loop
+slice-write-shares c = omega arith
+
+add-i : tie.Need-add-i Inv-loop μ-loop
+add-i c = omega arith
+
+loop-less : tie.Need-loop-less Inv-loop μ-loop
+loop-less c = omega arith
+
+loop-again : tie.Need-loop-again Inv-loop μ-loop
+loop-again c =
+    let l = c .before .before .before .before .loop .inv in
+    let given = c .before .share .ensures in
+    (filled-more (l .0) (omega arith) (share-value (l .1) refl given), share-next (l .1) refl given)
+
+same-length : tie.Need-same-length Inv-loop μ-loop
+same-length c =
+    let l = c .before in
+    omega (arith, l .loop .inv .0 .long, l .before .before .before .before .before .pre .0)
+
+returns : tie.Need-returns Inv-loop μ-loop
+returns c = filled-all (c .before .loop .inv .0) (c .loop-test .left)
+
+pub allot-spec : {M : Type 1} → statement M
+allot-spec =
+    tie.close
+    (tie.spec
+    Inv-loop
+    μ-loop
+    sum-of-requires
+    new-requires
+    loop-holds
+    mul-share
+    shared-slice-read-share
+    share-requires
+    mul-shares
+    slice-write-shares
+    add-i
+    loop-less
+    loop-again
+    same-length
+    returns)

@@ -1,0 +1,190 @@
+// Compliance charges of one event.
+ghost use mathlib.Core.Path.{_≡_};
+ghost use mathlib.Core.Bool.{cond};
+ghost use Prim.Native.Nat.{_+_, _-_, _*_, _/_, _≤_, min};
+ghost use lib.Dec.{leb};
+ghost use Rattle.ids.specs.Ids.{at, tabulate};
+ghost use Rattle.units.specs.Units.{convert};
+ghost use Rattle.calendar.specs.Calendar.{due};
+ghost use Rattle.owed.specs.Owed.{uncapped};
+ghost use Rattle.tallies.specs.Arrays.{Within};
+use tallies::less;
+use units::Nominated;
+
+// A seller's unforced shortfall: what it lacks, converted, less its deficit.
+pub fn shortfall(factor: u64, requirement: u64, committed: u64, reduction: u64, deficit: u64) -> u64
+    requires { ⌜ factor ≤ 12000 ⌝ }
+    requires { ⌜ requirement ≤ 12000 ⌝ }
+    requires { ⌜ committed ≤ 6400000 ⌝ }
+    ensures { λ r. ⌜ r ≡ convert factor requirement (committed - reduction) - deficit ⌝ }
+{
+    let net = Nominated::new(less(committed, reduction));
+    let converted = net.unforced(factor, requirement);
+    less(converted.0, deficit)
+}
+
+// A deficit in the width of the other kilowatts.
+pub fn wide(x: u32) -> u64
+    ensures { λ r. ⌜ r ≡ x ⌝ }
+{
+    x as u64
+}
+
+// The shortfall of each seller.
+pub fn shortfalls(
+    factor: u64,
+    requirement: u64,
+    committed: [u64; 16],
+    reduction: [u64; 16],
+    deficits: [u32; 16],
+) -> [u64; 16]
+    requires { ⌜ factor ≤ 12000 ⌝ }
+    requires { ⌜ requirement ≤ 12000 ⌝ }
+    requires { ⌜ Within 6400000 committed ⌝ }
+    ensures { λ r. ⌜ r ≡ tabulate 16 (λ s. convert factor requirement (at committed s - at reduction s) - at deficits s) ⌝ }
+{
+    let mut r = [0u64; 16];
+    let mut s: usize = 0;
+    while s < 16 {
+        r[s] = shortfall(
+            factor,
+            requirement,
+            committed[s],
+            reduction[s],
+            wide(deficits[s]),
+        );
+        s += 1;
+    }
+    r
+}
+
+// The excess of each seller.
+pub fn excesses(committed: [u64; 16], reduction: [u64; 16]) -> [u64; 16]
+    ensures { λ r. ⌜ r ≡ tabulate 16 (λ s. at reduction s - at committed s) ⌝ }
+{
+    let mut r = [0u64; 16];
+    let mut s: usize = 0;
+    while s < 16 {
+        r[s] = less(reduction[s], committed[s]);
+        s += 1;
+    }
+    r
+}
+
+// The cap of a registration: its rate for all that it committed.
+fn cap(factor: u64, requirement: u64, committed: u64, rate: u64) -> u64
+    requires { ⌜ factor ≤ 12000 ⌝ }
+    requires { ⌜ requirement ≤ 12000 ⌝ }
+    requires { ⌜ committed ≤ 100000 ⌝ }
+    requires { ⌜ rate ≤ 100000 ⌝ }
+    ensures { λ r. ⌜ r ≡ convert factor requirement committed * rate ⌝ }
+{
+    let converted = Nominated::new(committed).unforced(factor, requirement);
+    converted.0 * rate
+}
+
+// The cap of each registration.
+pub fn caps_of(factor: u64, requirement: u64, committed: &[u64; 64], rates: &[u64; 64]) -> [u64; 64]
+    requires { ⌜ factor ≤ 12000 ⌝ }
+    requires { ⌜ requirement ≤ 12000 ⌝ }
+    requires { ⌜ Within 100000 (now committed) ⌝ }
+    requires { ⌜ Within 100000 (now rates) ⌝ }
+    ensures { λ r. ⌜ r ≡ tabulate 64 (λ i. convert factor requirement (at (now (committed .entry)) i) * at (now (rates .entry)) i) ⌝ }
+{
+    let mut caps = [0u64; 64];
+    let mut i: usize = 0;
+    while i < 64 {
+        caps[i] = cap(factor, requirement, committed[i], rates[i]);
+        i += 1;
+    }
+    caps
+}
+
+// The daily charge before the cap, of u kilowatts of a registration that so many events call.
+fn asked(period: u64, calls: u64, u: u64, rate: u64) -> u64
+    requires { ⌜ u ≤ 10000000 ⌝ }
+    requires { ⌜ rate ≤ 100000 ⌝ }
+    ensures { λ r. ⌜ r ≡ uncapped period calls u rate ⌝ }
+{
+    if period == 2 {
+        return u * rate / 52;
+    }
+    if calls < 2 {
+        u * rate / 2
+    } else {
+        u * rate / calls
+    }
+}
+
+pub fn lesser(a: u64, b: u64) -> u64
+    ensures { λ r. ⌜ r ≡ min a b ⌝ }
+{
+    if a < b { a } else { b }
+}
+
+// Each registration's daily charge: what is asked, and at most the rest of the cap.
+pub fn dailies(
+    period: u64,
+    calls: &[u64; 64],
+    rates: &[u64; 64],
+    u: &[u64; 64],
+    caps: &[u64; 64],
+    taken: &[u64; 64],
+) -> [u64; 64]
+    requires { ⌜ Within 10000000 (now u) ⌝ }
+    requires { ⌜ Within 100000 (now rates) ⌝ }
+    ensures { λ r. ⌜ r ≡ tabulate 64 (λ i. min (uncapped period (at (now (calls .entry)) i) (at (now (u .entry)) i) (at (now (rates .entry)) i)) (at (now (caps .entry)) i - at (now (taken .entry)) i)) ⌝ }
+{
+    let mut daily = [0u64; 64];
+    let mut i: usize = 0;
+    while i < 64 {
+        daily[i] = lesser(
+            asked(period, calls[i], u[i], rates[i]),
+            less(caps[i], taken[i]),
+        );
+        i += 1;
+    }
+    daily
+}
+
+// What is taken of each cap after the daily charges.
+pub fn taken_after(taken: &[u64; 64], daily: &[u64; 64]) -> [u64; 64]
+    requires { ⌜ Within 100000000000 (now taken) ⌝ }
+    requires { ⌜ Within 100000000000 (now daily) ⌝ }
+    ensures { λ r. ⌜ r ≡ tabulate 64 (λ i. at (now (taken .entry)) i + at (now (daily .entry)) i) ⌝ }
+{
+    let mut after = [0u64; 64];
+    let mut i: usize = 0;
+    while i < 64 {
+        after[i] = taken[i] + daily[i];
+        i += 1;
+    }
+    after
+}
+
+// The charge to date in cents of a daily charge: the days come before the rounding.
+fn due_cents(product: u64, month: u64, k: u64, days: u64, daily: u64) -> u64
+    requires { ⌜ month ≤ 12 ⌝ }
+    requires { ⌜ days ≤ 366 ⌝ }
+    requires { ⌜ daily ≤ 100000000000 ⌝ }
+    ensures { λ r. ⌜ r ≡ cond (leb (due product month) k) (daily * days / 1000) 0 ⌝ }
+{
+    let due = calendar::due_month(product, month);
+    if due <= k { daily * days / 1000 } else { 0 }
+}
+
+// Each registration's charge to date in cents, once its due month is reached.
+pub fn cents_of(products: &[u64; 64], month: u64, k: u64, days: u64, daily: &[u64; 64]) -> [u64; 64]
+    requires { ⌜ month ≤ 12 ⌝ }
+    requires { ⌜ days ≤ 366 ⌝ }
+    requires { ⌜ Within 100000000000 (now daily) ⌝ }
+    ensures { λ r. ⌜ r ≡ tabulate 64 (λ i. cond (leb (due (at (now (products .entry)) i) month) k) (at (now (daily .entry)) i * days / 1000) 0) ⌝ }
+{
+    let mut cents = [0u64; 64];
+    let mut i: usize = 0;
+    while i < 64 {
+        cents[i] = due_cents(products[i], month, k, days, daily[i]);
+        i += 1;
+    }
+    cents
+}

@@ -1,0 +1,65 @@
+-- `tallies::counts::calls_of` meets its contract: before event j, the arrays are those of the events passed. Assumes nothing.
+use Prim.Native.Nat.{_≤_, _-_}
+use mathlib.Core.Path.{_≡_, refl}
+use native.Mathlib.Omega.{arith}
+use Rattle.ids.specs.Ids.{tabulate}
+use Rattle.owed.specs.Owed.{called, calls}
+use Rattle.tallies.specs.Counts.{calledBy, countedBy, countable, called-more, counted-more}
+use Rattle.tallies.proofs.counts.calls_of.Statement.{statement}
+use Rattle.tallies.proofs.counts.calls_of.Tie as tie
+
+abbrev Inv-loop : tie.InvT-loop
+Inv-loop held events c₀ j₀ c j = (j ≤ held) × (c .called ≡ calledBy events j) × (c .counts ≡ countedBy events j)
+
+abbrev μ-loop : tie.MeasureT-loop
+μ-loop held events c₀ j₀ c j = held - j
+
+loop-holds : tie.Need-loop-holds Inv-loop μ-loop
+unfolding tabulate called calls
+loop-holds c = (omega arith, refl, refl)
+
+mul-event : tie.Need-mul-event Inv-loop μ-loop
+mul-event c = omega arith
+
+array-copy-out-event : tie.Need-array-copy-out-event Inv-loop μ-loop
+array-copy-out-event c = omega arith
+
+count-event-requires : tie.Need-count-event-requires Inv-loop μ-loop
+count-event-requires c κs =
+    let h = c .before .before .loop .inv in
+    countable (c .before .before .before .args .t1) (c .before .before .loop .j) (h .1) (h .2) (omega arith)
+
+add-j : tie.Need-add-j Inv-loop μ-loop
+add-j c = omega arith
+
+loop-less : tie.Need-loop-less Inv-loop μ-loop
+loop-less c = omega arith
+
+loop-again : tie.Need-loop-again Inv-loop μ-loop
+loop-again c =
+    let l = c .before .before .before in
+    let t = c .before .before .before .before .args .t1 in (
+      omega arith,
+      rw (l .loop .inv .1, called-more t (l .loop .j) (omega arith)) at (c .count-event .ensures .0),
+      rw (l .loop .inv .2, counted-more t (l .loop .j) (omega arith)) at (c .count-event .ensures .1),
+    )
+
+returns : tie.Need-returns Inv-loop μ-loop
+returns c =
+    let all : c .before .loop .j ≡ c .before .before .args .held = omega arith in
+    (rw all at (c .before .loop .inv .1), rw all at (c .before .loop .inv .2))
+
+pub calls-of-spec : {M : Type 1} → statement M
+calls-of-spec =
+    tie.close
+    (tie.spec
+    Inv-loop
+    μ-loop
+    loop-holds
+    mul-event
+    array-copy-out-event
+    count-event-requires
+    add-j
+    loop-less
+    loop-again
+    returns)

@@ -1,0 +1,76 @@
+-- `tallies::counts::count_event` meets its contract: the loop and its turns are those of `Counted`. Assumes nothing.
+use Prim.Native.Nat.{_-_}
+use native.Mathlib.Omega.{arith}
+use mathlib.Core.Logic.{⊎-elim}
+use Rattle.ids.specs.Update.{updated-next, updated-all}
+use Rattle.tallies.specs.Counts.{Counted, counted-none, counted-unlisted, counted-off-peak, counted-on-peak}
+use Rattle.tallies.proofs.counts.count_event.Statement.{statement}
+use Rattle.tallies.proofs.counts.count_event.Tie as tie
+
+abbrev Inv-loop : tie.InvT-loop
+Inv-loop c₀ listing on-peak i₀ c i = Counted c₀ listing on-peak c i
+
+abbrev μ-loop : tie.MeasureT-loop
+μ-loop c₀ listing on-peak i₀ c i = 64 - i
+
+loop-holds : tie.Need-loop-holds Inv-loop μ-loop
+loop-holds c = counted-none (c .before .before .pre)
+
+element-copy-out-if1 : tie.Need-element-copy-out-if1 Inv-loop μ-loop
+element-copy-out-if1 c = omega arith
+
+element-write-c : tie.Need-element-write-c Inv-loop μ-loop
+element-write-c c = omega arith
+
+mul-n : tie.Need-mul-n Inv-loop μ-loop
+mul-n c = omega arith
+
+element-copy-out-n : tie.Need-element-copy-out-n Inv-loop μ-loop
+element-copy-out-n c = omega arith
+
+add-c : tie.Need-add-c Inv-loop μ-loop
+add-c c =
+    let l = c .before .before .before .before .before in
+    omega (arith, updated-next (l .loop .inv .counts), c .before .before .before .before .before .before .before .before .pre .fits (l .loop .i) (omega arith))
+
+mul-c : tie.Need-mul-c Inv-loop μ-loop
+mul-c c = omega arith
+
+element-write-c-2 : tie.Need-element-write-c-2 Inv-loop μ-loop
+element-write-c-2 c = omega arith
+
+add-i : tie.Need-add-i Inv-loop μ-loop
+add-i c = omega arith
+
+loop-less : tie.Need-loop-less Inv-loop μ-loop
+loop-less c = omega arith
+
+loop-again : tie.Need-loop-again Inv-loop μ-loop
+loop-again c =
+    let h = c .before .before .before .loop .inv in
+    let l = c .before .before .loop-test .taken in
+    ⊎-elim (λ w. rw (w .3) (counted-on-peak h l (w .0 .taken) (w .1 .taken)))
+    (⊎-elim (λ w. rw (w .2) (counted-off-peak h l (w .0 .taken) (w .1 .left))) (λ w. rw (w .1) (counted-unlisted h l (w .0 .left))))
+    (c .if1 .came)
+
+returns : tie.Need-returns Inv-loop μ-loop
+returns c = (updated-all (c .before .loop .inv .called) (c .loop-test .left), updated-all (c .before .loop .inv .counts) (c .loop-test .left))
+
+pub count-event-spec : {M : Type 1} → statement M
+count-event-spec =
+    tie.close
+    (tie.spec
+    Inv-loop
+    μ-loop
+    loop-holds
+    element-copy-out-if1
+    element-write-c
+    mul-n
+    element-copy-out-n
+    add-c
+    mul-c
+    element-write-c-2
+    add-i
+    loop-less
+    loop-again
+    returns)

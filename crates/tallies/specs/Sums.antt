@@ -1,0 +1,37 @@
+-- The sums by seller of a pass over the picked entries.
+use Prim.Native.Nat.{ℕ, _-_, _*_, _≤_}
+use mathlib.Core.List.{List}
+use mathlib.Core.Bool.{Bool}
+use mathlib.Core.Path.{_≡_}
+use Rattle.ids.specs.Ids.{at, tabulate}
+use Rattle.tallies.specs.declared.sums.Sums.{Sums}
+use Rattle.tallies.specs.Arrays.{bySeller, addedAt}
+
+-- committed c at rate q, of which v was given
+pub record Summed (sellers : List ℕ) (p : ℕ → Bool) (c q v : ℕ → ℕ) (r : Sums) : Type 0 where
+  pub committed : r .committed ≡ tabulate 16 (bySeller sellers p c)
+  pub reduction : r .reduction ≡ tabulate 16 (bySeller sellers p v)
+  pub short : r .short ≡ tabulate 16 (bySeller sellers p (λ i. c i - v i))
+  pub over : r .over ≡ tabulate 16 (bySeller sellers p (λ i. v i - c i))
+  pub value : r .value ≡ tabulate 16 (bySeller sellers p (λ i. c i * q i))
+
+-- one more entry of seller s
+pub record Entered (sums : Sums) (s c q v : ℕ) (r : Sums) : Type 0 where
+  pub committed : r .committed ≡ addedAt (sums .committed) s c
+  pub reduction : r .reduction ≡ addedAt (sums .reduction) s v
+  pub short : r .short ≡ addedAt (sums .short) s (c - v)
+  pub over : r .over ≡ addedAt (sums .over) s (v - c)
+  pub value : r .value ≡ addedAt (sums .value) s (c * q)
+
+-- what an entry is at most, and what the sums of a seller with room for it are
+pub record Entry (c q v : ℕ) : Type 0 where
+  pub committed : c ≤ 100000
+  pub rate : q ≤ 100000
+  pub reduction : v ≤ 100000
+
+pub record Room (sums : Sums) (s : ℕ) : Type 0 where
+  pub committed : at (sums .committed) s ≤ 1000000000000
+  pub reduction : at (sums .reduction) s ≤ 1000000000000
+  pub short : at (sums .short) s ≤ 1000000000000
+  pub over : at (sums .over) s ≤ 1000000000000
+  pub value : at (sums .value) s ≤ 1000000000000
