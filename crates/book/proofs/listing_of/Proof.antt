@@ -1,0 +1,58 @@
+-- `listing_of` meets its contract.
+use mathlib.Core.Path.{_≡_}
+use mathlib.Core.Bool.{true}
+use mathlib.Core.Logic.{⊎-elim}
+use borrow.Author.Tests.{ne-eqb, eqb-true}
+use Rattle.ids.specs.Ids.{at}
+use Rattle.records.specs.Layout.{hasLists, deficitsIn, entriesIn}
+use Rattle.questions.specs.Questions.{listingIn}
+use Rattle.book.specs.Made.{listed-pairs}
+use borrow.Author.Needs.{needs}
+use Rattle.book.proofs.listing_of.Statement.{statement}
+use Rattle.book.proofs.listing_of.Tie as tie
+use Rattle.book.proofs.listing_of.Reads as reads
+use Rattle.book.proofs.listing_of.Lts as lts
+use Rattle.year.proofs.listing_of.Reads as listing-of-reads
+
+-- an event or a test
+has-lists : (c : tie.Joined1) → hasLists (at (c .before .args .t1) 0) ≡ true
+unfolding hasLists
+has-lists c =
+    let kind = at (c .before .args .t1) 0 in
+    ⊎-elim (λ w. rw (w .taken)) (λ w. rw (eqb-true kind 5 (w .1 .taken))) (c .if1 .came)
+
+array-read-kind : tie.Need-array-read-kind
+array-read-kind c = search needs
+
+array-read-listing-of : tie.Need-array-read-listing-of
+array-read-listing-of c = search needs
+
+array-read-listing-of-2 : tie.Need-array-read-listing-of-2
+array-read-listing-of-2 c = search needs
+
+listing-of-requires : tie.Need-listing-of-requires
+listing-of-requires c κs = listed-pairs (c .before .pre) (has-lists c)
+
+returns : tie.Need-returns
+unfolding listingIn deficitsIn entriesIn
+returns c = rw (has-lists (c .before)) (c .listing-of .ensures .0)
+
+listing-of-requires-2 : tie.Need-listing-of-requires-2
+listing-of-requires-2 c κs = search needs
+
+returns-2 : tie.Need-returns-2
+unfolding listingIn deficitsIn entriesIn hasLists
+returns-2 c = 
+    rw (ne-eqb (at (c .before .before .before .args .t1) 0) 4 (c .before .before .if1 .left), c .before .if2 .left) (c .listing-of2 .ensures .0)
+
+pub listing-of-spec : {M : Type 1} → statement M
+listing-of-spec =
+    tie.close
+    (tie.spec
+    array-read-kind
+    array-read-listing-of
+    array-read-listing-of-2
+    listing-of-requires
+    returns
+    listing-of-requires-2
+    returns-2)

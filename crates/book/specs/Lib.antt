@@ -1,0 +1,6 @@
+-- The outcome of a call, and its laws.
+pub mod Outcome
+pub mod Numbers
+pub mod Made
+pub mod Kept
+pub mod Posting

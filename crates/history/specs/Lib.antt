@@ -1,0 +1,22 @@
+-- Demand 3: the claim, and its proof.
+pub mod Runs
+pub mod Claim
+pub mod Along
+pub mod Passed
+pub mod Moves
+pub mod Columns
+pub mod ReadColumns
+pub mod Blank
+pub mod Billed
+pub mod Kept
+pub mod Closes
+pub mod Telescope
+pub mod Balanced
+pub mod AtClose
+pub mod Replaced
+pub mod Alike
+pub mod Same
+pub mod Blind
+pub mod Paired
+pub mod Independence
+pub mod Proof

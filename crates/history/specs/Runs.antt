@@ -1,0 +1,90 @@
+-- Lists of calls that take a record (document 01, 'The lists of demand 3'), and what happens along them.
+use Prim.Native.Nat.{ℕ, _+_, _-_, _*_, _/_, _%_, _≤_}
+use mathlib.Core.Bool.{Bool, true, false, _&&_, cond}
+use mathlib.Core.List.{List, [], _∷_, _++_}
+use mathlib.Core.Path.{_≡_}
+use lib.ListN.{length, drop}
+use lib.Dec.{leb, ltb, eqb}
+use lib.IntN.{ℤ, pos, _+ℤ_}
+use Rattle.ids.specs.Ids.{at, tabulate}
+use Rattle.records.specs.Layout.{head, deficitsIn, entriesIn}
+use Rattle.records.specs.Questions.{numbersOf, consumed}
+use Rattle.records.specs.Calls.{bytesBy}
+use Rattle.year.specs.declared.Terms.{Terms}
+use Rattle.year.specs.declared.Year.{Year}
+use Rattle.year.specs.Year.{seller}
+use Rattle.questions.specs.Questions.{closing}
+use Rattle.book.specs.Outcome.{valuesOf, postNumber, yearWith, yearAfter, bufferAfter}
+
+-- a call: any bytes, none too, and a lent buffer of any length and contents
+pub record Call : Type 0 where
+  pub bytes : List ℕ
+  pub buffer : List ℕ
+
+-- of a call that gets the year y: is its record accepted, is that a close, and what the buffer holds afterwards
+unfoldable pub accepts : Year → Call → Bool
+accepts y c = eqb (postNumber y (c .bytes) (length (c .buffer))) 0
+
+unfoldable pub closes : Year → Call → Bool
+closes y c = accepts y c && eqb (at (valuesOf (c .bytes)) 0) closing
+
+unfoldable pub buffered : Year → Call → List ℕ
+buffered y c = bufferAfter y (c .bytes) (c .buffer)
+
+unfoldable pub step : Year → Call → Year
+step y c = yearAfter y (c .bytes) (length (c .buffer))
+
+-- each call gets the year that the one before left, accepted or refused; the first gets a new book
+unfoldable pub run : Year → List Call → Year
+run y [] = y
+run y (c ∷ cs) = run (step y c) cs
+
+-- the numbers of the accepted records, in order; and the year that such records make
+unfoldable pub acceptedIn : Year → List Call → List (List ℕ)
+acceptedIn y [] = []
+acceptedIn y (c ∷ cs) = cond (accepts y c) (valuesOf (c .bytes) ∷ acceptedIn (step y c) cs) (acceptedIn (step y c) cs)
+
+unfoldable pub yearOf : Year → List (List ℕ) → Year
+yearOf y [] = y
+yearOf y (vs ∷ rs) = yearOf (yearWith y vs) rs
+
+-- which calls are accepted, by position
+unfoldable pub acceptances : Year → List Call → List Bool
+acceptances y [] = []
+acceptances y (c ∷ cs) = accepts y c ∷ acceptances (step y c) cs
+
+-- the statements: what stands in the buffer after each accepted close
+unfoldable pub statements : Year → List Call → List (List ℕ)
+statements y [] = []
+statements y (c ∷ cs) = cond (closes y c) (buffered y c ∷ statements (step y c) cs) (statements (step y c) cs)
+
+-- an amount that is read from each statement, summed
+unfoldable pub soFar : (List ℕ → ℤ) → List (List ℕ) → ℤ
+soFar f [] = pos 0
+soFar f (x ∷ xs) = f x +ℤ soFar f xs
+
+-- G for H: in those entries of an accepted record whose registration is seller s's, entry e gets the reduction f e; all else as it was
+module _ (T : Terms) (s : ℕ) (f : ℕ → ℕ) (vs : List ℕ) where
+  -- where the entries begin among the numbers: a pair of registration and reduction each
+  abbrev pub entriesAt : ℕ
+  entriesAt = length (head (at vs 0)) + 2 * deficitsIn (at vs 0) vs
+
+  -- is number j the reduction of an entry of seller s's
+  abbrev pub isReduction : ℕ → Bool
+  isReduction j =
+      leb entriesAt j && eqb ((j - entriesAt) % 2) 1 && ltb ((j - entriesAt) / 2) (entriesIn (at vs 0) vs) && eqb (seller T (at vs (j - 1))) s
+
+  unfoldable pub replaced : List ℕ
+  replaced = tabulate (length vs) (λ j. cond (isReduction j) (f ((j - entriesAt) / 2)) (at vs j))
+
+-- each new reduction is 0 to 100,000; the bytes after a record, the other records and the buffers' lengths are as in H
+pub data Variant (s : ℕ) : Year → List Call → List Call → Type 0 where
+  done : {y : Year} → Variant s y [] []
+  refused : {y : Year} {c d : Call} {cs ds : List Call} → accepts y c ≡ false
+      → d .bytes ≡ c .bytes → length (d .buffer) ≡ length (c .buffer)
+      → Variant s (step y c) cs ds → Variant s y (c ∷ cs) (d ∷ ds)
+  accepted : {y : Year} {c d : Call} {cs ds : List Call} → accepts y c ≡ true
+      → (f : ℕ → ℕ) → ((e : ℕ) → f e ≤ 100000)
+      → d .bytes ≡ bytesBy (replaced (y .terms) s f (numbersOf (c .bytes))) ++ drop (consumed (c .bytes)) (c .bytes)
+      → length (d .buffer) ≡ length (c .buffer)
+      → Variant s (step y c) cs ds → Variant s y (c ∷ cs) (d ∷ ds)

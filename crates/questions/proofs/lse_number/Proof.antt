@@ -1,0 +1,35 @@
+-- `lse_number` meets its contract.
+use borrow.Author.Tests.{eq-eqb, ne-eqb}
+use Rattle.year.specs.Year.{obligation}
+use Rattle.questions.specs.Questions.{q7, q9}
+use Rattle.questions.specs.First.{fails, passes, all-pass}
+use borrow.Author.Needs.{needs}
+use Rattle.questions.proofs.lse_number.Statement.{statement}
+use Rattle.questions.proofs.lse_number.Tie as tie
+
+returns : tie.Need-returns
+unfolding q7
+returns c = λ l. fails 7 _ (rw (c .before .pre .0, c .if1 .taken))
+
+array-read-id : tie.Need-array-read-id
+array-read-id c = search needs
+
+mul-if2 : tie.Need-mul-if2
+mul-if2 c = search needs
+
+element-copy-out-if2 : tie.Need-element-copy-out-if2
+element-copy-out-if2 c = search needs
+
+returns-2 : tie.Need-returns-2
+unfolding q7 q9 obligation
+returns-2 c =
+    λ l. passes 7 _ (rw (c .before .before .before .before .pre .0, c .before .before .before .if1 .left)) (passes 9 _ (rw (c .before .before .before .before .pre .0, eq-eqb _ _ (c .if2 .taken))) all-pass)
+
+returns-3 : tie.Need-returns-3
+unfolding q7 q9 obligation
+returns-3 c =
+    λ l. passes 7 _ (rw (c .before .before .before .before .pre .0, c .before .before .before .if1 .left)) (fails 9 _ (rw (c .before .before .before .before .pre .0, ne-eqb _ _ (c .if2 .left))))
+
+pub lse-number-spec : {M : Type 1} → statement M
+lse-number-spec =
+    tie.close (tie.spec returns array-read-id mul-if2 element-copy-out-if2 returns-2 returns-3)

@@ -1,0 +1,200 @@
+-- What an accepted record has: each question answered yes, its numbers within their rules, and its length consumed.
+use Prim.Native.Nat.{ℕ, suc, _+_, _*_, _%_, _≤_, _<_}
+use mathlib.Core.Bool.{Bool, true, false, cond}
+use mathlib.Core.List.{List}
+use mathlib.Core.Logic.{inl, inr}
+use mathlib.Core.Path.{_≡_, refl, sym, ap, _∙_}
+use native.Mathlib.Omega.{arith}
+use lib.ListN.{length, getD}
+use Rattle.ids.specs.Ids.{at}
+use Rattle.bits.specs.TableLaws.{length-fields}
+use Rattle.records.specs.Layout.{Rule, noRule, head, hasLists, deficit, entry, deficitsIn, entriesIn, rulesFor, widths, sizeOf}
+use Rattle.records.specs.LayoutLaws.{length-widths, length-rules, rule-head, rule-deficit, rule-entry}
+use Rattle.records.specs.Questions.{firstFailed, kindOf, rulesOf, numbersOf, isKind, isWhole, permitted, isFilled, idsRise, recordNumber, consumed, most, row}
+use Rattle.records.specs.QuestionLaws.{at-row, permitted-at, head-permitted, few-numbers, lists-kind, numbers-kind, numbers-counts}
+
+-- questions 1 to 5, each answered yes
+pub record Accepted (bytes : List ℕ) : Type 0 where
+  pub kind : isKind (kindOf bytes) ≡ true
+  pub whole : isWhole bytes ≡ true
+  pub permits : permitted (rulesOf bytes) (numbersOf bytes) ≡ true
+  pub filled : isFilled bytes ≡ true
+  pub rise : idsRise (numbersOf bytes) ≡ true
+
+-- a question that does not fail, and those behind it
+pub passed : (n : ℕ) (b : Bool) (m : ℕ) → cond b m (suc n) ≡ 0 → (b ≡ true) × (m ≡ 0)
+passed n true m e = (refl, e)
+passed n false m e = absurd (omega arith)
+
+pub accepted : (bytes : List ℕ) → recordNumber bytes ≡ 0 → Accepted bytes
+unfolding recordNumber firstFailed
+accepted bytes e =
+    let a = passed 0 (isKind (kindOf bytes)) _ e in
+    let b = passed 1 (isWhole bytes) _ (a .1) in
+    let c = passed 2 (permitted (rulesOf bytes) (numbersOf bytes)) _ (b .1) in
+    let d = passed 3 (isFilled bytes) _ (c .1) in
+    let f = passed 4 (idsRise (numbersOf bytes)) _ (d .1) in
+    record { kind = a .0; whole = b .0; permits = c .0; filled = d .0; rise = f .0 }
+
+pub not-failed : (bytes : List ℕ) → Accepted bytes → recordNumber bytes ≡ 0
+unfolding recordNumber firstFailed
+not-failed bytes a = rw (a .kind, a .whole, a .permits, a .filled, a .rise)
+
+pub consumed-size : (bytes : List ℕ) → Accepted bytes → consumed bytes ≡ sizeOf (rulesOf bytes)
+unfolding consumed
+consumed-size bytes a = rw (a .kind, a .whole)
+
+pub numbers-count : (bytes : List ℕ) → length (numbersOf bytes) ≡ length (rulesOf bytes)
+unfolding numbersOf
+numbers-count bytes = length-fields bytes 0 (widths (rulesOf bytes)) ∙ length-widths (rulesOf bytes)
+
+-- the bounds of each kind's numbers
+pub record Opening (vs : List ℕ) : Type 0 where
+  pub leap : at vs 1 ≤ 1
+  pub factor : (1 ≤ at vs 2) × (at vs 2 ≤ 12000)
+  pub requirement : (1 ≤ at vs 3) × (at vs 3 ≤ 12000)
+
+pub record Registration (vs : List ℕ) : Type 0 where
+  pub id : at vs 1 < 64
+  pub seller : at vs 2 < 16
+  pub area : at vs 3 < 8
+  pub zone : at vs 4 < 8
+  pub product : at vs 5 ≤ 2
+  pub committed : (1 ≤ at vs 6) × (at vs 6 ≤ 100000)
+  pub rate : at vs 7 ≤ 100000
+
+pub record Lse (vs : List ℕ) : Type 0 where
+  pub id : at vs 1 < 16
+  pub obligation : (1 ≤ at vs 2) × (at vs 2 ≤ 1000000)
+
+pub record Event (vs : List ℕ) : Type 0 where
+  pub area : at vs 1 < 8
+  pub month : (1 ≤ at vs 2) × (at vs 2 ≤ 12)
+  pub period : (1 ≤ at vs 3) × (at vs 3 ≤ 3)
+
+pub record Test (vs : List ℕ) : Type 0 where
+  pub zone : at vs 1 < 8
+  pub product : at vs 2 ≤ 2
+  pub month : (1 ≤ at vs 3) × (at vs 3 ≤ 12)
+
+pub record Close (vs : List ℕ) : Type 0 where
+  pub month : (1 ≤ at vs 1) × (at vs 1 ≤ 15)
+
+-- the lists of an event or a test: at vs 4 deficits from 6 on, and at vs 5 entries behind them
+pub record Lists (vs : List ℕ) : Type 0 where
+  pub deficits : at vs 4 ≤ 16
+  pub entries : (1 ≤ at vs 5) × (at vs 5 ≤ 64)
+  pub few : 6 + 2 * at vs 4 + 2 * at vs 5 ≤ most
+  pub seller : (k : ℕ) → k < at vs 4 → at vs (6 + 2 * k) < 16
+  pub kilowatts : (k : ℕ) → k < at vs 4 → (1 ≤ at vs (6 + 2 * k + 1)) × (at vs (6 + 2 * k + 1) ≤ 1000000)
+  pub registered : (k : ℕ) → k < at vs 5 → at vs (6 + 2 * at vs 4 + 2 * k) < 64
+  pub reduction : (k : ℕ) → k < at vs 5 → at vs (6 + 2 * at vs 4 + 2 * k + 1) ≤ 100000
+
+module _ (bytes : List ℕ) (a : Accepted bytes) where
+  -- the kind and the counts, as the numbers say them
+  abbrev vs : List ℕ
+  vs = numbersOf bytes
+
+  abbrev d : ℕ
+  d = deficitsIn (kindOf bytes) vs
+
+  abbrev n : ℕ
+  n = entriesIn (kindOf bytes) vs
+
+  pub kind-number : at (row vs) 0 ≡ kindOf bytes
+  kind-number = at-row vs 0 ∙ numbers-kind bytes (a .kind)
+
+  rules : rulesFor (kindOf bytes) d n ≡ rulesOf bytes
+  unfolding rulesOf
+  rules =
+      let c = numbers-counts bytes (a .kind) in
+      rw (c .0, c .1)
+
+  pub numbers-few : length vs ≤ most
+  numbers-few =
+      let k = kindOf bytes in
+      let yes-head : permitted (head k) vs ≡ true = head-permitted k d n vs (rw rules (a .permits)) in
+      omega (arith, numbers-count bytes, ap length rules, few-numbers k vs yes-head)
+
+  -- each number is within its rule
+  pub number-within : (j : ℕ) → j < length vs → ((getD (rulesOf bytes) j noRule) .low ≤ at (row vs) j) × (at (row vs) j ≤ (getD (rulesOf bytes) j noRule) .high)
+  number-within j l = rw (at-row vs j) (permitted-at (rulesOf bytes) vs (a .permits) j (omega (arith, numbers-count bytes)))
+
+  -- in the head, by the kind's own rules
+  pub head-within : (j : ℕ) → j < length (head (kindOf bytes)) → ((getD (head (kindOf bytes)) j noRule) .low ≤ at (row vs) j) × (at (row vs) j ≤ (getD (head (kindOf bytes)) j noRule) .high)
+  head-within j l =
+      let m : j < length vs = omega (arith, numbers-count bytes, ap length rules, length-rules (kindOf bytes) d n) in
+      rw (← rules, rule-head (kindOf bytes) d n j l) at (number-within j m)
+
+  rule-within : (j : ℕ) (r : Rule) → j < length vs → getD (rulesFor (kindOf bytes) d n) j noRule ≡ r → (r .low ≤ at (row vs) j) × (at (row vs) j ≤ r .high)
+  rule-within j r l e = rw (← rules, e) at (number-within j l)
+
+  head-as : (k j : ℕ) → kindOf bytes ≡ k → j < length (head k) → ((getD (head k) j noRule) .low ≤ at (row vs) j) × (at (row vs) j ≤ (getD (head k) j noRule) .high)
+  head-as k j e l = rw e at (head-within j (rw e l))
+
+  pub opening : kindOf bytes ≡ 1 → Opening (row vs)
+  opening e =
+      let h : (j : ℕ) → j < 4 → ((getD (head 1) j noRule) .low ≤ at (row vs) j) × (at (row vs) j ≤ (getD (head 1) j noRule) .high) = λ j l. head-as 1 j e l in
+      record { leap = h 1 (omega arith) .1; factor = h 2 (omega arith); requirement = h 3 (omega arith) }
+
+  pub registration : kindOf bytes ≡ 2 → Registration (row vs)
+  registration e =
+      let h : (j : ℕ) → j < 8 → ((getD (head 2) j noRule) .low ≤ at (row vs) j) × (at (row vs) j ≤ (getD (head 2) j noRule) .high) = λ j l. head-as 2 j e l in
+      record {
+        id = omega (arith, h 1 (omega arith) .1);
+        seller = omega (arith, h 2 (omega arith) .1);
+        area = omega (arith, h 3 (omega arith) .1);
+        zone = omega (arith, h 4 (omega arith) .1);
+        product = h 5 (omega arith) .1;
+        committed = h 6 (omega arith);
+        rate = h 7 (omega arith) .1;
+      }
+
+  pub lse : kindOf bytes ≡ 3 → Lse (row vs)
+  lse e =
+      let h : (j : ℕ) → j < 3 → ((getD (head 3) j noRule) .low ≤ at (row vs) j) × (at (row vs) j ≤ (getD (head 3) j noRule) .high) = λ j l. head-as 3 j e l in
+      record { id = omega (arith, h 1 (omega arith) .1); obligation = h 2 (omega arith) }
+
+  pub event : kindOf bytes ≡ 4 → Event (row vs)
+  event e =
+      let h : (j : ℕ) → j < 6 → ((getD (head 4) j noRule) .low ≤ at (row vs) j) × (at (row vs) j ≤ (getD (head 4) j noRule) .high) = λ j l. head-as 4 j e l in
+      record { area = omega (arith, h 1 (omega arith) .1); month = h 2 (omega arith); period = h 3 (omega arith) }
+
+  pub test : kindOf bytes ≡ 5 → Test (row vs)
+  test e =
+      let h : (j : ℕ) → j < 6 → ((getD (head 5) j noRule) .low ≤ at (row vs) j) × (at (row vs) j ≤ (getD (head 5) j noRule) .high) = λ j l. head-as 5 j e l in
+      record { zone = omega (arith, h 1 (omega arith) .1); product = h 2 (omega arith) .1; month = h 3 (omega arith) }
+
+  pub close : kindOf bytes ≡ 6 → Close (row vs)
+  close e = record { month = head-as 6 1 e (omega arith) }
+
+  -- the lists of an event or a test
+  pub lists : hasLists (kindOf bytes) ≡ true → Lists (row vs)
+  unfolding deficitsIn entriesIn
+  lists q =
+      let r = row vs in
+      let six : length (head (kindOf bytes)) ≡ 6 = elim (lists-kind (kindOf bytes) q) [ inl e ↦ rw e | inr e ↦ rw e ] in
+      let ds : d ≡ at r 4 = rw q (sym (at-row vs 4)) in
+      let ns : n ≡ at r 5 = rw q (sym (at-row vs 5)) in
+      let count : length vs ≡ 6 + 2 * at r 4 + 2 * at r 5 = omega (arith, numbers-count bytes, ap length rules, length-rules (kindOf bytes) d n) in
+      let first : (k : ℕ) → (2 * k) % 2 ≡ 0 = λ k. omega arith in
+      let second : (k : ℕ) → (2 * k + 1) % 2 ≡ 1 = λ k. omega arith in
+      let deficit-at : (j : ℕ) → j < 2 * at r 4 → ((getD deficit (j % 2) noRule) .low ≤ at r (6 + j)) × (at r (6 + j) ≤ (getD deficit (j % 2) noRule) .high) =
+      λ j l. rule-within (6 + j) _ (omega arith) (rw six at (rule-deficit (kindOf bytes) d n j (omega arith))) in
+      let entry-at : (j : ℕ) → j < 2 * at r 5 → ((getD entry (j % 2) noRule) .low ≤ at r (6 + 2 * at r 4 + j)) × (at r (6 + 2 * at r 4 + j) ≤ (getD entry (j % 2) noRule) .high) =
+      λ j l.
+      let i : length (head (kindOf bytes)) + 2 * d + j ≡ 6 + 2 * at r 4 + j = omega arith in
+      rule-within (6 + 2 * at r 4 + j) _ (omega arith) (rw i at (rule-entry (kindOf bytes) d n j (omega arith))) in
+      let h : (at r 4 ≤ 16) × ((1 ≤ at r 5) × (at r 5 ≤ 64)) = elim (lists-kind (kindOf bytes) q) [
+        | inl e ↦ (head-as 4 4 e (omega arith) .1, head-as 4 5 e (omega arith))
+        | inr e ↦ (head-as 5 4 e (omega arith) .1, head-as 5 5 e (omega arith))
+      ] in
+      record {
+        deficits = h .0;
+        entries = h .1;
+        few = omega arith;
+        seller = λ k l. omega (arith, rw first at (deficit-at (2 * k) (omega arith) .1));
+        kilowatts = λ k l. let i : 6 + (2 * k + 1) ≡ 6 + 2 * k + 1 = omega arith in rw (second, i) at (deficit-at (2 * k + 1) (omega arith));
+        registered = λ k l. omega (arith, rw first at (entry-at (2 * k) (omega arith) .1));
+        reduction = λ k l. let i : 6 + 2 * at r 4 + (2 * k + 1) ≡ 6 + 2 * at r 4 + 2 * k + 1 = omega arith in rw (second, i) at (entry-at (2 * k + 1) (omega arith) .1);
+      }

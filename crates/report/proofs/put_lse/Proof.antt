@@ -1,0 +1,51 @@
+-- The words of the line, one after another.
+use borrow.Author.Needs.{needs}
+use native.Mathlib.Omega.{arith}
+use Rattle.report.specs.Text.{lseLine}
+use Rattle.report.specs.Pasted.{then}
+use Rattle.report.proofs.put_lse.Statement.{statement}
+use Rattle.report.proofs.put_lse.Tie as tie
+
+take-requires : tie.Need-take-requires
+take-requires c κs = search needs
+
+put-byte-requires : tie.Need-put-byte-requires
+put-byte-requires c κs = search needs
+
+put-number-requires : tie.Need-put-number-requires
+put-number-requires c κs = search needs
+
+add-put-amount : tie.Need-add-put-amount
+add-put-amount c = search needs
+
+put-amount-requires : tie.Need-put-amount-requires
+put-amount-requires c κs = search needs
+
+put-byte-requires-2 : tie.Need-put-byte-requires-2
+put-byte-requires-2 c κs = search needs
+
+same-length : tie.Need-same-length
+same-length c = search needs
+
+returns : tie.Need-returns
+unfolding lseLine
+returns c =
+    let s4 = c .before .before in
+    let s3 = s4 .before .before .before .before in
+    let s2 = s3 .before .before .before .before in
+    let s1 = s2 .before .before .before .before in
+    let e = then (s1 .put-byte .ensures) (then (s2 .put-number .ensures .0) (then (s3 .put-amount .ensures .0) (s4 .put-byte2 .ensures))) in
+    (rw (← s1 .before .before .take .ensures .value) e, omega (arith, s1 .put-byte .ensures .next, s2 .put-number .ensures .1, s3 .put-amount .ensures .1, s4 .put-byte2 .ensures .next))
+
+pub put-lse-spec : {M : Type 1} → statement M
+put-lse-spec =
+    tie.close
+    (tie.spec
+    take-requires
+    put-byte-requires
+    put-number-requires
+    add-put-amount
+    put-amount-requires
+    put-byte-requires-2
+    same-length
+    returns)

@@ -1,0 +1,72 @@
+-- After each turn the lines so far stand in the buffer.
+use mathlib.Core.Path.{_≡_}
+use Prim.Native.Nat.{_+_, _-_, _*_, _≤_}
+use native.Mathlib.Omega.{arith}
+use borrow.Author.Needs.{needs}
+use Rattle.report.specs.Text.{lseLine, linesFrom}
+use Rattle.report.specs.Pasted.{Pasted, pasted-length}
+use Rattle.report.specs.TextLaws.{lines-none, lines-step}
+use Rattle.report.proofs.put_lses.Statement.{statement}
+use Rattle.report.proofs.put_lses.Tie as tie
+
+abbrev Inv-loop : tie.InvT-loop
+Inv-loop statement from lses out₀ at p₀ j₀ out p j =
+    (j ≤ lses) × Pasted out₀ out at (linesFrom (lseLine statement) 46 from j) p × (p ≤ at + 45 * j)
+
+abbrev μ-loop : tie.MeasureT-loop
+μ-loop statement from lses out₀ at p₀ j₀ out p j = lses - j
+
+loop-holds : tie.Need-loop-holds Inv-loop μ-loop
+loop-holds c =
+    let a = c .before .before .args in
+    (omega arith, lines-none (lseLine (a .statement .now)) 46 (a .from) (a .out .now) (a .at) (omega arith), omega arith)
+
+mul-put-lse : tie.Need-mul-put-lse Inv-loop μ-loop
+mul-put-lse c = search needs
+
+add-put-lse : tie.Need-add-put-lse Inv-loop μ-loop
+add-put-lse c = search needs
+
+put-lse-requires : tie.Need-put-lse-requires Inv-loop μ-loop
+put-lse-requires c κs =
+    let l = c .before .before .loop in
+    let same = pasted-length (l .inv .1) in
+    (record { within = omega arith; small = omega arith }, omega arith)
+
+add-j : tie.Need-add-j Inv-loop μ-loop
+add-j c = search needs
+
+loop-less : tie.Need-loop-less Inv-loop μ-loop
+loop-less c = search needs
+
+loop-again : tie.Need-loop-again Inv-loop μ-loop
+loop-again c =
+    let a = c .before .before .before .before .before .before .before .before .args in
+    let l = c .before .before .before .before .before .loop in
+    let put = c .before .before .put-lse .ensures in
+    (omega arith, lines-step (lseLine (a .statement .now)) 46 (a .from) (l .j) (l .inv .1) (put .0), omega (arith, put .1))
+
+same-length : tie.Need-same-length Inv-loop μ-loop
+same-length c = pasted-length (c .before .loop .inv .1)
+
+returns : tie.Need-returns Inv-loop μ-loop
+returns c =
+    let l = c .before .loop in
+    let all : l .j ≡ c .before .before .before .before .args .lses = omega arith in
+    rw (← all) (l .inv .1)
+
+pub put-lses-spec : {M : Type 1} → statement M
+put-lses-spec =
+    tie.close
+    (tie.spec
+    Inv-loop
+    μ-loop
+    loop-holds
+    mul-put-lse
+    add-put-lse
+    put-lse-requires
+    add-j
+    loop-less
+    loop-again
+    same-length
+    returns)

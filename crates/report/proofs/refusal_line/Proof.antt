@@ -1,0 +1,42 @@
+-- The words of the line, one after another.
+use borrow.Author.Needs.{needs}
+use Rattle.report.specs.Text.{refusalLine}
+use Rattle.report.specs.Pasted.{then}
+use Rattle.report.proofs.refusal_line.Statement.{statement}
+use Rattle.report.proofs.refusal_line.Tie as tie
+
+put-byte-requires : tie.Need-put-byte-requires
+put-byte-requires c κs = search needs
+
+put-number-requires : tie.Need-put-number-requires
+put-number-requires c κs = search needs
+
+put-number-requires-2 : tie.Need-put-number-requires-2
+put-number-requires-2 c κs = search needs
+
+put-byte-requires-2 : tie.Need-put-byte-requires-2
+put-byte-requires-2 c κs = search needs
+
+same-length : tie.Need-same-length
+same-length c = search needs
+
+returns : tie.Need-returns
+unfolding refusalLine
+returns c =
+    let s4 = c .before .before in
+    let s3 = s4 .before .before .before .before in
+    let s2 = s3 .before .before .before .before in
+    let s1 = s2 .before .before .before .before in
+    let e = then (s1 .put-byte .ensures) (then (s2 .put-number .ensures .0) (then (s3 .put-number2 .ensures .0) (s4 .put-byte2 .ensures))) in
+    e
+
+pub refusal-line-spec : {M : Type 1} → statement M
+refusal-line-spec =
+    tie.close
+    (tie.spec
+    put-byte-requires
+    put-number-requires
+    put-number-requires-2
+    put-byte-requires-2
+    same-length
+    returns)

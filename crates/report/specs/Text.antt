@@ -1,0 +1,68 @@
+-- The bill program's lines (document 01, 'The bill program'), as bytes.
+use Prim.Native.Nat.{ℕ, zero, suc, _+_, _*_, _/_, _%_}
+use mathlib.Core.Bool.{cond}
+use mathlib.Core.List.{List, [], _∷_, _++_}
+use lib.IntN.{ℤ, pos, negsuc}
+use lib.Dec.{ltb}
+use Rattle.bits.specs.Bits.{fieldAt}
+use Rattle.statement.specs.Value42.{value42}
+
+-- the digits of n in decimal, at most so many, the first of them the highest
+unfoldable pub digitsTo : ℕ → ℕ → List ℕ
+digitsTo zero n = []
+digitsTo (suc m) n = cond (ltb n 10) [] (digitsTo m (n / 10)) ++ ((48 + n % 10) ∷ [])
+
+-- a number below 10 ^ 20 in decimal
+unfoldable pub decimal : ℕ → List ℕ
+decimal n = digitsTo 20 n
+
+-- cents in decimal, with `-` before a negative
+unfoldable pub cents : ℤ → List ℕ
+cents (pos n) = decimal n
+cents (negsuc n) = 45 ∷ decimal (suc n)
+
+-- a space before each word of a line but the first
+abbrev pub word : List ℕ → List ℕ
+word text = 32 ∷ text
+
+-- `N position number`
+unfoldable pub refusalLine : ℕ → ℕ → List ℕ
+refusalLine position number = 78 ∷ (word (decimal position) ++ (word (decimal number) ++ (10 ∷ [])))
+
+-- n lines of so many bits each, from bit p on
+unfoldable pub linesFrom : (ℕ → List ℕ) → ℕ → ℕ → ℕ → List ℕ
+linesFrom line bits p zero = []
+linesFrom line bits p (suc n) = linesFrom line bits p n ++ line (p + bits * n)
+
+-- of a statement's bytes
+module _ (xs : List ℕ) where
+  -- `M month`
+  unfoldable pub monthLine : List ℕ
+  monthLine = 77 ∷ (word (decimal (fieldAt xs 0 4)) ++ (10 ∷ []))
+
+  -- the amount in the 42 bits from p on
+  abbrev pub amountAt : ℕ → List ℕ
+  amountAt p = word (cents (value42 (fieldAt xs p 42)))
+
+  -- `S seller compliance test credit`, of the line at bit p
+  unfoldable pub sellerLine : ℕ → List ℕ
+  sellerLine p = 83 ∷ (word (decimal (fieldAt xs p 4)) ++ (amountAt (p + 4) ++ (amountAt (p + 46) ++ (amountAt (p + 88) ++ (10 ∷ [])))))
+
+  -- `L lse credit`, of the line at bit p
+  unfoldable pub lseLine : ℕ → List ℕ
+  lseLine p = 76 ∷ (word (decimal (fieldAt xs p 4)) ++ (amountAt (p + 4) ++ (10 ∷ [])))
+
+  -- a statement's lines, in its order
+  unfoldable pub statementLines : List ℕ
+  statementLines =
+      monthLine
+      ++ (linesFrom sellerLine 130 14 (fieldAt xs 4 5)
+      ++ linesFrom lseLine 46 (14 + 130 * fieldAt xs 4 5) (fieldAt xs 9 5))
+
+-- room for a report: the counts are below 32 and a number has at most 20 digits, so a statement's lines have at most 23 + 31 × 89 + 31 × 45 bytes
+abbrev pub room : ℕ
+room = 4177
+
+-- room for a statement, whatever its counts: 14 + 31 × 130 + 31 × 46 bits
+abbrev pub statementRoom : ℕ
+statementRoom = 684

@@ -1,0 +1,69 @@
+-- `statement::present` meets its contract. The loop's invariant: the sellers of the registrations before i are marked.
+use Prim.Native.Nat.{_≤_, _-_}
+use mathlib.Core.Logic.{⊎-elim}
+use mathlib.Core.Path.{_≡_}
+use native.Mathlib.Omega.{arith}
+use Rattle.year.specs.Year.{known, seller, size}
+use Rattle.year.specs.Limits.{seller-below, size-is}
+use Rattle.statement.specs.Statement.{hasRegistration}
+use Rattle.statement.specs.Code.{Marks}
+use Rattle.statement.specs.Turns.{amongFirst, marks-none, mark-skip, mark-more}
+use Rattle.statement.proofs.present.Statement.{statement}
+use Rattle.statement.proofs.present.Tie as tie
+
+abbrev Inv-loop : tie.InvT-loop
+Inv-loop terms sellers₀ i₀ sellers i = (i ≤ 64) × Marks (amongFirst terms i) sellers
+
+abbrev μ-loop : tie.MeasureT-loop
+μ-loop terms sellers₀ i₀ sellers i = 64 - i
+
+loop-holds : tie.Need-loop-holds Inv-loop μ-loop
+loop-holds c = (omega arith, marks-none _)
+
+mul-g : tie.Need-mul-g Inv-loop μ-loop
+mul-g c = omega arith
+
+element-copy-out-g : tie.Need-element-copy-out-g Inv-loop μ-loop
+element-copy-out-g c = omega arith
+
+array-write-sellers : tie.Need-array-write-sellers Inv-loop μ-loop
+unfolding seller
+array-write-sellers c = seller-below (c .before .before .before .before .pre) (c .before .before .before .loop .i)
+
+add-i : tie.Need-add-i Inv-loop μ-loop
+add-i c = omega arith
+
+loop-less : tie.Need-loop-less Inv-loop μ-loop
+loop-less c = omega arith
+
+loop-again : tie.Need-loop-again Inv-loop μ-loop
+unfolding known seller
+loop-again c =
+    let s = c .before .before .before .before in
+    let l = c .before .before .before .loop in
+    ⊎-elim
+    (λ w. (omega arith, rw (w .1) (mark-more (s .args .t1) (l .i) (l .inv .1) (w .0 .taken) (seller-below (s .pre) (l .i)))))
+    (λ w. (omega arith, rw (w .1) (mark-skip (s .args .t1) (l .i) (l .inv .1) (w .0 .left))))
+    (c .if1 .came)
+
+returns : tie.Need-returns Inv-loop μ-loop
+unfolding hasRegistration amongFirst
+returns c =
+    let s = c .before .before in
+    let all : c .before .loop .i ≡ size (s .args .t1) = omega (arith, size-is (s .pre)) in
+    rw all at (c .before .loop .inv .1)
+
+pub present-spec : {M : Type 1} → statement M
+present-spec =
+    tie.close
+    (tie.spec
+    Inv-loop
+    μ-loop
+    loop-holds
+    mul-g
+    element-copy-out-g
+    array-write-sellers
+    add-i
+    loop-less
+    loop-again
+    returns)

@@ -1,0 +1,11 @@
+-- The statement, what the code holds of it on the way, and what a reader finds in its bytes.
+pub mod Statement
+pub mod Lines
+pub mod Sizes
+pub mod Code
+pub mod Turns
+pub mod Value42
+pub mod ReadBack
+pub mod Reading
+pub mod Starts
+pub mod ReadBackLaws

@@ -1,0 +1,86 @@
+-- A statement's bytes start with its fields: the line of each party stands in its place, and says what is due now less what was before.
+use Prim.Native.Nat.{ℕ, _+_, _*_, _<_}
+use mathlib.Core.Bool.{true}
+use mathlib.Core.List.{List, _++_}
+use mathlib.Core.Path.{_≡_, refl, ap, _∙_}
+use native.Mathlib.Nat.{add-assoc}
+use native.Mathlib.Omega.{arith}
+use lib.IntN.{ℤ, pos, _-ℤ_}
+use Rattle.ids.specs.Ids.{at}
+use Rattle.bits.specs.PackLaws.{read-back}
+use Rattle.year.specs.declared.Terms.{Terms}
+use Rattle.year.specs.declared.Amounts.{Amounts}
+use Rattle.year.specs.Year.{lses, sellers}
+use Rattle.year.specs.Sound.{SoundTerms, SoundAmounts}
+use Rattle.year.specs.Limits.{lses-is}
+use Rattle.statement.specs.Statement.{countTo, hasRegistration, hasObligation, sellerFields, lseFields, linesTo, statementFields, statementOf}
+use Rattle.statement.specs.Sizes.{widthsOf, valuesOf, bitsIn, proper-valid, same-length, statement-proper, seller-lines-bits}
+use Rattle.statement.specs.Value42.{value42, value-difference}
+use Rattle.statement.specs.ReadBack.{monthIn, sellersIn, lsesIn, idAt, amountAt, sellerLine, lseLine, lineSeller, lineCompliance, lineTest, lineCredit, lineLse, lineLseCredit}
+use Rattle.statement.specs.Reading.{Holds, holds-all, holds-split, holds-line}
+
+-- one amount less another, at an id
+abbrev pub less : List ℕ → List ℕ → ℕ → ℤ
+less now before i = pos (at now i) -ℤ pos (at before i)
+
+-- xs starts with the statement of month k
+pub record Starts (T : Terms) (k : ℕ) (now before : Amounts) (xs : List ℕ) : Type 0 where
+  pub month : monthIn xs ≡ k
+  pub sellers : sellersIn xs ≡ countTo 16 (hasRegistration T)
+  pub lses : lsesIn xs ≡ countTo 16 (hasObligation T)
+  pub seller : (s : ℕ) → s < 16 → hasRegistration T s ≡ true → Holds xs (sellerLine xs (countTo s (hasRegistration T))) (sellerFields now before s)
+  pub lse : (j : ℕ) → j < 16 → hasObligation T j ≡ true → Holds xs (lseLine xs (countTo j (hasObligation T))) (lseFields now before j)
+
+starts-with : {T : Terms} {k : ℕ} {now before : Amounts} (xs : List ℕ) → SoundTerms T → Holds xs 0 (statementFields T k now before) → Starts T k now before xs
+unfolding statementFields sellerFields lseFields monthIn sellersIn lsesIn
+starts-with {T} {k} {now} {before} xs s all =
+    let p = hasRegistration T in
+    let q = hasObligation T in
+    let lines = holds-split xs 14 (linesTo sellers p (sellerFields now before)) (linesTo (lses T) q (lseFields now before)) (all .1 .1 .1) in
+    let start : 14 + bitsIn (linesTo sellers p (sellerFields now before)) ≡ 14 + 130 * sellersIn xs =
+    omega (arith, seller-lines-bits now before p sellers, all .1 .0) in
+    let later : Holds xs (14 + 130 * sellersIn xs) (linesTo (lses T) q (lseFields now before)) = rw start at (lines .1) in
+    record {
+      month = all .0;
+      sellers = all .1 .0;
+      lses = all .1 .1 .0 ∙ ap (λ n. countTo n q) (lses-is s);
+      seller = holds-line xs 14 130 sellers p (sellerFields now before) (λ i. refl) (lines .0);
+      lse = λ j l. holds-line xs (14 + 130 * sellersIn xs) 46 (lses T) q (lseFields now before) (λ i. refl) later j (omega (arith, lses-is s));
+    }
+
+pub starts : {T : Terms} {k : ℕ} (now before : Amounts) (rest : List ℕ) → SoundTerms T → k < 16 → Starts T k now before (statementOf T k now before ++ rest)
+unfolding statementOf
+starts {T} {k} now before rest s l =
+    let fs = statementFields T k now before in
+    starts-with (statementOf T k now before ++ rest) s
+    (holds-all _ 0 fs (read-back (widthsOf fs) (valuesOf fs) rest (proper-valid fs (statement-proper s k now before l)) (same-length fs)))
+
+-- the lines of sellers and of LSEs
+pub record SellerLine (xs : List ℕ) (now before : Amounts) (s i : ℕ) : Type 0 where
+  pub id : lineSeller xs i ≡ s
+  pub compliance : lineCompliance xs i ≡ less (now .compliance) (before .compliance) s
+  pub test : lineTest xs i ≡ less (now .test) (before .test) s
+  pub credit : lineCredit xs i ≡ less (now .credit) (before .credit) s
+
+pub record LseLine (xs : List ℕ) (now before : Amounts) (j i : ℕ) : Type 0 where
+  pub id : lineLse xs i ≡ j
+  pub credit : lineLseCredit xs i ≡ less (now .lse) (before .lse) j
+
+module _ {T : Terms} {k : ℕ} {now before : Amounts} {xs : List ℕ} (f : Starts T k now before xs) (a : SoundAmounts now) (b : SoundAmounts before) where
+  pub seller-line : (s : ℕ) → s < 16 → hasRegistration T s ≡ true → SellerLine xs now before s (countTo s (hasRegistration T))
+  unfolding sellerFields idAt amountAt
+  seller-line s l e =
+      let h = f .seller s l e in
+      let p = sellerLine xs (countTo s (hasRegistration T)) in
+      record {
+        id = h .0;
+        compliance = ap value42 (h .1 .0) ∙ value-difference _ _ (a .compliance .at s l) (b .compliance .at s l);
+        test = ap value42 (rw (add-assoc p 4 42) at (h .1 .1 .0)) ∙ value-difference _ _ (a .test .at s l) (b .test .at s l);
+        credit = ap value42 (rw (add-assoc p 4 42, add-assoc p 46 42) at (h .1 .1 .1 .0)) ∙ value-difference _ _ (a .credit .at s l) (b .credit .at s l);
+      }
+
+  pub lse-line : (j : ℕ) → j < 16 → hasObligation T j ≡ true → LseLine xs now before j (countTo j (hasObligation T))
+  unfolding lseFields idAt amountAt
+  lse-line j l e =
+      let h = f .lse j l e in
+      record { id = h .0; credit = ap value42 (h .1 .0) ∙ value-difference _ _ (a .lse .at j l) (b .lse .at j l) }
