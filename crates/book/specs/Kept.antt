@@ -85,6 +85,6 @@ module _ {y : Year} (s : Sound y) where
   sound-after bytes room =
       either (eqb (postNumber y bytes room) 0)
       (λ e.
-          let all = all-passed y bytes room (eqb-true (postNumber y bytes room) 0 e) in
-          sound-with (valuesOf bytes) (taken bytes (all .0) room (passed-questions y (valuesOf bytes) (listingIn (valuesOf bytes)) room (all .1))))
+      let all = all-passed y bytes room (eqb-true (postNumber y bytes room) 0 e) in
+      sound-with (valuesOf bytes) (taken bytes (all .0) room (passed-questions y (valuesOf bytes) (listingIn (valuesOf bytes)) room (all .1))))
       (λ n. s)

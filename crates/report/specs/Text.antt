@@ -3,7 +3,7 @@ use Prim.Native.Nat.{ℕ, zero, suc, _+_, _*_, _/_, _%_}
 use mathlib.Core.Bool.{cond}
 use mathlib.Core.List.{List, [], _∷_, _++_}
 use lib.IntN.{ℤ, pos, negsuc}
-use lib.Dec.{ltb}
+use lib.Dec.{ltb, eqb}
 use Rattle.bits.specs.Bits.{fieldAt}
 use Rattle.statement.specs.Value42.{value42}
 
@@ -58,6 +58,10 @@ module _ (xs : List ℕ) where
       monthLine
       ++ (linesFrom sellerLine 130 14 (fieldAt xs 4 5)
       ++ linesFrom lseLine 46 (14 + 130 * fieldAt xs 4 5) (fieldAt xs 9 5))
+
+-- what is printed of a record: a refusal's line, an accepted close's statement, of any other record nothing
+unfoldable pub answerLines : ℕ → ℕ → ℕ → List ℕ → List ℕ
+answerLines position kind number xs = cond (eqb number 0) (cond (eqb kind 6) (statementLines xs) []) (refusalLine position number)
 
 -- room for a report: the counts are below 32 and a number has at most 20 digits, so a statement's lines have at most 23 + 31 × 89 + 31 × 45 bytes
 abbrev pub room : ℕ

@@ -8,7 +8,7 @@ ghost use lib.ListN.{length};
 ghost use Rattle.bits.specs.Bits.{Room, fieldAt};
 ghost use Rattle.report.specs.Pasted.{Pasted};
 ghost use Rattle.report.specs.Lies.{Lies};
-ghost use Rattle.report.specs.Text.{amountAt, decimal, linesFrom, lseLine, monthLine, refusalLine, room, sellerLine, statementLines, statementRoom, word};
+ghost use Rattle.report.specs.Text.{amountAt, answerLines, decimal, linesFrom, lseLine, monthLine, refusalLine, room, sellerLine, statementLines, statementRoom, word};
 
 // The bytes that a caller leaves free for one report.
 pub const ROOM: usize = 4177;
@@ -170,4 +170,26 @@ pub fn refusal_line(position: u64, number: u64, out: &mut [u8], at: usize) -> us
     p = put_number(out, p, position);
     p = put_number(out, p, number);
     put_byte(out, p, b'\n')
+}
+
+// What is printed of a record of this kind that is answered with this number.
+pub fn answer_lines(
+    position: u64,
+    kind: u8,
+    number: u64,
+    statement: &[u8],
+    out: &mut [u8],
+    at: usize,
+) -> usize
+    requires { ⌜ statementRoom ≤ length (now statement) ⌝ }
+    requires { ⌜ at + room ≤ length (now out) ⌝ }
+    ensures { λ r. ⌜ Pasted (now (out .entry)) (now (out .exit)) at (answerLines position kind number (now (statement .entry))) r ⌝ }
+{
+    if number != 0 {
+        return refusal_line(position, number, out, at);
+    }
+    if kind == 6 {
+        return statement_lines(statement, out, at);
+    }
+    at
 }

@@ -13,13 +13,13 @@ settle-requires : tie.Need-settle-requires
 settle-requires c κs = search needs
 
 write-statement-requires : tie.Need-write-statement-requires
-write-statement-requires c κs = 
+write-statement-requires c κs =
     let start = c .before .before .before .before .before in
     let s = start .pre .0 in
     (s .terms, (omega (arith, start .pre), (rw (c .before .before .before .settle .ensures) (sound-amounts (start .args .year) s (start .args .month)), (s .billed, start .pre .1 .1 .1))))
 
 with-close-requires : tie.Need-with-close-requires
-with-close-requires c κs = 
+with-close-requires c κs =
     let start = c .before .before .before .before .before .before .before .before in
     let s = start .pre .0 in
     (s, (start .pre .1 .0, rw (c .before .before .before .before .before .before .settle .ensures) (sound-amounts (start .args .year) s (start .args .month))))
@@ -28,7 +28,7 @@ same-length : tie.Need-same-length
 same-length c = search needs
 
 returns : tie.Need-returns
-returns c = 
+returns c =
     let owed = c .before .before .before .before .before .before .before .settle .ensures in
     (rw owed at (c .with-close .ensures .0), rw owed at (c .before .before .before .write-statement .ensures))
 

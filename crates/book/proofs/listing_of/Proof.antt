@@ -42,7 +42,7 @@ listing-of-requires-2 c κs = search needs
 
 returns-2 : tie.Need-returns-2
 unfolding listingIn deficitsIn entriesIn hasLists
-returns-2 c = 
+returns-2 c =
     rw (ne-eqb (at (c .before .before .before .args .t1) 0) 4 (c .before .before .if1 .left), c .before .if2 .left) (c .listing-of2 .ensures .0)
 
 pub listing-of-spec : {M : Type 1} → statement M

@@ -45,7 +45,7 @@ parse-requires : tie.Need-parse-requires
 parse-requires c κs = search needs
 
 returns : tie.Need-returns
-returns c = 
+returns c =
     let a = c .before .before .before .before .before .args in
     let p = c .before .before .parse .ensures in
     let number = p .numbers ∙ sym (record-refused (a .year) (a .bytes .now) (length (a .buffer .now)) (λ q. c .if1 .taken (p .numbers ∙ q))) in
@@ -59,7 +59,7 @@ number-of-requires : tie.Need-number-of-requires
 number-of-requires c κs = (c .before .before .before .before .before .before .before .pre, rw (rows (c .before .before)) (asked (c .before .before .before .before .before .before .before .args .bytes .now) (accepted _ (quiet (c .before .before)))))
 
 returns-2 : tie.Need-returns-2
-returns-2 c = 
+returns-2 c =
     let a = c .before .before .before .before .before .before .before .before .before .args in
     let posts = refuses (a .year) (a .bytes .now) (a .buffer .now) (answered (c .before)) (c .if2 .taken) (c .before .before .before .before .before .before .parse .ensures .uses) in
     (posts, sound-posted (a .year) (a .bytes .now) (a .buffer .now) (c .before .before .before .before .before .before .before .before .before .pre) posts)
@@ -71,7 +71,7 @@ array-read-close : tie.Need-array-read-close
 array-read-close c = search needs
 
 close-requires : tie.Need-close-requires
-close-requires c κs = 
+close-requires c κs =
     let p = passes (c .before .before) in
     let kind = c .before .if3 .taken in
     (c .before .before .before .before .before .before .before .before .before .before .before .pre, (not-finished p kind, (next-month p kind, room-to-close p kind)))
@@ -80,7 +80,7 @@ same-length : tie.Need-same-length
 same-length c = search needs
 
 returns-3 : tie.Need-returns-3
-returns-3 c = 
+returns-3 c =
     let a = c .before .before .before .before .before .before .before .before .before .before .before .before .before .before .args in
     let vs = c .before .before .before .before .before .before .before .before .before .before .before .parse .result .values in
     let row = rows (c .before .before .before .before .before .before .before .before .before) in
@@ -92,7 +92,7 @@ returns-3 c =
     (posts, sound-posted (a .year) (a .bytes .now) (a .buffer .now) (c .before .before .before .before .before .before .before .before .before .before .before .before .before .before .pre) posts)
 
 year-after-requires : tie.Need-year-after-requires
-year-after-requires c κs = 
+year-after-requires c κs =
     let start = c .before .before .before .before .before .before .before .before .before .before in
     let row = rows (c .before .before .before .before .before) in
     let bytes = start .args .bytes .now in
@@ -101,7 +101,7 @@ year-after-requires c κs =
     (start .pre, (all, (c .before .before .before .listing-of .ensures, c .if3 .left)))
 
 returns-4 : tie.Need-returns-4
-returns-4 c = 
+returns-4 c =
     let a = c .before .before .before .before .before .before .before .before .before .before .before .args in
     let row = rows (c .before .before .before .before .before .before) in
     let posts =

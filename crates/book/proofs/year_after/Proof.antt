@@ -48,7 +48,7 @@ array-read-with-registration : tie.Need-array-read-with-registration
 array-read-with-registration c = search needs
 
 with-registration-requires : tie.Need-with-registration-requires
-with-registration-requires c κs = 
+with-registration-requires c κs =
     let start = c .before .before .before in
     let r = start .pre .1 .0 .registered (c .before .if2 .taken) in
     (start .pre .0, (r .0, (r .1, rw (c .registration-of .ensures) (r .2))))
@@ -64,7 +64,7 @@ array-read-with-lse-2 : tie.Need-array-read-with-lse-2
 array-read-with-lse-2 c = search needs
 
 with-lse-requires : tie.Need-with-lse-requires
-with-lse-requires c κs = 
+with-lse-requires c κs =
     let start = c .before .before .before in
     let j = start .pre .1 .0 .obliged (c .if3 .taken) in
     (start .pre .0, (j .0, j .1))
@@ -83,7 +83,7 @@ array-read-t42 : tie.Need-array-read-t42
 array-read-t42 c = search needs
 
 with-event-requires : tie.Need-with-event-requires
-with-event-requires c κs = 
+with-event-requires c κs =
     let start = c .before .before .before .before in
     let e = start .pre .1 .0 .called (c .if4 .taken) in
     (start .pre .0, (e .0, rw (start .pre .1 .1 .0) (e .1)))
@@ -108,7 +108,7 @@ add-with-test : tie.Need-add-with-test
 add-with-test c = omega (arith, c .before .before .before .before .pre .1 .0 .tested (is-test c) .0)
 
 with-test-requires : tie.Need-with-test-requires
-with-test-requires c κs = 
+with-test-requires c κs =
     let start = c .before .before .before .before in
     let t = start .pre .1 .0 .tested (is-test c) in
     (start .pre .0, (t .0, rw (start .pre .1 .1 .0) (t .1)))
