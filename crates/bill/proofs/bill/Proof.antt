@@ -1,0 +1,203 @@
+-- The year stays sound, the window within the input buffer, and a report's room free in the output buffer.
+use mathlib.Core.Path.{_≡_}
+use Prim.Native.Nat.{_+_, _-_, _^_, _≤_}
+use native.Mathlib.Omega.{arith}
+use lib.ListN.{length}
+use borrow.Author.Needs.{needs}
+use Rattle.report.specs.Text.{room}
+use Rattle.year.specs.Sound.{Sound}
+use Rattle.bill.proofs.bill.Statement.{statement}
+use Rattle.bill.proofs.bill.Tie as tie
+
+abbrev Inv-loop : tie.InvT-loop
+Inv-loop input buffer₀ statement₀ out₀ year₀ window₀ at₀ position₀ buffer statement out year window at position =
+    ((length buffer ≡ length buffer₀) × (length out ≡ length out₀) × (length statement ≡ length statement₀))
+    × (Sound year × (window .start ≤ window .end) × (window .end ≤ length buffer) × (at + room ≤ length out))
+
+abbrev μ-loop : tie.MeasureT-loop
+μ-loop input buffer₀ statement₀ out₀ year₀ window₀ at₀ position₀ buffer statement out year window at position = 2 ^ 64 - position
+
+new-book-requires : tie.Need-new-book-requires Inv-loop μ-loop
+new-book-requires c κs = search needs
+
+loop-holds : tie.Need-loop-holds Inv-loop μ-loop
+loop-holds c = search needs
+
+filled-requires : tie.Need-filled-requires Inv-loop μ-loop
+filled-requires c κs = search needs
+
+same-length : tie.Need-same-length Inv-loop μ-loop
+same-length c = search needs
+
+same-length-2 : tie.Need-same-length-2 Inv-loop μ-loop
+same-length-2 c = search needs
+
+same-length-3 : tie.Need-same-length-3 Inv-loop μ-loop
+same-length-3 c = search needs
+
+returns : tie.Need-returns Inv-loop μ-loop
+returns c = search needs
+
+print-requires : tie.Need-print-requires Inv-loop μ-loop
+print-requires c κs = search needs
+
+same-length-4 : tie.Need-same-length-4 Inv-loop μ-loop
+same-length-4 c = search needs
+
+same-length-5 : tie.Need-same-length-5 Inv-loop μ-loop
+same-length-5 c = search needs
+
+same-length-6 : tie.Need-same-length-6 Inv-loop μ-loop
+same-length-6 c = search needs
+
+returns-2 : tie.Need-returns-2 Inv-loop μ-loop
+returns-2 c = search needs
+
+step-requires : tie.Need-step-requires Inv-loop μ-loop
+step-requires c κs =
+    let f = c .before .before .before .before .before .before .before in
+    let l = f .before .before .before in
+    let a = l .before .before .before .before .before in
+    (l .loop .inv .1 .0, (omega (arith, c .before .before .before .if2, f .filled), (omega (arith, f .filled, l .loop, a), (omega (arith, f .filled, l .loop, a), omega (arith, f .filled, l .loop, a)))))
+
+print-requires-2 : tie.Need-print-requires-2 Inv-loop μ-loop
+print-requires-2 c κs = search needs
+
+same-length-7 : tie.Need-same-length-7 Inv-loop μ-loop
+same-length-7 c =
+    let s = c .before .before .before .before .before .before .before .before in
+    let f = s .before .before .before .before .before .before .before .before in
+    let l = f .before .before .before in
+    let a = l .before .before .before .before .before in
+    omega (arith, s .step, f .filled, l .loop, a)
+
+same-length-8 : tie.Need-same-length-8 Inv-loop μ-loop
+same-length-8 c =
+    let s = c .before .before .before .before .before .before .before .before in
+    let f = s .before .before .before .before .before .before .before .before in
+    let l = f .before .before .before in
+    let a = l .before .before .before .before .before in
+    omega (arith, s .step, f .filled, l .loop, a)
+
+same-length-9 : tie.Need-same-length-9 Inv-loop μ-loop
+same-length-9 c =
+    let s = c .before .before .before .before .before .before .before .before in
+    let f = s .before .before .before .before .before .before .before .before in
+    let l = f .before .before .before in
+    let a = l .before .before .before .before .before in
+    omega (arith, s .step, f .filled, l .loop, a)
+
+returns-3 : tie.Need-returns-3 Inv-loop μ-loop
+returns-3 c = search needs
+
+with-room-requires : tie.Need-with-room-requires Inv-loop μ-loop
+with-room-requires c κs =
+    let s = c .before .before .before .before .before .before .before .before in
+    let f = s .before .before .before .before .before .before .before .before in
+    let l = f .before .before .before in
+    let a = l .before .before .before .before .before in
+    omega (arith, s .step, f .filled, l .loop, a)
+
+same-length-10 : tie.Need-same-length-10 Inv-loop μ-loop
+same-length-10 c =
+    let s = c .before .before .before .before .before .before .before .before .before .before in
+    let f = s .before .before .before .before .before .before .before .before in
+    let l = f .before .before .before in
+    let a = l .before .before .before .before .before in
+    omega (arith, s .step, f .filled, l .loop, a)
+
+same-length-11 : tie.Need-same-length-11 Inv-loop μ-loop
+same-length-11 c =
+    let s = c .before .before .before .before .before .before .before .before .before .before in
+    let f = s .before .before .before .before .before .before .before .before in
+    let l = f .before .before .before in
+    let a = l .before .before .before .before .before in
+    omega (arith, s .step, f .filled, l .loop, a)
+
+same-length-12 : tie.Need-same-length-12 Inv-loop μ-loop
+same-length-12 c =
+    let s = c .before .before .before .before .before .before .before .before .before .before in
+    let f = s .before .before .before .before .before .before .before .before in
+    let l = f .before .before .before in
+    let a = l .before .before .before .before .before in
+    omega (arith, s .step, f .filled, l .loop, a)
+
+returns-4 : tie.Need-returns-4 Inv-loop μ-loop
+returns-4 c = search needs
+
+add-window : tie.Need-add-window Inv-loop μ-loop
+add-window c =
+    let s = c .before .before .before .before .before .before .before .before .before .before .before in
+    let f = s .before .before .before .before .before .before .before .before in
+    let l = f .before .before .before in
+    let a = l .before .before .before .before .before in
+    omega (arith, s .step, f .filled, l .loop, a)
+
+add-position : tie.Need-add-position Inv-loop μ-loop
+add-position c =
+    let t = c .before .before .before .before .before .before .before .before .before .before .before .before .before .before .before .before .before .before .before .before .before in
+    omega (arith, t .loop-test)
+
+loop-less : tie.Need-loop-less Inv-loop μ-loop
+loop-less c =
+    let t = c .before .before .before .before .before .before .before .before .before .before .before .before .before .before .before .before .before .before .before .before .before in
+    omega (arith, t .loop-test)
+
+loop-again : tie.Need-loop-again Inv-loop μ-loop
+loop-again c =
+    let w = c .before .before in
+    let s = w .before .before .before .before .before .before .before .before .before in
+    let f = s .before .before .before .before .before .before .before .before in
+    let l = f .before .before .before in
+    let a = l .before .before .before .before .before in
+    ((omega (arith, s .step, f .filled, l .loop, a), omega (arith, s .step, f .filled, l .loop, a), omega (arith, s .step, f .filled, l .loop, a)), (s .step .ensures .0, omega (arith, s .step, f .filled, l .loop, a), omega (arith, s .step, f .filled, l .loop, a), omega (arith, w .with-room, s .step, f .filled, l .loop, a)))
+
+same-length-13 : tie.Need-same-length-13 Inv-loop μ-loop
+same-length-13 c = search needs
+
+same-length-14 : tie.Need-same-length-14 Inv-loop μ-loop
+same-length-14 c = search needs
+
+same-length-15 : tie.Need-same-length-15 Inv-loop μ-loop
+same-length-15 c = search needs
+
+returns-5 : tie.Need-returns-5 Inv-loop μ-loop
+returns-5 c = search needs
+
+pub bill-spec : {M : Type 1} → statement M
+bill-spec =
+    tie.close
+    (tie.spec
+    Inv-loop
+    μ-loop
+    new-book-requires
+    loop-holds
+    filled-requires
+    same-length
+    same-length-2
+    same-length-3
+    returns
+    print-requires
+    same-length-4
+    same-length-5
+    same-length-6
+    returns-2
+    step-requires
+    print-requires-2
+    same-length-7
+    same-length-8
+    same-length-9
+    returns-3
+    with-room-requires
+    same-length-10
+    same-length-11
+    same-length-12
+    returns-4
+    add-window
+    add-position
+    loop-less
+    loop-again
+    same-length-13
+    same-length-14
+    same-length-15
+    returns-5)
