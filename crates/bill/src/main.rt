@@ -70,7 +70,7 @@ fn filled(input: i32, buffer: &mut [u8], window: Window) -> Window
 fn print(out: &[u8], at: usize) -> bool
     requires { ⌜ at ≤ length (now out) ⌝ }
 {
-    io::write_all(STDOUT_FILENO, &out[..at])
+    io::write_all(STDOUT_FILENO, &out[0..at])
 }
 
 // The place up to which output is gathered.
@@ -139,8 +139,9 @@ fn step(
     }
 }
 
-// One record after another, up to the end or a number 1 or 2. A failed read or write ends it with nothing more written.
-fn bill(input: i32, buffer: &mut [u8], statement: &mut [u8], out: &mut [u8])
+// One record after another, up to the end or a number 1 or 2; answers whether all is read and written.
+// A failed read or write ends it with nothing more written.
+fn bill(input: i32, buffer: &mut [u8], statement: &mut [u8], out: &mut [u8]) -> bool
     requires { ⌜ statementRoom ≤ length (now statement) ⌝ }
     requires { ⌜ room ≤ length (now out) ⌝ }
 {
@@ -156,53 +157,52 @@ fn bill(input: i32, buffer: &mut [u8], statement: &mut [u8], out: &mut [u8])
     while position < u64::MAX {
         window = filled(input, buffer, window);
         if window.failed {
-            return;
+            return false;
         }
         let start = window.start;
         let end = window.end;
         if start == end {
-            print(out, at);
-            return;
+            return print(out, at);
         }
         let taken = step(year, position, buffer, start, end, statement, out, at);
         year = taken.year;
         let number = taken.number;
         if number == 1 || number == 2 {
-            print(out, taken.at);
-            return;
+            return print(out, taken.at);
         }
         let gathered = with_room(out, taken.at);
         if gathered.failed {
-            return;
+            return false;
         }
         at = gathered.at;
         window.start = start + taken.used;
         position += 1;
     }
+    false
 }
 
-fn bill_input(input: i32) {
+fn bill_input(input: i32) -> bool {
     let mut buffer = io::large_buffer();
     let mut statement = [0u8; report::STATEMENT];
     let mut out = io::large_buffer();
-    bill(input, &mut buffer, &mut statement, &mut out);
+    bill(input, &mut buffer, &mut statement, &mut out)
 }
 
 // The file that an argument names.
-fn bill_argument(i: usize) {
+fn bill_argument(i: usize) -> bool {
     let mut name = io::buffer();
     let length = os::arg(i, &mut name);
     if length == 1 && name[0] == b'-' {
-        bill_input(STDIN_FILENO);
-        return;
+        return bill_input(STDIN_FILENO);
     }
     let file = os::open_read(&name[..length]);
     if file < 0 {
         os::fail(&name[..length]);
-        return;
+        return false;
     }
-    bill_input(file);
+    let is_billed = bill_input(file);
     libc::close(file);
+    is_billed
 }
 
 fn main() {
@@ -212,7 +212,9 @@ fn main() {
     }
     let mut i = 1;
     while i < arguments {
-        bill_argument(i);
+        if !bill_argument(i) {
+            return;
+        }
         i += 1;
     }
 }

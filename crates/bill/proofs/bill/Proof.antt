@@ -17,6 +17,19 @@ Inv-loop input buffer₀ statement₀ out₀ year₀ window₀ at₀ position₀
 abbrev μ-loop : tie.MeasureT-loop
 μ-loop input buffer₀ statement₀ out₀ year₀ window₀ at₀ position₀ buffer statement out year window at position = 2 ^ 64 - position
 
+-- the three lengths are kept, up to a step
+lengths : (s : tie.After-step Inv-loop μ-loop)
+    → (let f = s .before .before .before .before .before .before .before .before in
+    let a = f .before .before .before .before .before .before .before .before .args in
+    (length (f .filled .last .1 .0) ≡ length (a .buffer .now))
+    × (length (s .step .last .1 .1 .1 .1 .1 .0) ≡ length (a .statement .now))
+    × (length (s .step .last .1 .1 .1 .1 .1 .1 .0) ≡ length (a .out .now)))
+lengths s =
+    let f = s .before .before .before .before .before .before .before .before in
+    let l = f .before .before .before in
+    let a = l .before .before .before .before .before in
+    (omega (arith, f .filled, l .loop, a), omega (arith, s .step, l .loop, a), omega (arith, s .step, l .loop, a))
+
 new-book-requires : tie.Need-new-book-requires Inv-loop μ-loop
 new-book-requires c κs = search needs
 
@@ -64,28 +77,13 @@ print-requires-2 : tie.Need-print-requires-2 Inv-loop μ-loop
 print-requires-2 c κs = search needs
 
 same-length-7 : tie.Need-same-length-7 Inv-loop μ-loop
-same-length-7 c =
-    let s = c .before .before .before .before .before .before .before .before in
-    let f = s .before .before .before .before .before .before .before .before in
-    let l = f .before .before .before in
-    let a = l .before .before .before .before .before in
-    omega (arith, s .step, f .filled, l .loop, a)
+same-length-7 c = lengths (c .before .before .before .before .before .before .before .before) .0
 
 same-length-8 : tie.Need-same-length-8 Inv-loop μ-loop
-same-length-8 c =
-    let s = c .before .before .before .before .before .before .before .before in
-    let f = s .before .before .before .before .before .before .before .before in
-    let l = f .before .before .before in
-    let a = l .before .before .before .before .before in
-    omega (arith, s .step, f .filled, l .loop, a)
+same-length-8 c = lengths (c .before .before .before .before .before .before .before .before) .1
 
 same-length-9 : tie.Need-same-length-9 Inv-loop μ-loop
-same-length-9 c =
-    let s = c .before .before .before .before .before .before .before .before in
-    let f = s .before .before .before .before .before .before .before .before in
-    let l = f .before .before .before in
-    let a = l .before .before .before .before .before in
-    omega (arith, s .step, f .filled, l .loop, a)
+same-length-9 c = lengths (c .before .before .before .before .before .before .before .before) .2
 
 returns-3 : tie.Need-returns-3 Inv-loop μ-loop
 returns-3 c = search needs
@@ -99,28 +97,13 @@ with-room-requires c κs =
     omega (arith, s .step, f .filled, l .loop, a)
 
 same-length-10 : tie.Need-same-length-10 Inv-loop μ-loop
-same-length-10 c =
-    let s = c .before .before .before .before .before .before .before .before .before .before in
-    let f = s .before .before .before .before .before .before .before .before in
-    let l = f .before .before .before in
-    let a = l .before .before .before .before .before in
-    omega (arith, s .step, f .filled, l .loop, a)
+same-length-10 c = lengths (c .before .before .before .before .before .before .before .before .before .before) .0
 
 same-length-11 : tie.Need-same-length-11 Inv-loop μ-loop
-same-length-11 c =
-    let s = c .before .before .before .before .before .before .before .before .before .before in
-    let f = s .before .before .before .before .before .before .before .before in
-    let l = f .before .before .before in
-    let a = l .before .before .before .before .before in
-    omega (arith, s .step, f .filled, l .loop, a)
+same-length-11 c = lengths (c .before .before .before .before .before .before .before .before .before .before) .1
 
 same-length-12 : tie.Need-same-length-12 Inv-loop μ-loop
-same-length-12 c =
-    let s = c .before .before .before .before .before .before .before .before .before .before in
-    let f = s .before .before .before .before .before .before .before .before in
-    let l = f .before .before .before in
-    let a = l .before .before .before .before .before in
-    omega (arith, s .step, f .filled, l .loop, a)
+same-length-12 c = lengths (c .before .before .before .before .before .before .before .before .before .before) .2
 
 returns-4 : tie.Need-returns-4 Inv-loop μ-loop
 returns-4 c = search needs

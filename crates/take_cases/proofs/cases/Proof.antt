@@ -1,0 +1,68 @@
+-- The year stays sound from line to line.
+use Prim.Native.Nat.{_-_, _≤_}
+use lib.ListN.{length}
+use borrow.Author.Needs.{needs}
+use Rattle.year.specs.Sound.{Sound}
+use Rattle.take_cases.proofs.cases.Statement.{statement}
+use Rattle.take_cases.proofs.cases.Tie as tie
+
+abbrev Inv-loop : tie.InvT-loop
+Inv-loop input year₀ at₀ year at = Sound year × (at ≤ length input)
+
+abbrev μ-loop : tie.MeasureT-loop
+μ-loop input year₀ at₀ year at = length input - at
+
+new-book-requires : tie.Need-new-book-requires Inv-loop μ-loop
+new-book-requires c κs = search needs
+
+loop-holds : tie.Need-loop-holds Inv-loop μ-loop
+loop-holds c = search needs
+
+find-requires : tie.Need-find-requires Inv-loop μ-loop
+find-requires c κs = search needs
+
+sub-case : tie.Need-sub-case Inv-loop μ-loop
+sub-case c = search needs
+
+part-case-start : tie.Need-part-case-start Inv-loop μ-loop
+part-case-start c = search needs
+
+part-case-end : tie.Need-part-case-end Inv-loop μ-loop
+part-case-end c = search needs
+
+case-requires : tie.Need-case-requires Inv-loop μ-loop
+case-requires c κs = search needs
+
+returns : tie.Need-returns Inv-loop μ-loop
+returns c = search needs
+
+add-at : tie.Need-add-at Inv-loop μ-loop
+add-at c = search needs
+
+loop-less : tie.Need-loop-less Inv-loop μ-loop
+loop-less c = search needs
+
+loop-again : tie.Need-loop-again Inv-loop μ-loop
+loop-again c = search needs
+
+returns-2 : tie.Need-returns-2 Inv-loop μ-loop
+returns-2 c = search needs
+
+pub cases-spec : {M : Type 1} → statement M
+cases-spec =
+    tie.close
+    (tie.spec
+    Inv-loop
+    μ-loop
+    new-book-requires
+    loop-holds
+    find-requires
+    sub-case
+    part-case-start
+    part-case-end
+    case-requires
+    returns
+    add-at
+    loop-less
+    loop-again
+    returns-2)
