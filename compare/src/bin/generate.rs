@@ -1,0 +1,40 @@
+//! Writes one case to standard output: `generate plausible|damaged|take|read|write SEED`.
+
+use std::io::{self, Write};
+
+use settlement::cases::{self, Call};
+use settlement::lines::{join, to_hex};
+
+fn main() -> io::Result<()> {
+    let arguments: Vec<String> = std::env::args().collect();
+    let case = match arguments.as_slice() {
+        [_, form, seed] => seed.parse().ok().and_then(|seed| case(form, seed)),
+        _ => None,
+    };
+    let usage = || io::Error::other("generate plausible|damaged|take|read|write SEED");
+    io::stdout().write_all(&case.ok_or_else(usage)?)
+}
+
+fn case(form: &str, seed: u64) -> Option<Vec<u8>> {
+    match form {
+        "plausible" => Some(cases::plausible_file(seed)),
+        "damaged" => Some(cases::damaged_file(seed)),
+        "take" => Some(call_lines(&cases::take_calls(seed))),
+        "read" => Some(call_lines(&cases::read_calls(seed))),
+        "write" => Some(write_lines(&cases::write_calls(seed))),
+        _ => None,
+    }
+}
+
+fn call_lines(calls: &[Call]) -> Vec<u8> {
+    let line = |call: &Call| format!("{} {}\n", to_hex(&call.bytes), call.room);
+    calls.iter().map(line).collect::<String>().into_bytes()
+}
+
+fn write_lines(calls: &[(usize, Vec<u64>)]) -> Vec<u8> {
+    let line = |(room, numbers): &(usize, Vec<u64>)| {
+        let words = join([*room as u64].iter().chain(numbers));
+        format!("{words}\n")
+    };
+    calls.iter().map(line).collect::<String>().into_bytes()
+}

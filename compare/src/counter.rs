@@ -1,0 +1,149 @@
+//! Questions 6 to 16 at the counter; a "no" gives the number.
+
+use crate::book::Year;
+use crate::records::{Deficit, Entry, Event, Lse, Product, Record, Registration, Test};
+use crate::statement;
+
+const MOST_EVENTS: usize = 16;
+const LAST_CLOSE: u64 = 15;
+
+type Asked = Result<(), u8>;
+
+fn ask(yes: bool, number: u8) -> Asked {
+    if yes {
+        Ok(())
+    } else {
+        Err(number)
+    }
+}
+
+/// Puts the questions in order, up to the first "no".
+pub fn ask_all(year: Option<&Year>, record: &Record, room: usize) -> Asked {
+    if let Record::Opening(_) = record {
+        return ask(year.is_none(), 6);
+    }
+    let year = year.filter(|year| year.closed < LAST_CLOSE).ok_or(6)?;
+    match record {
+        Record::Opening(_) => Ok(()),
+        Record::Registration(registration) => ask_registration(year, registration),
+        Record::Lse(lse) => ask_lse(year, lse),
+        Record::Event(event) => ask_event(year, event),
+        Record::Test(test) => ask_test(year, test),
+        Record::Close { month } => ask_close(year, *month, room),
+    }
+}
+
+fn ask_registration(year: &Year, registration: &Registration) -> Asked {
+    ask(is_unused(year), 7)?;
+    ask(!year.registrations.contains_key(&registration.id), 9)
+}
+
+fn ask_lse(year: &Year, lse: &Lse) -> Asked {
+    ask(is_unused(year), 7)?;
+    ask(!year.lses.contains_key(&lse.id), 9)
+}
+
+fn ask_event(year: &Year, event: &Event) -> Asked {
+    ask(has_parties(year), 8)?;
+    ask(
+        all_known(year, &event.entries, |r| r.area == event.area)
+            && deficits_have_entries(year, &event.deficits, &event.entries),
+        10,
+    )?;
+    ask(is_event_in_time(year, event), 11)?;
+    ask(year.events.len() < MOST_EVENTS, 12)
+}
+
+fn ask_test(year: &Year, test: &Test) -> Asked {
+    let tests = |r: &Registration| (r.zone, r.product) == (test.zone, test.product);
+    ask(has_parties(year), 8)?;
+    ask(
+        all_known(year, &test.entries, tests)
+            && deficits_have_entries(year, &test.deficits, &test.entries),
+        10,
+    )?;
+    ask(is_test_in_time(year, test), 11)?;
+    ask(
+        year.tests
+            .iter()
+            .all(|earlier| (earlier.zone, earlier.product) != (test.zone, test.product)),
+        13,
+    )?;
+    ask(lists_exactly_the_uncalled(year, test, tests), 14)
+}
+
+fn ask_close(year: &Year, month: u64, room: usize) -> Asked {
+    ask(has_parties(year), 8)?;
+    ask(month == year.closed + 1, 15)?;
+    ask(room >= statement::MOST_BYTES, 16)
+}
+
+fn is_unused(year: &Year) -> bool {
+    year.events.is_empty() && year.tests.is_empty() && year.closed == 0
+}
+
+fn has_parties(year: &Year) -> bool {
+    !year.registrations.is_empty() && !year.lses.is_empty()
+}
+
+fn all_known(year: &Year, entries: &[Entry], belongs: impl Fn(&Registration) -> bool) -> bool {
+    entries.iter().all(|entry| {
+        year.registrations
+            .get(&entry.registration)
+            .is_some_and(&belongs)
+    })
+}
+
+fn deficits_have_entries(year: &Year, deficits: &[Deficit], entries: &[Entry]) -> bool {
+    deficits.iter().all(|deficit| {
+        entries
+            .iter()
+            .any(|entry| year.registrations[&entry.registration].seller == deficit.seller)
+    })
+}
+
+fn is_event_in_time(year: &Year, event: &Event) -> bool {
+    event_month_is_open(event.month, year.closed)
+        && event.entries.iter().all(|entry| {
+            let product = year.registrations[&entry.registration].product;
+            may_be_called(product, event.month, event.off_peak)
+        })
+}
+
+fn is_test_in_time(year: &Year, test: &Test) -> bool {
+    test.month <= year.closed + 1 && may_be_tested(test.product, test.month)
+}
+
+/// With z months closed, may an event of this month still come?
+pub fn event_month_is_open(month: u64, z: u64) -> bool {
+    month <= z + 1 && z < (month + 3).max(5)
+}
+
+pub fn may_be_called(product: Product, month: u64, off_peak: bool) -> bool {
+    match product {
+        Product::Limited => month <= 4 && !off_peak,
+        Product::ExtendedSummer => month <= 5 || month == 12,
+        Product::Annual => true,
+    }
+}
+
+pub fn may_be_tested(product: Product, month: u64) -> bool {
+    match product {
+        Product::Limited => month <= 4,
+        Product::ExtendedSummer | Product::Annual => month <= 5 || month == 12,
+    }
+}
+
+fn lists_exactly_the_uncalled(
+    year: &Year,
+    test: &Test,
+    tests: impl Fn(&Registration) -> bool,
+) -> bool {
+    let called = year.called();
+    let uncalled = year
+        .registrations
+        .values()
+        .filter(|r| tests(r) && !called.contains(&r.id))
+        .map(|r| r.id);
+    uncalled.eq(test.entries.iter().map(|entry| entry.registration))
+}

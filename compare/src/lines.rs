@@ -1,0 +1,89 @@
+//! Calls and answers as lines of text, as the published vectors have them.
+
+use crate::book::Book;
+use crate::records;
+use crate::statement;
+
+/// Fills lent buffers beforehand, to show what a call leaves untouched.
+const UNTOUCHED: u8 = 0xA5;
+
+/// `HEX ROOM` of each record, all into one new book, to `number consumed statement`.
+pub fn take(lines: &str) -> String {
+    let mut book = Book::new();
+    answer_each(lines, |line| {
+        let (bytes, room) = bytes_and_room(line);
+        let mut buffer = vec![UNTOUCHED; room];
+        let taken = book.take(&bytes, &mut buffer);
+        let is_close = taken.number == 0 && bytes[0] >> 4 == 6;
+        let length = if is_close {
+            statement::length(&buffer)
+        } else {
+            0
+        };
+        assert!(buffer[length..].iter().all(|byte| *byte == UNTOUCHED));
+        let statement = to_hex(&buffer[..length]);
+        format!("{} {} {statement}", taken.number, taken.consumed)
+    })
+}
+
+/// `HEX ROOM` to `number count used numbers..`.
+pub fn read(lines: &str) -> String {
+    answer_each(lines, |line| {
+        let (bytes, room) = bytes_and_room(line);
+        let mut buffer = vec![u64::MAX; room];
+        let read = records::read(&bytes, &mut buffer);
+        assert!(buffer[read.count..]
+            .iter()
+            .all(|number| *number == u64::MAX));
+        let reported = [read.number.into(), read.count as u64, read.used as u64];
+        join(reported.iter().chain(&buffer[..read.count]))
+    })
+}
+
+/// `ROOM numbers..` to `number written HEX`.
+pub fn write(lines: &str) -> String {
+    answer_each(lines, |line| {
+        let mut words = line.split_whitespace();
+        let room = words.next().and_then(|word| word.parse().ok());
+        let numbers: Vec<u64> = words.map(|word| word.parse().expect("a number")).collect();
+        let mut buffer = vec![UNTOUCHED; room.expect("a room")];
+        let written = records::write(&numbers, &mut buffer);
+        assert!(buffer[written.written..]
+            .iter()
+            .all(|byte| *byte == UNTOUCHED));
+        let record = to_hex(&buffer[..written.written]);
+        format!("{} {} {record}", written.number, written.written)
+    })
+}
+
+fn answer_each(lines: &str, answer: impl FnMut(&str) -> String) -> String {
+    let answers: Vec<String> = lines.lines().map(answer).collect();
+    answers.iter().map(|answer| format!("{answer}\n")).collect()
+}
+
+fn bytes_and_room(line: &str) -> (Vec<u8>, usize) {
+    let (hex, room) = line.split_once(' ').expect("bytes and a room");
+    (from_hex(hex), room.parse().expect("a room"))
+}
+
+/// Numbers with a blank between them.
+pub fn join<'a>(numbers: impl Iterator<Item = &'a u64>) -> String {
+    let words: Vec<String> = numbers.map(u64::to_string).collect();
+    words.join(" ")
+}
+
+/// Bytes in hexadecimal, `-` for none.
+pub fn to_hex(bytes: &[u8]) -> String {
+    if bytes.is_empty() {
+        return "-".to_string();
+    }
+    bytes.iter().map(|byte| format!("{byte:02x}")).collect()
+}
+
+fn from_hex(hex: &str) -> Vec<u8> {
+    let digits = if hex == "-" { "" } else { hex };
+    (0..digits.len())
+        .step_by(2)
+        .map(|at| u8::from_str_radix(&digits[at..at + 2], 16).expect("hexadecimal"))
+        .collect()
+}
