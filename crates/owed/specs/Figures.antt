@@ -3,6 +3,7 @@ use Prim.Native.Nat.{ℕ}
 use mathlib.Core.List.{List, [], _∷_}
 use mathlib.Core.Bool.{true}
 use mathlib.Core.Path.{_≡_, refl}
+use lib.Dec.{eqb}
 use Rattle.ids.specs.Ids.{at, sumTo}
 use Rattle.units.specs.Units.{convert}
 use Rattle.calendar.specs.Calendar.{limited, annual, offPeak, due}
@@ -11,7 +12,7 @@ use Rattle.year.specs.declared.Listing.{Listing}
 use Rattle.year.specs.declared.Event.{Event}
 use Rattle.year.specs.declared.Terms.{Terms}
 use Rattle.year.specs.Year.{listed, reduction, deficit, seller, committed, rate}
-use Rattle.owed.specs.Owed.{calls, uncapped, raised, unforced, part, total, shortfall, shortOf, u, cap, asked, daily, overEvents}
+use Rattle.owed.specs.Owed.{calls, uncapped, raised, unforced, part, total, tested, base, shortfall, shortOf, u, cap, asked, daily, overEvents}
 
 -- Year A, with registration 0 of this product
 abbrev yearA : ℕ → Terms
@@ -71,3 +72,22 @@ deficit-figure = refl
 raised-figures : (raised 5000 ≡ 7000) × (raised 20000 ≡ 24000)
 unfolding raised
 raised-figures = (refl, refl)
+
+-- Year A with both registrations seller 0's
+abbrev pair : Terms
+pair =
+    record {
+      leap = 0;
+      factor = 9500;
+      requirement = 10800;
+      registrations =
+          record { known = true; seller = 0; area = 1; zone = 1; product = limited; committed = record { 0 = 1000 }; rate = 10000 }
+          ∷ record { known = true; seller = 0; area = 1; zone = 1; product = limited; committed = record { 0 = 2000 }; rate = 15000 }
+          ∷ [];
+      obligations = 3000 ∷ 1000 ∷ [];
+    }
+
+-- a test of both, of which an event lists the second: B is the first's rate, 10,000. Over all entries it would be 13,333.
+base-figure : base pair (λ i. eqb i 1) (record { taken = true; month = 1; listing = both 600 0 }) 0 ≡ 10000
+unfolding sumTo listed seller committed rate part total tested base
+base-figure = refl
