@@ -23,12 +23,7 @@ pub record Entered (sums : Sums) (s c q v : ℕ) (r : Sums) : Type 0 where
   pub over : r .over ≡ addedAt (sums .over) s (v - c)
   pub value : r .value ≡ addedAt (sums .value) s (c * q)
 
--- what an entry is at most, and what the sums of a seller with room for it are
-pub record Entry (c q v : ℕ) : Type 0 where
-  pub committed : c ≤ 100000
-  pub rate : q ≤ 100000
-  pub reduction : v ≤ 100000
-
+-- what the sums of a seller with room for an entry are
 pub record Room (sums : Sums) (s : ℕ) : Type 0 where
   pub committed : at (sums .committed) s ≤ 1000000000000
   pub reduction : at (sums .reduction) s ≤ 1000000000000

@@ -18,7 +18,7 @@ pub struct Weights {
 }
 
 // A reduction as a u64: as a function, the cast asks no bound of the element.
-fn wide(x: u32) -> u64
+pub fn wide(x: u32) -> u64
     ensures { λ r. ⌜ r ≡ x ⌝ }
 {
     x as u64

@@ -4,8 +4,9 @@ ghost use Prim.Native.Nat.{_+_, _<_, _^_};
 ghost use lib.ListN.{length};
 ghost use Rattle.ids.specs.Ids.{at, holds, sumTo};
 ghost use Rattle.tallies.specs.Arrays.{added, addedAt, Within, Sellers};
-ghost use Rattle.tallies.specs.Sums.{Summed, Entry, Room, Entered};
+ghost use Rattle.tallies.specs.Sums.{Summed};
 use crate::entries::less;
+use crate::entries::wide;
 
 // Of each seller: committed, given, what its short entries lack, what its over-performing ones give more, and committed × rate.
 pub struct Sums {
@@ -16,37 +17,14 @@ pub struct Sums {
     pub value: [u64; 16],
 }
 
-// The sums with x more at seller s.
-fn added_at(sums: [u64; 16], s: usize, x: u64) -> [u64; 16]
+// x more at seller s.
+fn add_at(sums: &mut [u64; 16], s: usize, x: u64)
     requires { ⌜ s < 16 ⌝ }
-    requires { ⌜ at sums s + x < 2 ^ 64 ⌝ }
-    ensures { λ r. ⌜ r ≡ addedAt sums s x ⌝ }
+    requires { ⌜ at (now sums) s + x < 2 ^ 64 ⌝ }
+    ensures { λ _. ⌜ now (sums .exit) ≡ addedAt (now (sums .entry)) s x ⌝ }
 {
-    let mut r = sums;
-    let sum = r[s];
-    r[s] = sum + x;
-    r
-}
-
-// One more entry of a seller: committed c at rate q, of which v was given.
-fn with_entry(sums: Sums, s: usize, c: u64, v: u64, q: u64) -> Sums
-    requires { ⌜ s < 16 ⌝ }
-    requires { ⌜ Entry c q v ⌝ }
-    requires { ⌜ Room sums s ⌝ }
-    ensures { λ r. ⌜ Entered sums s c q v r ⌝ }
-{
-    let committed = sums.committed;
-    let reduction = sums.reduction;
-    let short = sums.short;
-    let over = sums.over;
-    let value = sums.value;
-    Sums {
-        committed: added_at(committed, s, c),
-        reduction: added_at(reduction, s, v),
-        short: added_at(short, s, less(c, v)),
-        over: added_at(over, s, less(v, c)),
-        value: added_at(value, s, c * q),
-    }
+    let sum = sums[s];
+    sums[s] = sum + x;
 }
 
 // A pass over the entries that are picked.
@@ -63,28 +41,33 @@ pub fn sums_of(
     requires { ⌜ Within 100000 (now reductions) ⌝ }
     ensures { λ r. ⌜ Summed (now (sellers .entry)) (holds (now (picked .entry))) (at (now (committed .entry))) (at (now (rates .entry))) (at (now (reductions .entry))) r ⌝ }
 {
-    let zero = [0u64; 16];
-    let mut sums = Sums {
-        committed: zero,
-        reduction: zero,
-        short: zero,
-        over: zero,
-        value: zero,
-    };
+    let mut all_committed = [0u64; 16];
+    let mut all_reduced = [0u64; 16];
+    let mut short = [0u64; 16];
+    let mut over = [0u64; 16];
+    let mut value = [0u64; 16];
     let mut i: usize = 0;
     while i < 64 {
         if picked[i] {
-            sums = with_entry(
-                sums,
-                sellers[i] as usize,
-                committed[i],
-                reductions[i] as u64,
-                rates[i],
-            );
+            let s = sellers[i] as usize;
+            let c = committed[i];
+            let v = wide(reductions[i]);
+            let q = rates[i];
+            add_at(&mut all_committed, s, c);
+            add_at(&mut all_reduced, s, v);
+            add_at(&mut short, s, less(c, v));
+            add_at(&mut over, s, less(v, c));
+            add_at(&mut value, s, c * q);
         }
         i += 1;
     }
-    sums
+    Sums {
+        committed: all_committed,
+        reduction: all_reduced,
+        short: short,
+        over: over,
+        value: value,
+    }
 }
 
 // The amounts by registration, added to those of their sellers.

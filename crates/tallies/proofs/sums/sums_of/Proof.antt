@@ -1,18 +1,26 @@
 -- `tallies::sums::sums_of` meets its contract: the loop and its turns are those of `Summing`. Assumes nothing.
-use Prim.Native.Nat.{_≤_, _-_}
+use Prim.Native.Nat.{ℕ, _*_, _≤_, _-_}
+use mathlib.Core.List.{List}
 use mathlib.Core.Path.{_≡_}
 use native.Mathlib.Omega.{arith}
+use native.Mathlib.Nat.{mul-le-mul}
 use mathlib.Core.Logic.{⊎-elim}
 use Rattle.ids.specs.Ids.{at, holds}
+use Rattle.tallies.specs.declared.sums.Sums.{Sums}
 use Rattle.tallies.specs.Summing.{Summing, summing-none, summing-skip, summing-room, summing-add, summing-all}
 use Rattle.tallies.proofs.sums.sums_of.Statement.{statement}
 use Rattle.tallies.proofs.sums.sums_of.Tie as tie
 
+abbrev sumsOf : List ℕ → List ℕ → List ℕ → List ℕ → List ℕ → Sums
+sumsOf committed reduction short over value =
+    record { committed = committed; reduction = reduction; short = short; over = over; value = value }
+
 abbrev Inv-loop : tie.InvT-loop
-Inv-loop sellers committed rates picked reductions sums₀ i₀ sums i = (i ≤ 64) × Summing sellers (holds picked) (at committed) (at rates) (at reductions) sums i
+Inv-loop sellers committed rates picked reductions all-committed₀ all-reduced₀ short₀ over₀ value₀ i₀ all-committed all-reduced short over value i =
+    (i ≤ 64) × Summing sellers (holds picked) (at committed) (at rates) (at reductions) (sumsOf all-committed all-reduced short over value) i
 
 abbrev μ-loop : tie.MeasureT-loop
-μ-loop sellers committed rates picked reductions sums₀ i₀ sums i = 64 - i
+μ-loop sellers committed rates picked reductions all-committed₀ all-reduced₀ short₀ over₀ value₀ i₀ all-committed all-reduced short over value i = 64 - i
 
 loop-holds : tie.Need-loop-holds Inv-loop μ-loop
 loop-holds c = (omega arith, summing-none)
@@ -20,39 +28,79 @@ loop-holds c = (omega arith, summing-none)
 element-copy-out-if1 : tie.Need-element-copy-out-if1 Inv-loop μ-loop
 element-copy-out-if1 c = omega arith
 
-mul-with-entry : tie.Need-mul-with-entry Inv-loop μ-loop
-mul-with-entry c = omega arith
+mul-s : tie.Need-mul-s Inv-loop μ-loop
+mul-s c = omega arith
 
-element-copy-out-with-entry : tie.Need-element-copy-out-with-entry Inv-loop μ-loop
-element-copy-out-with-entry c = omega arith
+element-copy-out-s : tie.Need-element-copy-out-s Inv-loop μ-loop
+element-copy-out-s c = omega arith
 
-mul-with-entry-2 : tie.Need-mul-with-entry-2 Inv-loop μ-loop
-mul-with-entry-2 c = omega arith
+mul-c : tie.Need-mul-c Inv-loop μ-loop
+mul-c c = omega arith
 
-element-copy-out-with-entry-2 : tie.Need-element-copy-out-with-entry-2 Inv-loop μ-loop
-element-copy-out-with-entry-2 c = omega arith
+element-copy-out-c : tie.Need-element-copy-out-c Inv-loop μ-loop
+element-copy-out-c c = omega arith
 
-mul-with-entry-3 : tie.Need-mul-with-entry-3 Inv-loop μ-loop
-mul-with-entry-3 c = omega arith
+mul-wide : tie.Need-mul-wide Inv-loop μ-loop
+mul-wide c = omega arith
 
-element-copy-out-with-entry-3 : tie.Need-element-copy-out-with-entry-3 Inv-loop μ-loop
-element-copy-out-with-entry-3 c = omega arith
+element-copy-out-wide : tie.Need-element-copy-out-wide Inv-loop μ-loop
+element-copy-out-wide c = omega arith
 
-cast-with-entry : tie.Need-cast-with-entry Inv-loop μ-loop
-cast-with-entry c = omega (arith, c .before .before .before .before .before .before .before .pre .1 .1 .1 (c .before .before .before .before .before .before .loop .i))
+wide-requires : tie.Need-wide-requires Inv-loop μ-loop
+wide-requires c κs = tt
 
-mul-with-entry-4 : tie.Need-mul-with-entry-4 Inv-loop μ-loop
-mul-with-entry-4 c = omega arith
+mul-q : tie.Need-mul-q Inv-loop μ-loop
+mul-q c = omega arith
 
-element-copy-out-with-entry-4 : tie.Need-element-copy-out-with-entry-4 Inv-loop μ-loop
-element-copy-out-with-entry-4 c = omega arith
+element-copy-out-q : tie.Need-element-copy-out-q Inv-loop μ-loop
+element-copy-out-q c = omega arith
 
-with-entry-requires : tie.Need-with-entry-requires Inv-loop μ-loop
-with-entry-requires c κs =
-    let l = c .before .before .before .before .before .before .before in
-    let pre = c .before .before .before .before .before .before .before .before .pre in
+add-at-requires : tie.Need-add-at-requires Inv-loop μ-loop
+add-at-requires c κs =
+    let l = c .before .before .before .before .before .before .before .before .before in
+    let pre = l .before .pre in
     let i = l .loop .i in
-    (pre .0 i, (record { committed = pre .1 .0 i; rate = pre .1 .1 .0 i; reduction = pre .1 .1 .1 i }, summing-room (l .loop .inv .1) (omega arith) (pre .1 .0) (pre .1 .1 .0) (pre .1 .1 .1) (at (c .before .before .before .before .before .before .before .before .args .sellers .now) i) (pre .0 i)))
+    (pre .0 i, omega (arith, summing-room (l .loop .inv .1) (omega arith) (pre .1 .0) (pre .1 .1 .0) (pre .1 .1 .1) _ (pre .0 i) .committed, pre .1 .0 i))
+
+add-at-requires-2 : tie.Need-add-at-requires-2 Inv-loop μ-loop
+add-at-requires-2 c κs =
+    let l = c .before .before .before .before .before .before .before .before .before .before .before in
+    let pre = l .before .pre in
+    let i = l .loop .i in
+    (pre .0 i, omega (arith, summing-room (l .loop .inv .1) (omega arith) (pre .1 .0) (pre .1 .1 .0) (pre .1 .1 .1) _ (pre .0 i) .reduction, pre .1 .1 .1 i, c .before .before .before .before .wide .ensures))
+
+less-requires : tie.Need-less-requires Inv-loop μ-loop
+less-requires c κs = tt
+
+add-at-requires-3 : tie.Need-add-at-requires-3 Inv-loop μ-loop
+add-at-requires-3 c κs =
+    let l = c .before .before .before .before .before .before .before .before .before .before .before .before .before .before in
+    let pre = l .before .pre in
+    let i = l .loop .i in
+    (pre .0 i, omega (arith, summing-room (l .loop .inv .1) (omega arith) (pre .1 .0) (pre .1 .1 .0) (pre .1 .1 .1) _ (pre .0 i) .short, pre .1 .0 i, c .less .ensures))
+
+less-requires-2 : tie.Need-less-requires-2 Inv-loop μ-loop
+less-requires-2 c κs = tt
+
+add-at-requires-4 : tie.Need-add-at-requires-4 Inv-loop μ-loop
+add-at-requires-4 c κs =
+    let l = c .before .before .before .before .before .before .before .before .before .before .before .before .before .before .before .before .before in
+    let pre = l .before .pre in
+    let i = l .loop .i in
+    (pre .0 i, omega (arith, summing-room (l .loop .inv .1) (omega arith) (pre .1 .0) (pre .1 .1 .0) (pre .1 .1 .1) _ (pre .0 i) .over, pre .1 .1 .1 i, c .before .before .before .before .before .before .before .before .before .before .wide .ensures, c .less2 .ensures))
+
+mul-add-at : tie.Need-mul-add-at Inv-loop μ-loop
+mul-add-at c =
+    let l = c .before .before .before .before .before .before .before .before .before .before .before .before .before .before .before .before .before .before .before in
+    let pre = l .before .pre in
+    omega (arith, mul-le-mul (pre .1 .0 (l .loop .i)) (pre .1 .1 .0 (l .loop .i)))
+
+add-at-requires-5 : tie.Need-add-at-requires-5 Inv-loop μ-loop
+add-at-requires-5 c κs =
+    let l = c .before .before .before .before .before .before .before .before .before .before .before .before .before .before .before .before .before .before .before in
+    let pre = l .before .pre in
+    let i = l .loop .i in
+    (pre .0 i, omega (arith, summing-room (l .loop .inv .1) (omega arith) (pre .1 .0) (pre .1 .1 .0) (pre .1 .1 .1) _ (pre .0 i) .value, mul-le-mul (pre .1 .0 i) (pre .1 .1 .0 i)))
 
 add-i : tie.Need-add-i Inv-loop μ-loop
 add-i c = omega arith
@@ -62,8 +110,12 @@ loop-less c = omega arith
 
 loop-again : tie.Need-loop-again Inv-loop μ-loop
 loop-again c =
-    let h = c .before .before .before .loop .inv .1 in
-    (omega arith, ⊎-elim (λ w. rw (w .6) (summing-add h (w .0 .taken) (c .before .before .before .before .pre .0 (c .before .before .before .loop .i)) (w .5 .ensures))) (λ w. rw (w .1) (summing-skip h (w .0 .left))) (c .if1 .came))
+    let h = c .before .before .before .loop .inv .1 in (
+      omega arith,
+      ⊎-elim (λ w.
+          rw (w .18, w .19, w .20, w .21, w .22) (summing-add h (w .0 .taken) (c .before .before .before .before .pre .0 (c .before .before .before .loop .i))
+          (record { committed = w .7 .ensures; reduction = rw (w .4 .ensures) at (w .9 .ensures); short = rw (w .11 .ensures, w .4 .ensures) at (w .12 .ensures); over = rw (w .14 .ensures, w .4 .ensures) at (w .15 .ensures); value = w .17 .ensures }))) (λ w. rw (w .1, w .2, w .3, w .4, w .5) (summing-skip h (w .0 .left))) (c .if1 .came),
+    )
 
 returns : tie.Need-returns Inv-loop μ-loop
 returns c =
@@ -78,16 +130,23 @@ sums-of-spec =
     μ-loop
     loop-holds
     element-copy-out-if1
-    mul-with-entry
-    element-copy-out-with-entry
-    mul-with-entry-2
-    element-copy-out-with-entry-2
-    mul-with-entry-3
-    element-copy-out-with-entry-3
-    cast-with-entry
-    mul-with-entry-4
-    element-copy-out-with-entry-4
-    with-entry-requires
+    mul-s
+    element-copy-out-s
+    mul-c
+    element-copy-out-c
+    mul-wide
+    element-copy-out-wide
+    wide-requires
+    mul-q
+    element-copy-out-q
+    add-at-requires
+    add-at-requires-2
+    less-requires
+    add-at-requires-3
+    less-requires-2
+    add-at-requires-4
+    mul-add-at
+    add-at-requires-5
     add-i
     loop-less
     loop-again
