@@ -111,15 +111,20 @@ module _ {T : Terms} (s : SoundTerms T) (k : ℕ) (now before : Amounts) where
       let b : AllProper B = proper-lines (lses T) q (lseFields now before) (λ j b. (id-proper j (omega arith), (amount-proper _ _, tt))) in
       (id-proper k l, (count-proper sellers p (omega arith), (count-proper (lses T) q (omega arith), proper-append A B a b)))
 
-  pub statement-bits : bitsIn (statementFields T k now before) ≤ 2830
+  -- a month of 4 bits and two counts of 5, and the lines
+  pub bits-counted : bitsIn (statementFields T k now before) ≡ 14 + 130 * countTo sellers (hasRegistration T) + 46 * countTo (lses T) (hasObligation T)
   unfolding statementFields
-  statement-bits =
-      let m = lses-is s in
+  bits-counted =
       let p = hasRegistration T in
       let q = hasObligation T in
       let A = linesTo sellers p (sellerFields now before) in
       let B = linesTo (lses T) q (lseFields now before) in
-      omega (arith, bits-append A B, seller-lines-bits now before p sellers, lse-lines-bits now before q (lses T), count-most sellers p, count-most (lses T) q)
+      omega (arith, bits-append A B, seller-lines-bits now before p sellers, lse-lines-bits now before q (lses T))
+
+  pub statement-bits : bitsIn (statementFields T k now before) ≤ 2830
+  statement-bits =
+      let m = lses-is s in
+      omega (arith, bits-counted, count-most sellers (hasRegistration T), count-most (lses T) (hasObligation T))
 
   pub statement-length : length (statementOf T k now before) ≡ bytesFor (bitsIn (statementFields T k now before))
   unfolding statementOf

@@ -1,9 +1,10 @@
 // A close's statement: its lines, and their bits.
 ghost use mathlib.Core.Path.{_≡_};
 ghost use mathlib.Core.List.{[], _∷_, _++_};
-ghost use Prim.Native.Nat.{_^_, _≤_, _<_};
+ghost use Prim.Native.Nat.{ℕ, _^_, _≤_, _<_};
 ghost use lib.ListN.{length, drop};
 ghost use Rattle.ids.specs.Ids.{holds};
+ghost use Rattle.year.specs.declared.Amounts.{Amounts};
 ghost use Rattle.year.specs.Sound.{SoundTerms, SoundAmounts};
 ghost use Rattle.statement.specs.Statement.{countTo, difference, hasRegistration, hasObligation, sellerFields, lseFields, linesTo, statementFields, statementOf};
 ghost use Rattle.statement.specs.Code.{Marks, listed, Room, Extended};
@@ -168,6 +169,16 @@ fn fields_of(terms: Terms, month: u64, owed: Amounts, billed: Amounts) -> Fields
     let c = with_field(b, 5, count(lses));
     let d = with_sellers(c, sellers, owed, billed);
     with_lses(d, lses, owed, billed)
+}
+
+// The bytes of a statement: its lines are by the terms alone.
+pub fn size_of(terms: Terms) -> usize
+    requires { ⌜ SoundTerms terms ⌝ }
+    ensures { λ r. ⌜ ((month : ℕ) (owed billed : Amounts) → r ≡ length (statementOf terms month owed billed)) ⌝ }
+{
+    let sellers = count(present(terms)) as usize;
+    let lses = count(obliged(terms)) as usize;
+    (14 + 130 * sellers + 46 * lses + 7) / 8
 }
 
 // The statement's bits, at the start of a buffer that has room for the largest.

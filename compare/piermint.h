@@ -1,0 +1,64 @@
+/*
+ * The settlement engine for C: libpiermint.a, for x86-64 Linux.
+ *
+ * Every content of the slices is answered; nothing is allocated, and nothing is kept after a call.
+ * A slice is a pointer and a length in elements. What a call owes, and the library does not test:
+ *
+ * - each pointer is not null, also where the length is 0, and is aligned for its type;
+ * - behind it lie that many elements, all of them initialised, below 2^63 bytes in all;
+ * - what a pointer without const points to overlaps nothing else that the call is given;
+ * - during the call no other thread writes what it is given, or reads what it writes;
+ * - 256 KB of stack are free.
+ *
+ * A number is 0 where a record is accepted, and 1 to 16 where it is refused: the first question
+ * that fails (the README's "The sixteen numbers").
+ */
+#ifndef PIERMINT_H
+#define PIERMINT_H
+
+#include <stddef.h>
+#include <stdint.h>
+
+/* The most numbers of a record, the most bytes of a statement, and the most closes of a book. */
+#define PIERMINT_NUMBERS 166
+#define PIERMINT_STATEMENT 354
+#define PIERMINT_CLOSES 15
+
+#ifdef __cplusplus
+extern "C" {
+#endif
+
+/*
+ * Reads the record at the front of bytes. Accepted, its numbers go to the front of numbers in
+ * layout order, *count is how many they are, and *used how many bytes the record takes. Refused,
+ * both are 0, and numbers is as it was. With room for fewer than PIERMINT_NUMBERS it answers 16.
+ */
+uint64_t piermint_read(const uint8_t *bytes, size_t bytes_length, uint64_t *numbers,
+                       size_t numbers_length, size_t *count, size_t *used);
+
+/*
+ * Writes the record with these numbers to the front of bytes. *used is how many bytes it takes;
+ * refused it is 0, and bytes is as it was. With too little room it answers 16.
+ */
+uint64_t piermint_write(const uint64_t *numbers, size_t numbers_length, uint8_t *bytes,
+                        size_t bytes_length, size_t *used);
+
+/*
+ * Bills a record file from a new book, and answers how many records it took. It ends at the end
+ * of records, after a number 1 or 2, or when numbers is full.
+ *
+ * numbers[i] is the number of record i; *used is how many bytes of records were consumed. The
+ * statements of the accepted closes stand in statements one after another, *written bytes in all.
+ * A close with fewer than PIERMINT_STATEMENT bytes left there is refused with 16;
+ * PIERMINT_CLOSES * PIERMINT_STATEMENT bytes are always enough. What lies past the result in
+ * numbers and past *written in statements is as it was.
+ */
+size_t piermint_bill(const uint8_t *records, size_t records_length, uint64_t *numbers,
+                     size_t numbers_length, uint8_t *statements, size_t statements_length,
+                     size_t *used, size_t *written);
+
+#ifdef __cplusplus
+}
+#endif
+
+#endif

@@ -1,0 +1,130 @@
+/*
+ * Calls the static library on document 01's Year A, and on its edges:
+ *
+ *     cc -std=c99 -Icompare compare/tests/piermint.c target/staticlib/libpiermint.a -o target/piermint
+ *     target/piermint examples/year-a.bin
+ */
+#include "piermint.h"
+
+#include <stdio.h>
+#include <string.h>
+
+#define ROOM (PIERMINT_CLOSES * PIERMINT_STATEMENT)
+#define MARK 0xA5
+
+static int failures = 0;
+
+static void expect(int holds, const char *what)
+{
+    if (!holds) {
+        printf("failed: %s\n", what);
+        failures++;
+    }
+}
+
+/* The field of so many bits at a bit of a statement; the bit moves past it. */
+static uint64_t field(const uint8_t *bytes, size_t *bit, int width)
+{
+    uint64_t value = 0;
+    for (; width > 0; width--, (*bit)++)
+        value = value << 1 | (bytes[*bit / 8] >> (7 - *bit % 8) & 1);
+    return value;
+}
+
+/* The opening of Year A: 14 A3 95 18 00 is kind 1, not leap, factors 9,500 and 10,800. */
+static void reads_and_writes(void)
+{
+    static const uint8_t opening[] = {0x14, 0xA3, 0x95, 0x18, 0x00, 0xFF};
+    static const uint64_t expected[] = {1, 0, 9500, 10800};
+    uint64_t numbers[PIERMINT_NUMBERS];
+    uint8_t bytes[8];
+    size_t count = 99, used = 99;
+
+    memset(numbers, MARK, sizeof numbers);
+    expect(piermint_read(opening, sizeof opening, numbers, PIERMINT_NUMBERS, &count, &used) == 0, "the opening is read");
+    expect(count == 4 && used == 5, "it has four numbers and five bytes");
+    expect(memcmp(numbers, expected, sizeof expected) == 0, "its numbers");
+    expect(numbers[4] == UINT64_C(0xA5A5A5A5A5A5A5A5), "past them nothing is read");
+
+    memset(bytes, MARK, sizeof bytes);
+    expect(piermint_write(numbers, count, bytes, sizeof bytes, &used) == 0, "it is written");
+    expect(used == 5 && memcmp(bytes, opening, used) == 0, "as it was");
+    expect(bytes[5] == MARK, "past it nothing is written");
+
+    expect(piermint_read(opening, 4, numbers, PIERMINT_NUMBERS, &count, &used) == 2, "cut off: 2");
+    expect(count == 0 && used == 0, "a refusal counts nothing");
+    expect(piermint_read(opening, 5, numbers, PIERMINT_NUMBERS - 1, &count, &used) == 16, "no room for numbers: 16");
+    expect(piermint_read(opening, 0, numbers, PIERMINT_NUMBERS, &count, &used) == 1, "no byte: 1");
+    expect(piermint_write(expected, 3, bytes, sizeof bytes, &used) == 3 && used == 0, "a number short: 3");
+    expect(piermint_write(expected, 4, bytes, 4, &used) == 16 && used == 0, "no room for bytes: 16");
+}
+
+/* The statement of Year A's close 1: S 0 0 147600 0, S 1 0 0 0, L 0 110700, L 1 36900. */
+static void says_close_1(const uint8_t *statement)
+{
+    static const struct {
+        int width;
+        uint64_t value;
+    } fields[] = {
+        {4, 1}, {5, 2}, {5, 2},
+        {4, 0}, {42, 0}, {42, 147600}, {42, 0},
+        {4, 1}, {42, 0}, {42, 0}, {42, 0},
+        {4, 0}, {42, 110700}, {4, 1}, {42, 36900}, {2, 0},
+    };
+    size_t bit = 0;
+    for (size_t i = 0; i < sizeof fields / sizeof fields[0]; i++)
+        expect(field(statement, &bit, fields[i].width) == fields[i].value, "a field of close 1");
+}
+
+/* Eight records: an opening, two registrations, two LSEs, a test, close 1 and close 1 again. */
+static void bills(uint8_t *year, size_t length)
+{
+    static const uint64_t expected[] = {0, 0, 0, 0, 0, 0, 0, 15};
+    static const uint8_t none[] = {0x00};
+    uint64_t numbers[16];
+    uint8_t statements[ROOM];
+    size_t used = 99, written = 99;
+
+    memset(numbers, MARK, sizeof numbers);
+    memset(statements, MARK, sizeof statements);
+    expect(piermint_bill(year, length, numbers, 16, statements, ROOM, &used, &written) == 8, "eight records");
+    expect(used == length && written == 46, "all is used, and a statement of 46 bytes written");
+    expect(memcmp(numbers, expected, sizeof expected) == 0, "their numbers");
+    expect(numbers[8] == UINT64_C(0xA5A5A5A5A5A5A5A5), "past them no number");
+    expect(statements[46] == MARK && statements[ROOM - 1] == MARK, "past the statement nothing");
+    says_close_1(statements);
+
+    year[length] = 0x62;
+    expect(piermint_bill(year, length + 1, numbers, 16, statements, ROOM, &used, &written) == 9, "and close 2");
+    expect(numbers[8] == 0 && used == length + 1 && written == 92, "a second statement");
+    says_close_1(statements);
+    expect(statements[46] >> 4 == 2, "of month 2, right behind the first");
+
+    expect(piermint_bill(year, length, numbers, 3, statements, ROOM, &used, &written) == 3, "room for three numbers");
+    expect(used == 19 && written == 0, "the opening and two registrations");
+    expect(piermint_bill(year, length, numbers, 16, statements, PIERMINT_STATEMENT - 1, &used, &written) == 8, "no room for a statement");
+    expect(numbers[6] == 16 && written == 0, "refuses the close: 16");
+    expect(piermint_bill(year, length - 3, numbers, 16, statements, ROOM, &used, &written) == 6, "a test cut off");
+    expect(numbers[5] == 2 && used == 27, "ends the file: 2");
+    expect(piermint_bill(none, 1, numbers, 16, statements, ROOM, &used, &written) == 1, "no kind");
+    expect(numbers[0] == 1 && used == 0 && written == 0, "ends the file: 1");
+    expect(piermint_bill(none, 0, numbers, 16, statements, ROOM, &used, &written) == 0, "no record");
+    expect(used == 0 && written == 0, "uses nothing");
+}
+
+int main(int argc, char **argv)
+{
+    uint8_t year[1024];
+    FILE *file = argc == 2 ? fopen(argv[1], "rb") : NULL;
+    if (file == NULL) {
+        fprintf(stderr, "usage: piermint YEAR-A\n");
+        return 2;
+    }
+    size_t length = fread(year, 1, sizeof year - 1, file);
+    fclose(file);
+
+    reads_and_writes();
+    bills(year, length);
+    printf("%s\n", failures == 0 ? "the static library answers as document 01 says" : "the static library differs");
+    return failures != 0;
+}

@@ -1,0 +1,2 @@
+-- The bill of a record file.
+pub mod Billed
