@@ -1,55 +1,88 @@
-//! The bill program: a record file taken into one book, and the lines it prints.
+//! Billing a record file from a new book: into lent slices, and as the bill program prints it.
 
 use std::fmt::Write;
 
-use crate::book::{Answer, Book};
+use crate::book::{Book, Taken};
 use crate::statement;
 
-/// The answers to the records of a file, up to its end or number 1 or 2.
-pub fn take_all(bytes: &[u8]) -> Vec<Answer> {
+/// What billing a file reports: records answered, bytes consumed, bytes of statements written.
+#[derive(Clone, Copy, Debug, Default, PartialEq, Eq)]
+pub struct Billed {
+    pub records: usize,
+    pub used: usize,
+    pub written: usize,
+}
+
+/// Bills up to the file's end, a number 1 or 2, or as many records as there are lent numbers.
+/// The statements stand one after another, tightly.
+pub fn bill(file: &[u8], numbers: &mut [u64], statements: &mut [u8]) -> Billed {
     let mut book = Book::new();
-    let mut rest = bytes;
-    let mut answers = Vec::new();
-    while !rest.is_empty() {
-        let answer = book.answer(rest, statement::MOST_BYTES);
-        rest = if answer.consumed == 0 {
-            &[]
-        } else {
-            &rest[answer.consumed..]
-        };
-        answers.push(answer);
+    let mut billed = Billed::default();
+    for number in numbers {
+        let rest = &file[billed.used..];
+        if rest.is_empty() {
+            break;
+        }
+        let taken = book.take(rest, &mut statements[billed.written..]);
+        *number = taken.number;
+        billed.records += 1;
+        billed.used += taken.consumed;
+        billed.written += taken.written;
+        if taken.consumed == 0 {
+            break;
+        }
     }
-    answers
+    billed
+}
+
+/// Takes the records of a file up to its end or number 1 or 2; hands on each answer and statement.
+pub fn take_each(file: &[u8], mut receive: impl FnMut(Taken, &[u8])) {
+    let mut book = Book::new();
+    let mut buffer = [0; statement::MOST_BYTES];
+    let mut rest = file;
+    while !rest.is_empty() {
+        let taken = book.take(rest, &mut buffer);
+        receive(taken, &buffer[..taken.written]);
+        rest = match taken.consumed {
+            0 => &[],
+            consumed => &rest[consumed..],
+        };
+    }
 }
 
 /// The text that the bill program prints for a record file.
-pub fn bill_file(bytes: &[u8]) -> Vec<u8> {
+pub fn bill_file(file: &[u8]) -> Vec<u8> {
     let mut text = String::new();
-    for (answer, position) in take_all(bytes).iter().zip(1..) {
-        print(&mut text, answer, position).expect("a string takes all text");
-    }
+    let mut position = 0;
+    take_each(file, |taken, statement| {
+        position += 1;
+        print(&mut text, position, taken, statement).expect("a string takes all text");
+    });
     text.into_bytes()
 }
 
-fn print(text: &mut String, answer: &Answer, position: usize) -> std::fmt::Result {
-    if answer.number != 0 {
-        writeln!(text, "N {position} {}", answer.number)
-    } else if answer.statement.is_empty() {
+fn print(text: &mut String, position: usize, taken: Taken, statement: &[u8]) -> std::fmt::Result {
+    if taken.number != 0 {
+        writeln!(text, "N {position} {}", taken.number)
+    } else if statement.is_empty() {
         Ok(())
     } else {
-        print_statement(text, &answer.statement)
+        print_statement(text, statement)
     }
 }
 
 fn print_statement(text: &mut String, statement: &[u8]) -> std::fmt::Result {
     let (month, owed) = statement::decode(statement);
     writeln!(text, "M {month}")?;
-    for (seller, amounts) in owed.sellers {
-        let (compliance, test, credit) = (amounts.compliance, amounts.test, amounts.credit);
-        writeln!(text, "S {seller} {compliance} {test} {credit}")?;
+    for (seller, amounts) in owed.sellers.iter().enumerate() {
+        if let Some(a) = amounts {
+            writeln!(text, "S {seller} {} {} {}", a.compliance, a.test, a.credit)?;
+        }
     }
-    for (lse, credit) in owed.lses {
-        writeln!(text, "L {lse} {credit}")?;
+    for (lse, credit) in owed.lses.iter().enumerate() {
+        if let Some(credit) = credit {
+            writeln!(text, "L {lse} {credit}")?;
+        }
     }
     Ok(())
 }

@@ -1,4 +1,21 @@
-//! Fields bit by bit, most significant first.
+//! Fields bit by bit, most significant first, through words of 64 bits.
+
+/// The eight bytes from the first on as a number; zeros stand for bytes past the end.
+#[inline]
+pub fn first_word(bytes: &[u8]) -> u64 {
+    match bytes.first_chunk() {
+        Some(eight) => u64::from_be_bytes(*eight),
+        None => bytes.iter().zip(0..8).fold(0, |word, (byte, at)| {
+            word | u64::from(*byte) << (56 - 8 * at)
+        }),
+    }
+}
+
+/// The `width` bits, 1 to 57, from a position on.
+#[inline]
+pub fn bits_at(bytes: &[u8], position: usize, width: u32) -> u64 {
+    first_word(&bytes[position / 8..]) << (position % 8) >> (64 - width)
+}
 
 /// Reads fields one after another.
 pub struct BitReader<'a> {
@@ -11,9 +28,11 @@ impl<'a> BitReader<'a> {
         BitReader { bytes, position: 0 }
     }
 
-    /// The next `width` bits as a number.
+    /// The next `width` bits, 1 to 57, as a number.
     pub fn take(&mut self, width: u32) -> u64 {
-        (0..width).fold(0, |number, _| number << 1 | self.bit())
+        let number = bits_at(self.bytes, self.position, width);
+        self.position += width as usize;
+        number
     }
 
     /// The next `width` bits as a two's complement number.
@@ -21,39 +40,51 @@ impl<'a> BitReader<'a> {
         let unused = 64 - width;
         (self.take(width) << unused) as i64 >> unused
     }
+}
 
-    fn bit(&mut self) -> u64 {
-        let byte = self.bytes[self.position / 8];
-        let bit = byte >> (7 - self.position % 8) & 1;
-        self.position += 1;
-        bit.into()
+/// Places fields one after another into lent bytes, which must have room for them.
+pub struct BitWriter<'a> {
+    bytes: &'a mut [u8],
+    written: usize,
+    /// The bits not yet written, the first on top, and how many more it takes.
+    word: u64,
+    free: u32,
+}
+
+impl<'a> BitWriter<'a> {
+    pub fn new(bytes: &'a mut [u8]) -> Self {
+        BitWriter {
+            bytes,
+            written: 0,
+            word: 0,
+            free: 64,
+        }
     }
-}
 
-/// Gathers fields into bytes; zero bits fill the last byte.
-#[derive(Default)]
-pub struct BitWriter {
-    bytes: Vec<u8>,
-    position: usize,
-}
-
-impl BitWriter {
-    /// Places the lowest `width` bits of the number.
+    /// Places the lowest `width` bits, 1 to 63, of the number.
     pub fn put(&mut self, number: u64, width: u32) {
-        for place in (0..width).rev() {
-            self.bit((number >> place & 1) as u8);
+        let number = number & (u64::MAX >> (64 - width));
+        if width <= self.free {
+            self.free -= width;
+            self.word |= number << self.free;
+        } else {
+            let over = width - self.free;
+            self.word |= number >> over;
+            self.write(8);
+            self.free = 64 - over;
+            self.word = number << self.free;
         }
     }
 
-    pub fn into_bytes(self) -> Vec<u8> {
-        self.bytes
+    /// Writes what is left, zero bits filling the last byte; gives the bytes written in all.
+    pub fn finish(mut self) -> usize {
+        self.write((64 - self.free).div_ceil(8) as usize);
+        self.written
     }
 
-    fn bit(&mut self, bit: u8) {
-        if self.position.is_multiple_of(8) {
-            self.bytes.push(0);
-        }
-        self.bytes[self.position / 8] |= bit << (7 - self.position % 8);
-        self.position += 1;
+    fn write(&mut self, count: usize) {
+        let end = self.written + count;
+        self.bytes[self.written..end].copy_from_slice(&self.word.to_be_bytes()[..count]);
+        self.written = end;
     }
 }

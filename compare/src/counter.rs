@@ -1,15 +1,14 @@
 //! Questions 6 to 16 at the counter; a "no" gives the number.
 
-use crate::book::Year;
-use crate::records::{Deficit, Entry, Event, Lse, Product, Record, Registration, Test};
+use crate::book::{Year, MOST_EVENTS};
+use crate::records::{Entry, Event, Lists, Lse, Product, Record, Registration, Test, SELLERS};
 use crate::statement;
 
-const MOST_EVENTS: usize = 16;
-const LAST_CLOSE: u64 = 15;
+const LAST_CLOSE: u8 = 15;
 
-type Asked = Result<(), u8>;
+type Asked = Result<(), u64>;
 
-fn ask(yes: bool, number: u8) -> Asked {
+fn ask(yes: bool, number: u64) -> Asked {
     if yes {
         Ok(())
     } else {
@@ -22,7 +21,7 @@ pub fn ask_all(year: Option<&Year>, record: &Record, room: usize) -> Asked {
     if let Record::Opening(_) = record {
         return ask(year.is_none(), 6);
     }
-    let year = year.filter(|year| year.closed < LAST_CLOSE).ok_or(6)?;
+    let year = year.filter(|year| year.closed < LAST_CLOSE).ok_or(6_u64)?;
     match record {
         Record::Opening(_) => Ok(()),
         Record::Registration(registration) => ask_registration(year, registration),
@@ -35,19 +34,20 @@ pub fn ask_all(year: Option<&Year>, record: &Record, room: usize) -> Asked {
 
 fn ask_registration(year: &Year, registration: &Registration) -> Asked {
     ask(is_unused(year), 7)?;
-    ask(!year.registrations.contains_key(&registration.id), 9)
+    let slot = &year.registrations[usize::from(registration.id)];
+    ask(slot.is_none(), 9)
 }
 
 fn ask_lse(year: &Year, lse: &Lse) -> Asked {
     ask(is_unused(year), 7)?;
-    ask(!year.lses.contains_key(&lse.id), 9)
+    ask(year.lses[usize::from(lse.id)].is_none(), 9)
 }
 
 fn ask_event(year: &Year, event: &Event) -> Asked {
     ask(has_parties(year), 8)?;
     ask(
-        all_known(year, &event.entries, |r| r.area == event.area)
-            && deficits_have_entries(year, &event.deficits, &event.entries),
+        all_known(year, event.lists.entries(), |r| r.area == event.area)
+            && deficits_have_entries(year, &event.lists),
         10,
     )?;
     ask(is_event_in_time(year, event), 11)?;
@@ -58,8 +58,7 @@ fn ask_test(year: &Year, test: &Test) -> Asked {
     let tests = |r: &Registration| (r.zone, r.product) == (test.zone, test.product);
     ask(has_parties(year), 8)?;
     ask(
-        all_known(year, &test.entries, tests)
-            && deficits_have_entries(year, &test.deficits, &test.entries),
+        all_known(year, test.lists.entries(), tests) && deficits_have_entries(year, &test.lists),
         10,
     )?;
     ask(is_test_in_time(year, test), 11)?;
@@ -72,7 +71,7 @@ fn ask_test(year: &Year, test: &Test) -> Asked {
     ask(lists_exactly_the_uncalled(year, test, tests), 14)
 }
 
-fn ask_close(year: &Year, month: u64, room: usize) -> Asked {
+fn ask_close(year: &Year, month: u8, room: usize) -> Asked {
     ask(has_parties(year), 8)?;
     ask(month == year.closed + 1, 15)?;
     ask(room >= statement::MOST_BYTES, 16)
@@ -83,29 +82,29 @@ fn is_unused(year: &Year) -> bool {
 }
 
 fn has_parties(year: &Year) -> bool {
-    !year.registrations.is_empty() && !year.lses.is_empty()
+    year.registrations.iter().any(Option::is_some) && year.lses.iter().any(Option::is_some)
 }
 
 fn all_known(year: &Year, entries: &[Entry], belongs: impl Fn(&Registration) -> bool) -> bool {
     entries.iter().all(|entry| {
-        year.registrations
-            .get(&entry.registration)
-            .is_some_and(&belongs)
+        let registration = &year.registrations[usize::from(entry.registration)];
+        registration.as_ref().is_some_and(&belongs)
     })
 }
 
-fn deficits_have_entries(year: &Year, deficits: &[Deficit], entries: &[Entry]) -> bool {
-    deficits.iter().all(|deficit| {
-        entries
-            .iter()
-            .any(|entry| year.registrations[&entry.registration].seller == deficit.seller)
-    })
+fn deficits_have_entries(year: &Year, lists: &Lists) -> bool {
+    let mut has_entry = [false; SELLERS];
+    for entry in lists.entries() {
+        has_entry[usize::from(year.registration(entry).seller)] = true;
+    }
+    let mut sellers = lists.deficits.iter().zip(has_entry);
+    sellers.all(|(deficit, has_entry)| *deficit == 0 || has_entry)
 }
 
 fn is_event_in_time(year: &Year, event: &Event) -> bool {
     event_month_is_open(event.month, year.closed)
-        && event.entries.iter().all(|entry| {
-            let product = year.registrations[&entry.registration].product;
+        && event.lists.entries().iter().all(|entry| {
+            let product = year.registration(entry).product;
             may_be_called(product, event.month, event.off_peak)
         })
 }
@@ -115,11 +114,11 @@ fn is_test_in_time(year: &Year, test: &Test) -> bool {
 }
 
 /// With z months closed, may an event of this month still come?
-pub fn event_month_is_open(month: u64, z: u64) -> bool {
+pub fn event_month_is_open(month: u8, z: u8) -> bool {
     month <= z + 1 && z < (month + 3).max(5)
 }
 
-pub fn may_be_called(product: Product, month: u64, off_peak: bool) -> bool {
+pub fn may_be_called(product: Product, month: u8, off_peak: bool) -> bool {
     match product {
         Product::Limited => month <= 4 && !off_peak,
         Product::ExtendedSummer => month <= 5 || month == 12,
@@ -127,7 +126,7 @@ pub fn may_be_called(product: Product, month: u64, off_peak: bool) -> bool {
     }
 }
 
-pub fn may_be_tested(product: Product, month: u64) -> bool {
+pub fn may_be_tested(product: Product, month: u8) -> bool {
     match product {
         Product::Limited => month <= 4,
         Product::ExtendedSummer | Product::Annual => month <= 5 || month == 12,
@@ -139,11 +138,11 @@ fn lists_exactly_the_uncalled(
     test: &Test,
     tests: impl Fn(&Registration) -> bool,
 ) -> bool {
-    let called = year.called();
     let uncalled = year
         .registrations
-        .values()
-        .filter(|r| tests(r) && !called.contains(&r.id))
+        .iter()
+        .flatten()
+        .filter(|r| tests(r) && !year.is_called[usize::from(r.id)])
         .map(|r| r.id);
-    uncalled.eq(test.entries.iter().map(|entry| entry.registration))
+    uncalled.eq(test.lists.entries().iter().map(|entry| entry.registration))
 }

@@ -1,8 +1,6 @@
 //! Calls and answers as lines of text, as the published vectors have them.
 
-use crate::book::Book;
-use crate::records;
-use crate::statement;
+use crate::{Book, Read, Written};
 
 /// Fills lent buffers beforehand, to show what a call leaves untouched.
 const UNTOUCHED: u8 = 0xA5;
@@ -14,14 +12,9 @@ pub fn take(lines: &str) -> String {
         let (bytes, room) = bytes_and_room(line);
         let mut buffer = vec![UNTOUCHED; room];
         let taken = book.take(&bytes, &mut buffer);
-        let is_close = taken.number == 0 && bytes[0] >> 4 == 6;
-        let length = if is_close {
-            statement::length(&buffer)
-        } else {
-            0
-        };
-        assert!(buffer[length..].iter().all(|byte| *byte == UNTOUCHED));
-        let statement = to_hex(&buffer[..length]);
+        let (statement, rest) = buffer.split_at(taken.written);
+        assert!(rest.iter().all(|byte| *byte == UNTOUCHED));
+        let statement = to_hex(statement);
         format!("{} {} {statement}", taken.number, taken.consumed)
     })
 }
@@ -31,12 +24,14 @@ pub fn read(lines: &str) -> String {
     answer_each(lines, |line| {
         let (bytes, room) = bytes_and_room(line);
         let mut buffer = vec![u64::MAX; room];
-        let read = records::read(&bytes, &mut buffer);
-        assert!(buffer[read.count..]
-            .iter()
-            .all(|number| *number == u64::MAX));
-        let reported = [read.number.into(), read.count as u64, read.used as u64];
-        join(reported.iter().chain(&buffer[..read.count]))
+        let Read {
+            number,
+            count,
+            used,
+        } = crate::read(&bytes, &mut buffer);
+        let (numbers, rest) = buffer.split_at(count);
+        assert!(rest.iter().all(|number| *number == u64::MAX));
+        join([number, count as u64, used as u64].iter().chain(numbers))
     })
 }
 
@@ -47,12 +42,10 @@ pub fn write(lines: &str) -> String {
         let room = words.next().and_then(|word| word.parse().ok());
         let numbers: Vec<u64> = words.map(|word| word.parse().expect("a number")).collect();
         let mut buffer = vec![UNTOUCHED; room.expect("a room")];
-        let written = records::write(&numbers, &mut buffer);
-        assert!(buffer[written.written..]
-            .iter()
-            .all(|byte| *byte == UNTOUCHED));
-        let record = to_hex(&buffer[..written.written]);
-        format!("{} {} {record}", written.number, written.written)
+        let Written { number, used } = crate::write(&numbers, &mut buffer);
+        let (record, rest) = buffer.split_at(used);
+        assert!(rest.iter().all(|byte| *byte == UNTOUCHED));
+        format!("{number} {used} {}", to_hex(record))
     })
 }
 

@@ -2,89 +2,90 @@
 
 use std::collections::BTreeSet;
 
+use crate::book::MOST_EVENTS;
 use crate::counter::{event_month_is_open, may_be_called, may_be_tested};
+use crate::parties::{
+    opening_and_parties, registrations_of_all_zones, registrations_of_few_places,
+    zones_and_products,
+};
 use crate::random::Random;
 use crate::records::{registration, Product, Registration};
 
 /// A record as its numbers in layout order.
 pub type Numbers = Vec<u64>;
 
-const CLOSES: u64 = 15;
+const CLOSES: u8 = 15;
+
+/// The last count of closed months with which a Limited registration may be called.
+const LAST_CALL: u8 = 6;
 
 /// The records of a plausible year, and one more after its end.
 pub fn year(random: &mut Random) -> Vec<Numbers> {
-    let registrations = registrations(random);
+    let registrations = random.value(1, 64) as usize;
+    let lses = random.value(1, 16) as usize;
+    any_year(random, registrations, lses)
+}
+
+/// A plausible year of few parties.
+pub fn short_year(random: &mut Random) -> Vec<Numbers> {
+    let registrations = 1 + random.below(4);
+    let lses = 1 + random.below(2);
+    any_year(random, registrations, lses)
+}
+
+fn any_year(random: &mut Random, registrations: usize, lses: usize) -> Vec<Numbers> {
+    let registrations = registrations_of_few_places(random, registrations);
     let mut plan = Plan::new(random, &registrations);
-    let mut parties = [registrations, lses(random)].concat();
-    random.shuffle(&mut parties);
-    let mut records = [vec![opening(random)], parties].concat();
+    let mut records = opening_and_parties(random, registrations, lses);
     let busyness = random.pick(&[2, 3, 5]);
-    for month in 1..=CLOSES {
+    for z in 0..CLOSES {
         for _ in 0..random.below(busyness) {
-            records.extend(plan.event_or_test(random, month - 1));
+            records.extend(plan.event_or_test(random, z));
         }
-        records.push(vec![6, month]);
+        records.push(close_after(z));
     }
     let late = random.below(records.len());
     records.push(records[late].clone());
     records
 }
 
-fn opening(random: &mut Random) -> Numbers {
-    let leap = random.value(0, 1);
-    let factors = match random.chance(50) {
-        true => [9_500, 10_800],
-        false => [random.value(1, 12_000), random.value(1, 12_000)],
-    };
-    vec![1, leap, factors[0], factors[1]]
+/// A year with no room left: 64 registrations, 16 LSEs, 24 tests, 16 events of 64 entries.
+pub fn full_year(random: &mut Random) -> Vec<Numbers> {
+    let registrations = registrations_of_all_zones(random);
+    let mut plan = Plan::new(random, &registrations);
+    let mut records = opening_and_parties(random, registrations, 16);
+    let first_call = random.below(4) as u8;
+    let mut tests = zones_and_products();
+    random.shuffle(&mut tests);
+    let mut events = MOST_EVENTS;
+    for z in 0..CLOSES {
+        // All tests come before the events, which leave nobody to test.
+        let keep = if z < first_call {
+            random.below(tests.len() + 1)
+        } else {
+            0
+        };
+        for (zone, product) in tests.split_off(keep) {
+            records.extend(plan.test_of(random, z, zone, product));
+        }
+        let keep = if z < first_call {
+            events
+        } else if z < LAST_CALL {
+            random.below(events + 1)
+        } else {
+            0
+        };
+        for _ in keep..events {
+            records.extend(plan.event_of_all(random, z));
+        }
+        events = keep;
+        records.push(close_after(z));
+    }
+    records
 }
 
-/// Registrations of a few areas, zones and products, so that many share a call.
-fn registrations(random: &mut Random) -> Vec<Numbers> {
-    let count = random.value(1, 64) as usize;
-    let sellers = some_ids(random, 16);
-    let areas = few_places(random);
-    let zones = few_places(random);
-    let products = some_ids(random, 3);
-    let register = |id: u64, random: &mut Random| {
-        vec![
-            2,
-            id,
-            random.pick(&sellers),
-            random.pick(&areas),
-            random.pick(&zones),
-            random.pick(&products),
-            random.value(1, 100_000),
-            random.value(0, 100_000),
-        ]
-    };
-    let ids = ids(random, count, 64);
-    ids.into_iter().map(|id| register(id, random)).collect()
-}
-
-fn lses(random: &mut Random) -> Vec<Numbers> {
-    let ids = some_ids(random, 16);
-    let lse = |id| vec![3, id, random.value(1, 1_000_000)];
-    ids.into_iter().map(lse).collect()
-}
-
-/// Some of the ids below the limit, at least one.
-fn some_ids(random: &mut Random, limit: u64) -> Vec<u64> {
-    let count = random.value(1, limit) as usize;
-    ids(random, count, limit)
-}
-
-/// One to three of the eight areas or zones.
-fn few_places(random: &mut Random) -> Vec<u64> {
-    let count = 1 + random.below(3);
-    ids(random, count, 8)
-}
-
-fn ids(random: &mut Random, count: usize, limit: u64) -> Vec<u64> {
-    let mut ids: Vec<u64> = (0..limit).collect();
-    random.shuffle(&mut ids);
-    ids.truncate(count);
-    ids
+fn close_after(z: u8) -> Numbers {
+    vec![6, u64::from(z) + 1]
 }
 
 /// How well the entries of one event or test perform.
@@ -99,15 +100,15 @@ enum Performance {
 /// What a year's events and tests so far leave open.
 struct Plan {
     registrations: Vec<Registration>,
-    called: BTreeSet<u64>,
-    tested: BTreeSet<(u64, Product)>,
+    called: BTreeSet<u8>,
+    tested: BTreeSet<(u8, Product)>,
     percent_of_tests: usize,
 }
 
 impl Plan {
     fn new(random: &mut Random, registrations: &[Numbers]) -> Self {
-        let mut registrations: Vec<Registration> =
-            registrations.iter().map(|r| registration(r)).collect();
+        let parse = |numbers: &Numbers| registration(numbers[..].try_into().expect("8 numbers"));
+        let mut registrations: Vec<Registration> = registrations.iter().map(parse).collect();
         registrations.sort_by_key(|r| r.id);
         Plan {
             registrations,
@@ -118,14 +119,14 @@ impl Plan {
     }
 
     /// An event or a test with z months closed, if chance finds one to list.
-    fn event_or_test(&mut self, random: &mut Random, z: u64) -> Option<Numbers> {
+    fn event_or_test(&mut self, random: &mut Random, z: u8) -> Option<Numbers> {
         match random.chance(self.percent_of_tests) {
             true => self.test(random, z),
             false => self.event(random, z),
         }
     }
 
-    fn event(&mut self, random: &mut Random, z: u64) -> Option<Numbers> {
+    fn event(&mut self, random: &mut Random, z: u8) -> Option<Numbers> {
         let month = month(random, |month| event_month_is_open(month, z));
         let period = random.value(1, 3);
         let area = random.pick(&self.registrations).area;
@@ -133,11 +134,33 @@ impl Plan {
         let percent = random.pick(&[100, 100, 60, 10]);
         let listed = random.some(&self.those(may), percent);
         self.called.extend(listed.iter().map(|r| r.id));
-        with_lists(random, vec![4, area, month, period], &listed)
+        with_lists(random, [4, area.into(), month.into(), period], &listed)
     }
 
-    fn test(&mut self, random: &mut Random, z: u64) -> Option<Numbers> {
+    /// An event that lists all registrations, which are of one area.
+    fn event_of_all(&mut self, random: &mut Random, z: u8) -> Option<Numbers> {
+        let month = month(random, |month| {
+            event_month_is_open(month, z) && may_be_called(Product::Limited, month, false)
+        });
+        let area = self.registrations[0].area;
+        let period = random.pick(&[1, 3]);
+        let listed = &self.registrations;
+        self.called.extend(listed.iter().map(|r| r.id));
+        with_lists(random, [4, area.into(), month.into(), period], listed)
+    }
+
+    fn test(&mut self, random: &mut Random, z: u8) -> Option<Numbers> {
         let Registration { zone, product, .. } = random.pick(&self.registrations);
+        self.test_of(random, z, zone, product)
+    }
+
+    fn test_of(
+        &mut self,
+        random: &mut Random,
+        z: u8,
+        zone: u8,
+        product: Product,
+    ) -> Option<Numbers> {
         let month = month(random, |month| {
             month <= z + 1 && may_be_tested(product, month)
         });
@@ -146,7 +169,11 @@ impl Plan {
         if !self.tested.insert((zone, product)) {
             return None;
         }
-        with_lists(random, vec![5, zone, product as u64, month], &listed)
+        with_lists(
+            random,
+            [5, zone.into(), product as u64, month.into()],
+            &listed,
+        )
     }
 
     fn those(&self, are: impl Fn(&Registration) -> bool) -> Vec<Registration> {
@@ -159,16 +186,16 @@ impl Plan {
 }
 
 /// An open month, often the first or the last.
-fn month(random: &mut Random, is_open: impl Fn(u64) -> bool) -> u64 {
-    let open: Vec<u64> = (1..=12).filter(|month| is_open(*month)).collect();
+fn month(random: &mut Random, is_open: impl Fn(u8) -> bool) -> u8 {
+    let open: Vec<u8> = (1..=12).filter(|month| is_open(*month)).collect();
     let any = random.pick(&open);
     random.pick(&[open[0], any, open[open.len() - 1]])
 }
 
 /// Puts the lists behind the head of an event or a test; none if nobody is listed.
-fn with_lists(random: &mut Random, head: Numbers, listed: &[Registration]) -> Option<Numbers> {
-    let sellers: BTreeSet<u64> = listed.iter().map(|r| r.seller).collect();
-    let sellers: Vec<u64> = sellers.into_iter().collect();
+fn with_lists(random: &mut Random, head: [u64; 4], listed: &[Registration]) -> Option<Numbers> {
+    let sellers: BTreeSet<u8> = listed.iter().map(|r| r.seller).collect();
+    let sellers: Vec<u8> = sellers.into_iter().collect();
     let percent = random.pick(&[0, 20, 100]);
     let short = random.some(&sellers, percent);
     let performance = random.pick(&[
@@ -179,15 +206,14 @@ fn with_lists(random: &mut Random, head: Numbers, listed: &[Registration]) -> Op
         Performance::Mixed,
         Performance::Mixed,
     ]);
-    let mut numbers = [head, vec![short.len() as u64, listed.len() as u64]].concat();
+    let mut numbers = head.to_vec();
+    numbers.extend([short.len() as u64, listed.len() as u64]);
     for seller in short {
-        numbers.extend([seller, deficit(random)]);
+        numbers.extend([seller.into(), deficit(random)]);
     }
     for registration in listed {
-        numbers.extend([
-            registration.id,
-            reduction(random, performance, registration.committed),
-        ]);
+        let reduction = reduction(random, performance, registration.committed.into());
+        numbers.extend([registration.id.into(), reduction]);
     }
     (!listed.is_empty()).then_some(numbers)
 }

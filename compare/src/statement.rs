@@ -11,25 +11,30 @@ const COUNT: u32 = 5;
 const ID: u32 = 4;
 const CENTS: u32 = 42;
 
-pub fn encode(month: u64, amounts: &Owed) -> Vec<u8> {
-    let mut writer = BitWriter::default();
-    writer.put(month, MONTH);
-    writer.put(amounts.sellers.len() as u64, COUNT);
-    writer.put(amounts.lses.len() as u64, COUNT);
-    for (seller, amounts) in &amounts.sellers {
-        writer.put(*seller, ID);
-        for cents in [amounts.compliance, amounts.test, amounts.credit] {
-            put_cents(&mut writer, cents);
+/// Leaves the statement in the buffer and gives its length.
+pub fn encode(month: u8, amounts: &Owed, buffer: &mut [u8]) -> usize {
+    let mut writer = BitWriter::new(buffer);
+    writer.put(month.into(), MONTH);
+    writer.put(amounts.sellers.iter().flatten().count() as u64, COUNT);
+    writer.put(amounts.lses.iter().flatten().count() as u64, COUNT);
+    for (seller, amounts) in (0..).zip(&amounts.sellers) {
+        if let Some(amounts) = amounts {
+            writer.put(seller, ID);
+            put_cents(&mut writer, amounts.compliance);
+            put_cents(&mut writer, amounts.test);
+            put_cents(&mut writer, amounts.credit);
         }
     }
-    for (lse, credit) in &amounts.lses {
-        writer.put(*lse, ID);
-        put_cents(&mut writer, *credit);
+    for (lse, credit) in (0..).zip(&amounts.lses) {
+        if let Some(credit) = credit {
+            writer.put(lse, ID);
+            put_cents(&mut writer, *credit);
+        }
     }
-    writer.into_bytes()
+    writer.finish()
 }
 
-fn put_cents(writer: &mut BitWriter, cents: i128) {
+fn put_cents(writer: &mut BitWriter, cents: i64) {
     let half = 1 << (CENTS - 1);
     assert!(
         (-half..half).contains(&cents),
@@ -38,41 +43,24 @@ fn put_cents(writer: &mut BitWriter, cents: i128) {
     writer.put(cents as u64, CENTS);
 }
 
-/// The bytes of the statement that a buffer begins with.
-pub fn length(buffer: &[u8]) -> usize {
-    let mut reader = BitReader::new(buffer);
-    reader.take(MONTH);
-    let sellers = reader.take(COUNT) as u32;
-    let lses = reader.take(COUNT) as u32;
-    let bits = MONTH + 2 * COUNT + sellers * (ID + 3 * CENTS) + lses * (ID + CENTS);
-    bits.div_ceil(8) as usize
-}
-
 /// The month and the amounts of a statement.
-pub fn decode(statement: &[u8]) -> (u64, Owed) {
+pub fn decode(statement: &[u8]) -> (u8, Owed) {
     let mut reader = BitReader::new(statement);
-    let month = reader.take(MONTH);
+    let month = reader.take(MONTH) as u8;
     let sellers = reader.take(COUNT);
     let lses = reader.take(COUNT);
-    let owed = Owed {
-        sellers: (0..sellers).map(|_| take_seller(&mut reader)).collect(),
-        lses: (0..lses)
-            .map(|_| (reader.take(ID), take_cents(&mut reader)))
-            .collect(),
-    };
+    let mut owed = Owed::default();
+    for _ in 0..sellers {
+        let seller = reader.take(ID) as usize;
+        owed.sellers[seller] = Some(Amounts {
+            compliance: reader.take_signed(CENTS),
+            test: reader.take_signed(CENTS),
+            credit: reader.take_signed(CENTS),
+        });
+    }
+    for _ in 0..lses {
+        let lse = reader.take(ID) as usize;
+        owed.lses[lse] = Some(reader.take_signed(CENTS));
+    }
     (month, owed)
-}
-
-fn take_seller(reader: &mut BitReader) -> (u64, Amounts) {
-    let seller = reader.take(ID);
-    let amounts = Amounts {
-        compliance: take_cents(reader),
-        test: take_cents(reader),
-        credit: take_cents(reader),
-    };
-    (seller, amounts)
-}
-
-fn take_cents(reader: &mut BitReader) -> i128 {
-    reader.take_signed(CENTS).into()
 }

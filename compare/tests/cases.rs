@@ -2,41 +2,64 @@
 
 use std::collections::{BTreeMap, BTreeSet};
 
-use settlement::cases::{damaged_file, plausible_file, take_calls};
-use settlement::owed::{self, Amounts, Owed};
-use settlement::{bill_file, statement, take_all, Book};
+use settlement::account::to_date;
+use settlement::cases::{damaged_file, full_file, plausible_file, take_calls, Form, FORMS};
+use settlement::owed::{revenue, Amounts, Owed};
+use settlement::{bill_file, statement, take_each, Book};
 
 const SEEDS: u64 = 300;
 
-fn each_amount(owed: &Owed) -> Vec<i128> {
-    let of_seller = |a: &Amounts| [a.compliance, a.test, a.credit];
-    let of_sellers = owed.sellers.values().flat_map(of_seller);
-    of_sellers.chain(owed.lses.values().copied()).collect()
+/// A file's numbers and its statements.
+fn take_all(file: &[u8]) -> (Vec<u64>, Vec<Owed>) {
+    let mut numbers = Vec::new();
+    let mut statements = Vec::new();
+    take_each(file, |taken, statement| {
+        numbers.push(taken.number);
+        if !statement.is_empty() {
+            statements.push(statement::decode(statement).1);
+        }
+    });
+    (numbers, statements)
+}
+
+fn sellers(owed: &Owed) -> impl Iterator<Item = &Amounts> {
+    owed.sellers.iter().flatten()
+}
+
+fn each_amount(owed: &Owed) -> Vec<i64> {
+    let of_sellers = sellers(owed).flat_map(|a| [a.compliance, a.test, a.credit]);
+    of_sellers.chain(owed.lses.into_iter().flatten()).collect()
 }
 
 /// Adds a statement's amounts to the sums so far.
 fn add(so_far: &mut Owed, amounts: &Owed) {
-    for (seller, amounts) in &amounts.sellers {
-        let sums = so_far.sellers.entry(*seller).or_default();
-        sums.compliance += amounts.compliance;
-        sums.test += amounts.test;
-        sums.credit += amounts.credit;
+    for (sums, amounts) in so_far.sellers.iter_mut().zip(amounts.sellers) {
+        if let Some(amounts) = amounts {
+            let sums = sums.get_or_insert_default();
+            sums.compliance += amounts.compliance;
+            sums.test += amounts.test;
+            sums.credit += amounts.credit;
+        }
     }
-    for (lse, credit) in &amounts.lses {
-        *so_far.lses.entry(*lse).or_default() += credit;
+    for (sum, credit) in so_far.lses.iter_mut().zip(amounts.lses) {
+        if let Some(credit) = credit {
+            *sum.get_or_insert_default() += credit;
+        }
     }
 }
 
 fn assert_balance(amounts: &Owed) {
-    let of_seller = |a: &Amounts| a.compliance + a.test - a.credit;
-    let left: i128 = amounts.sellers.values().map(of_seller).sum();
-    assert_eq!(left, amounts.lses.values().sum());
+    let left: i64 = sellers(amounts)
+        .map(|a| a.compliance + a.test - a.credit)
+        .sum();
+    assert_eq!(left, amounts.lses.iter().flatten().sum());
 }
 
-fn assert_yearly_limit(book: &Book, so_far: &Owed, month: u64) {
+fn assert_yearly_limit(book: &Book, so_far: &Owed, month: u8) {
     let year = book.year().expect("a close needs a year");
-    for (seller, sums) in &so_far.sellers {
-        assert!(sums.compliance * 1_000 <= owed::revenue(year, *seller, month));
+    for (seller, sums) in so_far.sellers.iter().enumerate() {
+        let compliance = sums.map_or(0, |sums| sums.compliance);
+        assert!(compliance * 1_000 <= revenue(year, seller, month));
     }
 }
 
@@ -46,13 +69,14 @@ fn balance_and_limit_hold_at_every_close() {
         let mut book = Book::new();
         let mut so_far = Owed::default();
         for call in take_calls(seed) {
-            let answer = book.answer(&call.bytes, call.room);
-            if !answer.statement.is_empty() {
-                let (month, amounts) = statement::decode(&answer.statement);
+            let mut buffer = vec![0; call.room];
+            let taken = book.take(&call.bytes, &mut buffer);
+            if taken.written > 0 {
+                let (month, amounts) = statement::decode(&buffer[..taken.written]);
                 add(&mut so_far, &amounts);
                 assert_balance(&amounts);
                 assert_yearly_limit(&book, &so_far, month);
-                assert_eq!(so_far, owed::to_date(book.year().expect("a year"), month));
+                assert_eq!(so_far, to_date(book.year().expect("a year"), month));
             }
         }
     }
@@ -60,21 +84,21 @@ fn balance_and_limit_hold_at_every_close() {
 
 #[test]
 fn every_number_comes_up() {
-    let mut calls = BTreeMap::<u8, usize>::new();
-    let mut files = BTreeMap::<u8, usize>::new();
+    let mut calls = BTreeMap::<u64, usize>::new();
+    let mut files = BTreeMap::<u64, usize>::new();
     for seed in 0..SEEDS {
         let mut book = Book::new();
         for call in take_calls(seed) {
-            let number = book.answer(&call.bytes, call.room).number;
+            let number = book.take(&call.bytes, &mut vec![0; call.room]).number;
             *calls.entry(number).or_default() += 1;
         }
-        for answer in take_all(&damaged_file(seed)) {
-            *files.entry(answer.number).or_default() += 1;
+        for number in take_all(&damaged_file(seed)).0 {
+            *files.entry(number).or_default() += 1;
         }
     }
     eprintln!("calls {calls:?}\nfiles {files:?}");
-    let of_calls: BTreeSet<u8> = calls.into_keys().collect();
-    let of_files: BTreeSet<u8> = files.into_keys().collect();
+    let of_calls: BTreeSet<u64> = calls.into_keys().collect();
+    let of_files: BTreeSet<u64> = files.into_keys().collect();
     assert_eq!(of_calls, (0..=16).collect());
     assert_eq!(of_files, (0..=15).collect());
 }
@@ -85,11 +109,10 @@ fn plausible_years_are_accepted_and_reach_every_amount() {
     let mut records = 0;
     let mut amounts = Vec::new();
     for seed in 0..SEEDS {
-        let answers = take_all(&plausible_file(seed));
-        records += answers.len();
-        accepted += answers.iter().filter(|answer| answer.number == 0).count();
-        let closes = answers.iter().filter(|answer| !answer.statement.is_empty());
-        amounts.extend(closes.flat_map(|a| each_amount(&statement::decode(&a.statement).1)));
+        let (numbers, statements) = take_all(&plausible_file(seed));
+        records += numbers.len();
+        accepted += numbers.iter().filter(|number| **number == 0).count();
+        amounts.extend(statements.iter().flat_map(each_amount));
     }
     let negative = amounts.iter().filter(|amount| **amount < 0).count();
     let positive = amounts.iter().filter(|amount| **amount > 0).count();
@@ -104,9 +127,18 @@ fn plausible_years_are_accepted_and_reach_every_amount() {
 }
 
 #[test]
-fn a_seed_gives_one_file() {
+fn full_years_are_accepted_whole() {
+    const RECORDS: usize = 1 + 64 + 16 + 24 + 16 + 15;
     for seed in 0..SEEDS {
-        assert_eq!(damaged_file(seed), damaged_file(seed));
-        assert!(!bill_file(&plausible_file(seed)).is_empty());
+        assert_eq!(take_all(&full_file(seed)).0, [0; RECORDS], "seed {seed}");
+    }
+}
+
+#[test]
+fn a_seed_gives_one_file() {
+    for Form { file, .. } in FORMS {
+        assert_eq!(file(1), file(1));
+        assert_ne!(file(1), file(2));
+        assert!(!bill_file(&file(1)).is_empty());
     }
 }

@@ -1,6 +1,6 @@
 //! The figures of Year A and its edges.
 
-use settlement::owed::{allot, cap, convert, due_month, uncapped};
+use settlement::owed::{cap, convert, due_month, uncapped, Allotment};
 use settlement::records::{registration, Opening, Product};
 use settlement::{bill_file, Book};
 
@@ -12,9 +12,9 @@ const YEAR_A: Opening = Opening {
 
 fn record(numbers: &[u64]) -> Vec<u8> {
     let mut buffer = [0; 354];
-    let written = settlement::records::write(numbers, &mut buffer);
+    let written = settlement::write(numbers, &mut buffer);
     assert_eq!(written.number, 0, "{numbers:?}");
-    buffer[..written.written].to_vec()
+    buffer[..written.used].to_vec()
 }
 
 fn file(records: &[&[u64]]) -> Vec<u8> {
@@ -36,12 +36,17 @@ fn bill(records: &[&[u64]]) -> String {
 const JUNE_EVENT: &[u64] = &[4, 1, 1, 1, 0, 2, 0, 600, 1, 2_100];
 const SEPTEMBER_EVENT: &[u64] = &[4, 1, 4, 1, 0, 1, 0, 600];
 
+fn allot<const N: usize>(amount: i64, weights: [i64; N]) -> [i64; N] {
+    let mut allotment = Allotment::new(amount, weights.iter().sum());
+    weights.map(|weight| allotment.share(weight))
+}
+
 #[test]
 fn definitions() {
     assert_eq!(convert(&YEAR_A, 400), 410);
-    assert_eq!(allot(10, &[1, 1, 1]), [3, 3, 4]);
-    assert_eq!(allot(10, &[0, 5]), [0, 10]);
-    assert_eq!(allot(10, &[0]), [0]);
+    assert_eq!(allot(10, [1, 1, 1]), [3, 3, 4]);
+    assert_eq!(allot(10, [0, 5]), [0, 10]);
+    assert_eq!(allot(10, [0]), [0]);
     assert_eq!(uncapped(410, 10_000, false, 1), 2_050_000);
     assert_eq!(uncapped(410, 10_000, false, 2), 2_050_000);
     assert_eq!(uncapped(410, 10_000, false, 3), 1_366_666);

@@ -1,4 +1,5 @@
-//! Writes one case to standard output: `generate plausible|damaged|take|read|write SEED`.
+//! Writes one case to standard output: `generate FORM SEED` a record file, of a form of the
+//! library's list, `generate take|read|write SEED` lines of calls.
 
 use std::io::{self, Write};
 
@@ -11,18 +12,22 @@ fn main() -> io::Result<()> {
         [_, form, seed] => seed.parse().ok().and_then(|seed| case(form, seed)),
         _ => None,
     };
-    let usage = || io::Error::other("generate plausible|damaged|take|read|write SEED");
+    let usage = || {
+        let forms = cases::FORMS.map(|form| form.name).join("|");
+        io::Error::other(format!("generate {forms}|take|read|write SEED"))
+    };
     io::stdout().write_all(&case.ok_or_else(usage)?)
 }
 
 fn case(form: &str, seed: u64) -> Option<Vec<u8>> {
     match form {
-        "plausible" => Some(cases::plausible_file(seed)),
-        "damaged" => Some(cases::damaged_file(seed)),
         "take" => Some(call_lines(&cases::take_calls(seed))),
         "read" => Some(call_lines(&cases::read_calls(seed))),
         "write" => Some(write_lines(&cases::write_calls(seed))),
-        _ => None,
+        _ => {
+            let form = cases::FORMS.iter().find(|known| known.name == form)?;
+            Some((form.file)(seed))
+        }
     }
 }
 

@@ -1,0 +1,204 @@
+//! What is owed: all amounts to date at a month, from the records of a year.
+
+use std::array;
+
+use crate::book::Year;
+use crate::owed::{cap, convert, days, due_month, uncapped, Allotment, Amounts, Owed};
+use crate::records::{Event, Lists, Opening, Registration, Test, LSES, REGISTRATIONS, SELLERS};
+
+/// All amounts to date at this month.
+pub fn to_date(year: &Year, month: u8) -> Owed {
+    let mut account = Account::new(year, month);
+    for event in &year.events {
+        account.add_event(event);
+    }
+    for test in &year.tests {
+        account.add_test(test);
+    }
+    let mut sellers = [None; SELLERS];
+    for registration in year.registrations.iter().flatten() {
+        let seller = usize::from(registration.seller);
+        sellers[seller] = Some(account.sellers[seller]);
+    }
+    Owed {
+        sellers,
+        lses: account.lse_credits(),
+    }
+}
+
+/// An entry beside its registration: c committed, v reduction, q rate.
+struct Listed<'a> {
+    registration: &'a Registration,
+    c: i64,
+    v: i64,
+    q: i64,
+}
+
+impl Listed<'_> {
+    fn id(&self) -> usize {
+        self.registration.id.into()
+    }
+
+    fn seller(&self) -> usize {
+        self.registration.seller.into()
+    }
+
+    fn short(&self) -> i64 {
+        (self.c - self.v).max(0)
+    }
+
+    fn over(&self) -> i64 {
+        (self.v - self.c).max(0)
+    }
+}
+
+fn listed<'a>(year: &'a Year, lists: &'a Lists) -> impl Iterator<Item = Listed<'a>> {
+    lists.entries().iter().map(|entry| {
+        let registration = year.registration(entry);
+        Listed {
+            registration,
+            c: registration.committed.into(),
+            v: entry.reduction.into(),
+            q: registration.rate.into(),
+        }
+    })
+}
+
+/// What a seller's entries are below and above their commitments, summed.
+#[derive(Clone, Copy, Default)]
+struct Tally {
+    short: i64,
+    over: i64,
+}
+
+impl Tally {
+    fn add(&mut self, l: &Listed) {
+        self.short += l.short();
+        self.over += l.over();
+    }
+
+    /// The unforced shortfall, the deficit taken off after the conversion.
+    fn shortfall(&self, opening: &Opening, deficit: u32) -> i64 {
+        let net = (self.short - self.over).max(0);
+        (convert(opening, net) - i64::from(deficit)).max(0)
+    }
+
+    fn excess(&self) -> i64 {
+        (self.over - self.short).max(0)
+    }
+}
+
+/// A seller's committed kW in a test, alone and by their rates.
+#[derive(Clone, Copy, Default)]
+struct Base {
+    committed: i64,
+    by_rate: i64,
+}
+
+impl Base {
+    fn add(&mut self, l: &Listed) {
+        self.committed += l.c;
+        self.by_rate += l.c * l.q;
+    }
+
+    /// The rate of the seller's shortfall; none if it has no entry.
+    fn test_rate(&self) -> Option<i64> {
+        let base = self.by_rate.checked_div(self.committed)?;
+        Some(base + (base / 5).max(2_000))
+    }
+}
+
+/// Amounts in the making: at one month, record after record.
+struct Account<'a> {
+    year: &'a Year,
+    month: u8,
+    days: i64,
+    sellers: [Amounts; SELLERS],
+    /// What is left of each registration's cap.
+    rests: [i64; REGISTRATIONS],
+}
+
+impl<'a> Account<'a> {
+    fn new(year: &'a Year, month: u8) -> Self {
+        let rest = |r: &Option<Registration>| r.map_or(0, |r| cap(&year.opening, &r));
+        Account {
+            year,
+            month,
+            days: days(year.opening.leap, month),
+            sellers: [Amounts::default(); SELLERS],
+            rests: year.registrations.each_ref().map(rest),
+        }
+    }
+
+    /// Adds an event's charges and credits to date.
+    fn add_event(&mut self, event: &Event) {
+        let listed = || listed(self.year, &event.lists);
+        let mut tallies = [Tally::default(); SELLERS];
+        for l in listed() {
+            tallies[l.seller()].add(&l);
+        }
+        let mut shortfalls: [Allotment; SELLERS] = array::from_fn(|seller| {
+            let deficit = event.lists.deficits[seller];
+            let shortfall = tallies[seller].shortfall(&self.year.opening, deficit);
+            Allotment::new(shortfall, tallies[seller].short)
+        });
+        let mut excesses = tallies.map(|tally| Allotment::new(tally.excess(), tally.over));
+        let mut entry_excesses = [0; REGISTRATIONS];
+        let mut charges = 0;
+        for (l, excess) in listed().zip(&mut entry_excesses) {
+            let u = shortfalls[l.seller()].share(l.short());
+            let charge = self.charge(event, &l, u);
+            self.sellers[l.seller()].compliance += charge;
+            charges += charge;
+            *excess = excesses[l.seller()].share(l.over());
+        }
+        let mut shares = Allotment::new(charges, entry_excesses.iter().sum());
+        for (l, e) in listed().zip(entry_excesses) {
+            let most = e * l.q / 5 * self.days / 1_000;
+            self.sellers[l.seller()].credit += shares.share(e).min(most);
+        }
+    }
+
+    /// An entry's charge to date; takes its daily charge off the rest of the cap.
+    fn charge(&mut self, event: &Event, l: &Listed, u: i64) -> i64 {
+        let n = self.year.on_peak_events[l.id()].into();
+        let rest = &mut self.rests[l.id()];
+        let daily = uncapped(u, l.q, event.off_peak, n).min(*rest);
+        *rest -= daily;
+        if self.month >= due_month(l.registration.product, event.month) {
+            daily * self.days / 1_000
+        } else {
+            0
+        }
+    }
+
+    /// Adds a test's charges to date, of the registrations that no event lists.
+    fn add_test(&mut self, test: &Test) {
+        let mut tallies = [Tally::default(); SELLERS];
+        let mut bases = [Base::default(); SELLERS];
+        let listed = listed(self.year, &test.lists);
+        for l in listed.filter(|l| !self.year.is_called[l.id()]) {
+            tallies[l.seller()].add(&l);
+            bases[l.seller()].add(&l);
+        }
+        for (seller, base) in bases.iter().enumerate() {
+            if let Some(rate) = base.test_rate() {
+                let deficit = test.lists.deficits[seller];
+                let shortfall = tallies[seller].shortfall(&self.year.opening, deficit);
+                self.sellers[seller].test += shortfall * rate * self.days / 1_000;
+            }
+        }
+    }
+
+    /// Charges less excess credits, allotted to the LSEs by obligation.
+    fn lse_credits(&self) -> [Option<i64>; LSES] {
+        let amounts = self.sellers.iter();
+        let left = amounts.map(|a| a.compliance + a.test - a.credit).sum();
+        let obligations = self
+            .year
+            .lses
+            .map(|lse| lse.map(|lse| lse.obligation.into()));
+        let mut credits = Allotment::new(left, obligations.iter().flatten().sum());
+        obligations.map(|obligation| obligation.map(|weight| credits.share(weight)))
+    }
+}

@@ -1,0 +1,72 @@
+//! The records and files that are timed.
+
+use settlement::damage::encode;
+use settlement::plan::{full_year, Numbers};
+use settlement::random::Random;
+
+/// Full years of several seeds, whose values are spread in several ways.
+pub struct Inputs {
+    years: Vec<Vec<Numbers>>,
+}
+
+impl Inputs {
+    pub fn new() -> Self {
+        let years = (1..=4).map(|seed| full_year(&mut Random::new(seed)));
+        Inputs {
+            years: years.collect(),
+        }
+    }
+
+    /// The whole years.
+    pub fn full_years(&self) -> Vec<Vec<u8>> {
+        self.years.iter().map(|year| file(year)).collect()
+    }
+
+    /// Each year's first records of these kinds, so many of each.
+    pub fn files(&self, kinds: &[(u64, usize)]) -> Vec<Vec<u8>> {
+        let records = |year: &Vec<Numbers>| {
+            let of_kind = |(kind, count): &(u64, usize)| {
+                let all = year.iter().filter(|numbers| numbers[0] == *kind);
+                all.take(*count).map(|numbers| in_june(numbers)).collect()
+            };
+            let lists: Vec<Vec<Numbers>> = kinds.iter().map(of_kind).collect();
+            file(&lists.concat())
+        };
+        self.years.iter().map(records).collect()
+    }
+}
+
+fn file(records: &[Numbers]) -> Vec<u8> {
+    records.iter().flat_map(|numbers| encode(numbers)).collect()
+}
+
+/// An event or a test of June, so that it may come before the first close.
+fn in_june(numbers: &[u64]) -> Numbers {
+    let mut numbers = numbers.to_vec();
+    match numbers[0] {
+        4 => numbers[2] = 1,
+        5 => numbers[3] = 1,
+        _ => {}
+    }
+    numbers
+}
+
+/// A record of each kind, as its numbers.
+pub fn records() -> Vec<(&'static str, Numbers)> {
+    let lists = |head: [u64; 4], deficits: u64, entries: u64| {
+        let mut numbers = head.to_vec();
+        numbers.extend([deficits, entries]);
+        numbers.extend((0..deficits).flat_map(|seller| [seller, 1_000 + seller]));
+        numbers.extend((0..entries).flat_map(|id| [id, 50_000 + id]));
+        numbers
+    };
+    vec![
+        ("opening", vec![1, 0, 9_500, 10_800]),
+        ("registration", vec![2, 63, 15, 7, 7, 2, 99_999, 12_345]),
+        ("LSE", vec![3, 15, 999_999]),
+        ("event of 1 entry", lists([4, 1, 1, 1], 0, 1)),
+        ("event of 64 entries", lists([4, 1, 1, 1], 16, 64)),
+        ("test of 64 entries", lists([5, 1, 0, 1], 16, 64)),
+        ("close", vec![6, 15]),
+    ]
+}

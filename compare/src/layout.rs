@@ -1,0 +1,179 @@
+//! The layouts of the six kinds of record.
+
+use crate::lists::{Deficits, Entries, List};
+
+/// The numbers of the longest record: a head of 6, 16 deficits and 64 entries.
+pub const MOST_NUMBERS: usize = 166;
+
+/// The most fields before the lists.
+pub const MOST_HEAD: usize = 8;
+
+/// One field: its width in bits and its permitted values.
+#[derive(Clone, Copy)]
+pub struct Field {
+    pub width: u32,
+    pub low: u64,
+    pub high: u64,
+}
+
+impl Field {
+    pub fn permits(&self, number: u64) -> bool {
+        (self.low..=self.high).contains(&number)
+    }
+}
+
+/// The fields before the lists, which fit a word.
+pub struct Head {
+    pub fields: &'static [Field],
+    pub bits: usize,
+}
+
+impl Head {
+    /// The numbers of a record that begins with this word, then zeros.
+    pub fn unpack(&self, mut word: u64) -> [u64; MOST_HEAD] {
+        let mut numbers = [0; MOST_HEAD];
+        for (number, field) in numbers.iter_mut().zip(self.fields) {
+            *number = word >> (64 - field.width);
+            word <<= field.width;
+        }
+        numbers
+    }
+
+    pub fn permits(&self, numbers: &[u64]) -> bool {
+        let mut numbers = self.fields.iter().zip(numbers);
+        numbers.all(|(field, number)| field.permits(*number))
+    }
+}
+
+const fn field(width: u32, low: u64, high: u64) -> Field {
+    Field { width, low, high }
+}
+
+const fn kind(kind: u64) -> Field {
+    field(4, kind, kind)
+}
+
+const fn id(width: u32) -> Field {
+    field(width, 0, (1 << width) - 1)
+}
+
+const fn bits(fields: &[Field]) -> usize {
+    match fields {
+        [] => 0,
+        [first, rest @ ..] => first.width as usize + bits(rest),
+    }
+}
+
+const fn head_of(fields: &'static [Field]) -> Head {
+    let bits = bits(fields);
+    Head { fields, bits }
+}
+
+pub const REGISTRATION_ID: Field = id(6);
+pub const SELLER_ID: Field = id(4);
+const LSE_ID: Field = id(4);
+const AREA: Field = id(3);
+const ZONE: Field = id(3);
+const FACTOR: Field = field(14, 1, 12_000);
+const PRODUCT: Field = field(2, 0, 2);
+const PERIOD: Field = field(2, 1, 3);
+const MONTH: Field = field(4, 1, 12);
+const DEFICITS: Field = field(5, 0, 16);
+const ENTRIES: Field = field(7, 1, 64);
+const COMMITTED: Field = field(17, 1, 100_000);
+const RATE: Field = field(17, 0, 100_000);
+pub const REDUCTION: Field = field(17, 0, 100_000);
+const OBLIGATION: Field = field(20, 1, 1_000_000);
+pub const DEFICIT_KW: Field = field(20, 1, 1_000_000);
+
+/// The heads in the order of their kinds, 1 to 6.
+static HEADS: [Head; 6] = [
+    head_of(&[kind(1), field(1, 0, 1), FACTOR, FACTOR]),
+    head_of(&[
+        kind(2),
+        REGISTRATION_ID,
+        SELLER_ID,
+        AREA,
+        ZONE,
+        PRODUCT,
+        COMMITTED,
+        RATE,
+    ]),
+    head_of(&[kind(3), LSE_ID, OBLIGATION]),
+    head_of(&[kind(4), AREA, MONTH, PERIOD, DEFICITS, ENTRIES]),
+    head_of(&[kind(5), ZONE, PRODUCT, MONTH, DEFICITS, ENTRIES]),
+    head_of(&[kind(6), field(4, 1, 15)]),
+];
+
+/// The head of a kind, if there is such a kind.
+pub fn head(kind: u64) -> Option<&'static Head> {
+    HEADS.get(usize::try_from(kind).ok()?.checked_sub(1)?)
+}
+
+/// Have records of this kind lists, whose counts end the head?
+pub fn has_lists(kind: u64) -> bool {
+    matches!(kind, 4 | 5)
+}
+
+/// A record's layout: its head, and how many deficits and entries follow.
+#[derive(Clone, Copy)]
+pub struct Layout {
+    pub head: &'static Head,
+    pub deficits: usize,
+    pub entries: usize,
+}
+
+impl Layout {
+    /// The layout by the counts as they stand in the numbers of a head.
+    pub fn new(head: &'static Head, numbers: &[u64]) -> Self {
+        let (deficits, entries) = match numbers {
+            [kind, _, _, _, deficits, entries, ..] if has_lists(*kind) => (*deficits, *entries),
+            _ => (0, 0),
+        };
+        Layout {
+            head,
+            deficits: deficits as usize,
+            entries: entries as usize,
+        }
+    }
+
+    /// The layout of a record given as its numbers, if the first is a kind.
+    pub fn of(numbers: &[u64]) -> Option<Self> {
+        Some(Layout::new(head(*numbers.first()?)?, numbers))
+    }
+
+    /// How many numbers the record has.
+    pub fn count(&self) -> usize {
+        self.head.fields.len() + 2 * (self.deficits + self.entries)
+    }
+
+    /// The field of the number at this place.
+    pub fn field(&self, at: usize) -> Field {
+        let head = self.head.fields.len();
+        if at < head {
+            self.head.fields[at]
+        } else if at < head + 2 * self.deficits {
+            [Deficits::ID, Deficits::KW][(at - head) % 2]
+        } else {
+            [Entries::ID, Entries::KW][(at - head) % 2]
+        }
+    }
+
+    /// The bit that the deficits start at.
+    pub fn deficits_start(&self) -> usize {
+        self.head.bits
+    }
+
+    /// The bit that the entries start at.
+    pub fn entries_start(&self) -> usize {
+        self.deficits_start() + Deficits::bits(self.deficits)
+    }
+
+    pub fn bits(&self) -> usize {
+        self.entries_start() + Entries::bits(self.entries)
+    }
+
+    pub fn bytes(&self) -> usize {
+        self.bits().div_ceil(8)
+    }
+}

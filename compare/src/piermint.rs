@@ -1,0 +1,87 @@
+//! The proved engine through its C interface (piermint.h), as safe functions.
+
+use crate::bill::Billed;
+use crate::numbers::{Read, Written};
+
+extern "C" {
+    fn piermint_read(
+        bytes: *const u8,
+        bytes_len: usize,
+        numbers: *mut u64,
+        numbers_len: usize,
+        count: *mut usize,
+        used: *mut usize,
+    ) -> u64;
+
+    fn piermint_write(
+        numbers: *const u64,
+        numbers_len: usize,
+        bytes: *mut u8,
+        bytes_len: usize,
+        used: *mut usize,
+    ) -> u64;
+
+    fn piermint_bill(
+        records: *const u8,
+        records_len: usize,
+        numbers: *mut u64,
+        numbers_len: usize,
+        statements: *mut u8,
+        statements_len: usize,
+        used: *mut usize,
+        written: *mut usize,
+    ) -> usize;
+}
+
+// SAFETY, of each call below: what piermint.h asks of pointers, Rust's slices and references have
+// (not null, aligned, initialised, no overlap with what is mutable), and every slice comes with its
+// own length. The library keeps no pointer. Its 256 KB of stack are within any thread's default.
+
+/// Reads one record into the lent numbers.
+pub fn read(bytes: &[u8], numbers: &mut [u64]) -> Read {
+    let mut read = Read::default();
+    read.number = unsafe {
+        piermint_read(
+            bytes.as_ptr(),
+            bytes.len(),
+            numbers.as_mut_ptr(),
+            numbers.len(),
+            &mut read.count,
+            &mut read.used,
+        )
+    };
+    read
+}
+
+/// Writes one record, given as numbers, into the lent bytes.
+pub fn write(numbers: &[u64], bytes: &mut [u8]) -> Written {
+    let mut written = Written::default();
+    written.number = unsafe {
+        piermint_write(
+            numbers.as_ptr(),
+            numbers.len(),
+            bytes.as_mut_ptr(),
+            bytes.len(),
+            &mut written.used,
+        )
+    };
+    written
+}
+
+/// Bills a record file from a new book.
+pub fn bill(records: &[u8], numbers: &mut [u64], statements: &mut [u8]) -> Billed {
+    let mut billed = Billed::default();
+    billed.records = unsafe {
+        piermint_bill(
+            records.as_ptr(),
+            records.len(),
+            numbers.as_mut_ptr(),
+            numbers.len(),
+            statements.as_mut_ptr(),
+            statements.len(),
+            &mut billed.used,
+            &mut billed.written,
+        )
+    };
+    billed
+}
