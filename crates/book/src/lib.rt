@@ -15,6 +15,7 @@ ghost use Rattle.book.specs.Made.{Listed};
 ghost use Rattle.book.specs.Kept.{Taken};
 use questions::number_of;
 use units::Nominated;
+use year::Amounts;
 use year::Event;
 use year::Listing;
 use year::Registration;
@@ -101,6 +102,16 @@ fn year_after(year: Year, values: [u64; 166], listing: Listing) -> Year
     year::with_test(year, (3 * values[1] + values[2]) as usize, test)
 }
 
+// The amounts to date at a month; the closing is lent the year's registrations.
+fn amounts_of(year: Year, month: u64) -> Amounts
+    requires { ⌜ Sound year ⌝ }
+    requires { ⌜ 1 ≤ month ⌝ }
+    requires { ⌜ month ≤ 15 ⌝ }
+    ensures { λ r. ⌜ r ≡ amounts year month ⌝ }
+{
+    settlement::settle(&year.terms.registrations, year, month)
+}
+
 // The year after a close; its statement goes to the front of the buffer.
 fn close(year: Year, month: u64, buffer: &mut [u8]) -> Year
     requires { ⌜ Sound year ⌝ }
@@ -110,7 +121,7 @@ fn close(year: Year, month: u64, buffer: &mut [u8]) -> Year
     ensures equals { λ r. ⌜ r ≡ withClose year (amounts year month) ⌝ }
     ensures leaves { λ r. ⌜ now (buffer .exit) ≡ (let s = statementOf (year .terms) month (amounts year month) (year .billed) in s ++ drop (length s) (now (buffer .entry))) ⌝ }
 {
-    let owed = settlement::settle(year, month);
+    let owed = amounts_of(year, month);
     let terms = year.terms;
     let billed = year.billed;
     statement::write_statement(terms, month, owed, billed, buffer);

@@ -1,11 +1,12 @@
 // What is owed at a month, from a year: each amount to date of every seller and LSE.
 ghost use mathlib.Core.Path.{_≡_};
 ghost use Prim.Native.Nat.{ℕ, _+_, _-_, _*_, _≤_, _<_, _^_};
-ghost use lib.ListN.{getD, length, take};
+ghost use lib.ListN.{getD, length, replicate, take};
 ghost use Rattle.ids.specs.Ids.{at, holds, tabulate};
 ghost use Rattle.ids.specs.Each.{Each};
 ghost use Rattle.allotment.specs.Allot.{share};
-ghost use Rattle.year.specs.Year.{pastEvent, pastTest};
+ghost use Rattle.year.specs.Year.{noRegistration, pastEvent, pastTest};
+ghost use Rattle.year.specs.Steps.{withRegistrations};
 ghost use Rattle.year.specs.Sound.{SoundTerms, SoundListing, SoundEvent, Sound};
 ghost use Rattle.owed.specs.Owed.{u, e, testOf, amounts};
 ghost use Rattle.tallies.specs.Arrays.{Within};
@@ -31,8 +32,10 @@ use tallies::less;
 use tallies::sum_of;
 use tallies::sums_of;
 use tallies::weights_of;
+use units::Nominated;
 use year::Amounts;
 use year::Event;
+use year::Registration;
 use year::Terms;
 use year::Test;
 use year::Year;
@@ -251,14 +254,15 @@ fn lses_of(
     lse
 }
 
-// The amounts to date at month k.
-pub fn settle(year: Year, k: u64) -> Amounts
-    requires { ⌜ Sound year ⌝ }
+// The amounts to date at month k of the year with these registrations.
+fn amounts_with(registrations: [Registration; 64], year: Year, k: u64) -> Amounts
+    requires { ⌜ Sound (withRegistrations year registrations) ⌝ }
     requires { ⌜ 1 ≤ k ⌝ }
     requires { ⌜ k ≤ 15 ⌝ }
-    ensures { λ r. ⌜ r ≡ amounts year k ⌝ }
+    ensures { λ r. ⌜ r ≡ amounts (withRegistrations year registrations) k ⌝ }
 {
-    let terms = year.terms;
+    let mut terms = year.terms;
+    terms.registrations = registrations;
     let events = year.events;
     let tests = year.tests;
     let obligations = terms.obligations;
@@ -290,4 +294,47 @@ pub fn settle(year: Year, k: u64) -> Amounts
         credit: credit,
         lse: lse,
     }
+}
+
+// Where a copy of the registrations starts from.
+fn no_registrations() -> [Registration; 64]
+    ensures { λ r. ⌜ r ≡ replicate 64 noRegistration ⌝ }
+{
+    let none = Nominated(0);
+    let registration = Registration {
+        known: false,
+        seller: 0,
+        area: 0,
+        zone: 0,
+        product: 0,
+        committed: none,
+        rate: 0,
+    };
+    [registration; 64]
+}
+
+// The amounts to date at month k of the year with the lent registrations.
+pub fn settle(registrations: &[Registration], year: Year, k: u64) -> Amounts
+    requires { ⌜ Sound (withRegistrations year (now registrations)) ⌝ }
+    requires { ⌜ 1 ≤ k ⌝ }
+    requires { ⌜ k ≤ 15 ⌝ }
+    ensures { λ r. ⌜ r ≡ amounts (withRegistrations year (now (registrations .entry))) k ⌝ }
+{
+    let mut copy = no_registrations();
+    let mut i: usize = 0;
+    while i < 64 {
+        // By field: with whole records the compiled program takes every copy of a year apart, and each call is slower.
+        let r = registrations[i];
+        copy[i] = Registration {
+            known: r.known,
+            seller: r.seller,
+            area: r.area,
+            zone: r.zone,
+            product: r.product,
+            committed: r.committed,
+            rate: r.rate,
+        };
+        i += 1;
+    }
+    amounts_with(copy, year, k)
 }

@@ -1,6 +1,7 @@
 -- The year after an accepted record of each kind.
 use Prim.Native.Nat.{ℕ, _+_}
 use mathlib.Core.Bool.{Bool, true}
+use mathlib.Core.List.{List}
 use lib.ListN.{set}
 use Rattle.year.specs.declared.Registration.{Registration}
 use Rattle.year.specs.declared.Event.{Event}
@@ -20,11 +21,15 @@ withOpening y leap factor requirement =
     withTerms y true
     (record { leap = leap; factor = factor; requirement = requirement; registrations = y .terms .registrations; obligations = y .terms .obligations })
 
+-- other registrations
+abbrev pub withRegistrations : Year → List Registration → Year
+withRegistrations y rs =
+    withTerms y (y .opened)
+    (record { leap = y .terms .leap; factor = y .terms .factor; requirement = y .terms .requirement; registrations = rs; obligations = y .terms .obligations })
+
 -- a registration
 abbrev pub withRegistration : Year → ℕ → Registration → Year
-withRegistration y id r =
-    withTerms y (y .opened)
-    (record { leap = y .terms .leap; factor = y .terms .factor; requirement = y .terms .requirement; registrations = set (y .terms .registrations) id r; obligations = y .terms .obligations })
+withRegistration y id r = withRegistrations y (set (y .terms .registrations) id r)
 
 -- an LSE
 abbrev pub withLse : Year → ℕ → ℕ → Year

@@ -9,30 +9,30 @@ use Rattle.book.proofs.close.Lts as lts
 use Rattle.statement.proofs.write_statement.Reads as write-statement-reads
 use Rattle.year.proofs.with_close.Reads as with-close-reads
 
-settle-requires : tie.Need-settle-requires
-settle-requires c κs = search needs
+amounts-of-requires : tie.Need-amounts-of-requires
+amounts-of-requires c κs = search needs
 
 write-statement-requires : tie.Need-write-statement-requires
 write-statement-requires c κs =
     let start = c .before .before .before .before .before in
     let s = start .pre .0 in
-    (s .terms, (omega (arith, start .pre), (rw (c .before .before .before .settle .ensures) (sound-amounts (start .args .year) s (start .args .month)), (s .billed, start .pre .1 .1 .1))))
+    (s .terms, (omega (arith, start .pre), (rw (c .before .before .before .amounts-of .ensures) (sound-amounts (start .args .year) s (start .args .month)), (s .billed, start .pre .1 .1 .1))))
 
 with-close-requires : tie.Need-with-close-requires
 with-close-requires c κs =
     let start = c .before .before .before .before .before .before .before .before in
     let s = start .pre .0 in
-    (s, (start .pre .1 .0, rw (c .before .before .before .before .before .before .settle .ensures) (sound-amounts (start .args .year) s (start .args .month))))
+    (s, (start .pre .1 .0, rw (c .before .before .before .before .before .before .amounts-of .ensures) (sound-amounts (start .args .year) s (start .args .month))))
 
 same-length : tie.Need-same-length
 same-length c = search needs
 
 returns : tie.Need-returns
 returns c =
-    let owed = c .before .before .before .before .before .before .before .settle .ensures in
+    let owed = c .before .before .before .before .before .before .before .amounts-of .ensures in
     (rw owed at (c .with-close .ensures .0), rw owed at (c .before .before .before .write-statement .ensures))
 
 pub close-spec : {M : Type 1} → statement M
 close-spec =
     tie.close
-    (tie.spec settle-requires write-statement-requires with-close-requires same-length returns)
+    (tie.spec amounts-of-requires write-statement-requires with-close-requires same-length returns)
