@@ -9,7 +9,7 @@ use Rattle.year.specs.declared.Terms.{Terms}
 use Rattle.year.specs.declared.Amounts.{Amounts}
 use Rattle.year.specs.declared.Year.{Year}
 use Rattle.year.specs.Year.{noAmounts, obligation, lses}
-use Rattle.year.specs.Sets.{getD-replicate-same}
+use Rattle.ids.specs.Sets.{getD-replicate-same}
 use Rattle.year.specs.Sound.{Sound}
 use Rattle.year.specs.Limits.{lses-is, seller-below}
 use Rattle.owed.specs.Owed.{amounts, credit, lse, charges, credits}

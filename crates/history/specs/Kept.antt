@@ -12,7 +12,7 @@ use Rattle.year.specs.declared.Test.{Test}
 use Rattle.year.specs.declared.Terms.{Terms}
 use Rattle.year.specs.declared.Year.{Year}
 use Rattle.year.specs.Year.{newYear, noAmounts, noTest, accepted, listed, known, pastEvent, pastTest}
-use Rattle.year.specs.Sets.{kept-set, getD-replicate-same}
+use Rattle.ids.specs.Sets.{kept-set, getD-replicate-same}
 use Rattle.year.specs.Steps.{withEvent}
 use Rattle.year.specs.Sound.{Sound}
 use Rattle.year.specs.Kept.{sound-new}

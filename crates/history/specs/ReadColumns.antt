@@ -1,5 +1,5 @@
 -- What is read from a statement in each column.
-use Prim.Native.Nat.{ℕ, zero, suc, _<_}
+use Prim.Native.Nat.{ℕ, _<_}
 use mathlib.Core.Bool.{Bool, true, false, cond}
 use mathlib.Core.List.{List}
 use mathlib.Core.Path.{_≡_, refl, ap}
@@ -12,14 +12,10 @@ use Rattle.year.specs.declared.Amounts.{Amounts}
 use Rattle.year.specs.Sound.{SoundTerms, SoundAmounts}
 use Rattle.statement.specs.Statement.{hasRegistration, hasObligation}
 use Rattle.statement.specs.ReadBack.{sumℤ, sellersIn, lsesIn, lineSeller, lineLse, complianceIn, testIn, creditIn, lseIn}
+use Rattle.statement.specs.Reading.{sum-none}
 use Rattle.statement.specs.Starts.{less, Starts}
 use Rattle.statement.specs.ReadBackLaws.{compliance-reads, test-reads, credit-reads, lse-reads, line-has-seller, line-has-lse}
 use Rattle.history.specs.Columns.{Column, pays, tests, gets, receives, party, party-below, column, lineIn}
-
-sum-none : (n : ℕ) (v : ℕ → ℤ) → ((i : ℕ) → i < n → v i ≡ pos 0) → sumℤ n v ≡ pos 0
-unfolding sumℤ
-sum-none zero v h = refl
-sum-none (suc n) v h = rw (sum-none n v (λ i l. h i (omega arith)), h n (omega arith))
 
 -- ids of which p holds are none of which it does not
 apart : (p : ℕ → Bool) (i s : ℕ) → p i ≡ true → p s ≡ false → eqb i s ≡ false

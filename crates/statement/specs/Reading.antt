@@ -108,7 +108,7 @@ sum-lines (suc n) q g h e = go (q n) refl (sum-lines n q g h (λ i l. e i (omega
     go true z r = rw (add-one (countTo n q), r, e n (omega arith) z)
     go false z r = rw (add-zero (countTo n q), +ℤ-idr) r
 
-sum-none : (n : ℕ) (v : ℕ → ℤ) → ((i : ℕ) → i < n → v i ≡ pos 0) → sumℤ n v ≡ pos 0
+pub sum-none : (n : ℕ) (v : ℕ → ℤ) → ((i : ℕ) → i < n → v i ≡ pos 0) → sumℤ n v ≡ pos 0
 unfolding sumℤ
 sum-none zero v h = refl
 sum-none (suc n) v h = rw (sum-none n v (λ i l. h i (omega arith)), h n (omega arith))

@@ -16,7 +16,7 @@ use Rattle.year.specs.declared.Year.{Year}
 use Rattle.year.specs.Year.{noRegistration, noListing, noEvent, noTest, noTerms, noAmounts, newYear, pastEvent, pastTest, listed, zone, product}
 use Rattle.year.specs.Steps.{withTerms, withOpening, withRegistration, withLse, withEvent, withTest, withClose}
 use Rattle.year.specs.Sound.{SoundRegistration, AtMost, SoundListing, SoundEvent, SoundTest, Factors, SoundTerms, Fits42, SoundAmounts, Sound}
-use Rattle.year.specs.Sets.{kept-set}
+use Rattle.ids.specs.Sets.{kept-set}
 
 sound-no-listing : SoundListing noListing
 sound-no-listing =

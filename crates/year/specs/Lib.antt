@@ -2,7 +2,6 @@ pub mod Year
 pub mod Steps
 pub mod Listing
 pub mod Sound
-pub mod Sets
 pub mod Kept
 pub mod ListingLaws
 pub mod Limits

@@ -13,7 +13,7 @@ use Rattle.ids.specs.Ids.{at, holds}
 use Rattle.ids.specs.Each.{Each, each-set, each-replicate}
 use Rattle.year.specs.Listing.{byId, pairedBy, listingOf}
 use Rattle.year.specs.Sound.{AtMost, SoundListing, Pairs}
-use Rattle.year.specs.Sets.{kept-set, same-set, getD-replicate-same}
+use Rattle.ids.specs.Sets.{kept-set, same-set, getD-replicate-same}
 
 module _ (size : ℕ) (vs : List ℕ) (p : ℕ) where
   -- a turn of a loop over the pairs stores one more
