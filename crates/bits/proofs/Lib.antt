@@ -1,2 +1,2 @@
-pub mod Words
-pub mod Places
+pub mod Shifts
+pub mod Outgoing

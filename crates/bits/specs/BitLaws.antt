@@ -1,14 +1,14 @@
--- Laws of bits and fields: what a field depends on, what it determines, and that a placed field determines the bytes.
+-- Laws of bits and fields: what a field depends on, and what it determines.
 use mathlib.Core.Path.{_≡_, refl, sym, ap, _∙_}
 use mathlib.Core.List.{List, [], _∷_, _++_}
 use Prim.Native.Nat.{ℕ, zero, suc, _+_, _-_, _*_, _/_, _%_, _^_, _≤_, _<_}
-use native.Mathlib.Nat.{add-zero, add-suc, add-assoc, pow-zero, pow-suc, sub-zero, div-one, div-eq-of-lt}
+use native.Mathlib.Nat.{add-zero, add-suc, add-assoc, pow-zero, pow-suc, sub-zero, div-one, div-eq-of-lt, zero-div}
 use native.Mathlib.Decide.{decLt}
 use native.Mathlib.Omega.{arith}
-use lib.ListN.{length, getD, take, drop, List·getD-append}
+use lib.ListN.{length, getD, take, drop, List·getD-append, List·getD-eq-default}
 use lib.Pow.{high, low, shr-shr}
 use lib.Seq.{ext-getD, getD-append-add, getD-drop, getD-take}
-use Rattle.bits.specs.Bits.{Bytes, bitAt, number, fieldAt, Placed}
+use Rattle.bits.specs.Bits.{Bytes, bitAt, number, fieldAt}
 
 -- elements below a bound, in two lists one after another
 pub below-append : (n : ℕ) (xs ys : List ℕ) → ((i : ℕ) → getD xs i 0 < n) → ((i : ℕ) → getD ys i 0 < n) → (i : ℕ) → getD (xs ++ ys) i 0 < n
@@ -94,6 +94,18 @@ field-split xs p a b = number-split (bitAt xs) (bit-lt xs) p a b
 pub field-mid : (xs : List ℕ) (p a w d : ℕ) → fieldAt xs p (a + w + d) / 2 ^ d % 2 ^ w ≡ fieldAt xs (p + a) w
 field-mid xs p a w d = number-mid (bitAt xs) (bit-lt xs) p a w d
 
+-- the first a bits of a field, and its last b
+pub field-high : (xs : List ℕ) (p a b : ℕ) → fieldAt xs p (a + b) / 2 ^ b ≡ fieldAt xs p a
+field-high xs p a b = rw (field-split xs p a b) (high (fieldAt xs p a) b (field-lt xs (p + a) b))
+
+pub field-low : (xs : List ℕ) (p a b : ℕ) → fieldAt xs p (a + b) % 2 ^ b ≡ fieldAt xs (p + a) b
+field-low xs p a b = rw (field-split xs p a b) (low (fieldAt xs p a) b (field-lt xs (p + a) b))
+
+-- past the last byte all bits are zero
+pub field-past : (xs : List ℕ) (p w : ℕ) → 8 * length xs ≤ p → fieldAt xs p w ≡ 0
+unfolding bitAt
+field-past xs p w h = number-zero (bitAt xs) p w (λ q l m. rw (List·getD-eq-default xs 0 {n = q / 8} (omega arith), zero-div))
+
 -- a field depends on its own bits alone
 pub field-cong : (xs ys : List ℕ) (p w : ℕ) → ((q : ℕ) → p ≤ q → q < p + w → bitAt xs q ≡ bitAt ys q) → fieldAt xs p w ≡ fieldAt ys p w
 field-cong xs ys p w h = number-cong (bitAt xs) (bitAt ys) p w h
@@ -155,18 +167,3 @@ field-bits xs ys p (suc w) e =
 pub same-bytes : {xs ys : List ℕ} → Bytes xs → Bytes ys → length xs ≡ length ys → Agree xs ys 0 (8 * length xs) → xs ≡ ys
 same-bytes {xs} {ys} hx hy e f =
     ext-getD 0 xs ys e (λ i h. sym (byte-field xs i (hx i)) ∙ agree-field f (8 * i) 8 (omega arith) (omega arith) ∙ byte-field ys i (hy i))
-
--- a placed field determines the bytes
-pub placed-unique : {old xs ys : List ℕ} {p w v : ℕ} → Placed old xs p w v → Placed old ys p w v → Bytes xs → Bytes ys → xs ≡ ys
-placed-unique {old} {xs} {ys} {p} {w} f g hx hy =
-    let front : Agree xs ys 0 p = record { same = λ q l h. f .before q h ∙ sym (g .before q h) } in
-    let mid : Agree xs ys p (p + w) = field-bits xs ys p w (f .reads ∙ sym (g .reads)) in
-    let back : Agree xs ys (p + w) (8 * length xs) = record { same = λ q l h. f .after q l ∙ sym (g .after q l) } in
-    same-bytes hx hy (f .long ∙ sym (g .long)) (agree-join front (agree-join mid back))
-
--- a field outside a placed one reads as before
-pub other-before : {old new : List ℕ} {p w v : ℕ} → Placed old new p w v → (q u : ℕ) → q + u ≤ p → fieldAt new q u ≡ fieldAt old q u
-other-before {old} {new} f q u h = field-cong new old q u (λ k l m. f .before k (omega arith))
-
-pub other-after : {old new : List ℕ} {p w v : ℕ} → Placed old new p w v → (q u : ℕ) → p + w ≤ q → fieldAt new q u ≡ fieldAt old q u
-other-after {old} {new} f q u h = field-cong new old q u (λ k l m. f .after k (omega arith))

@@ -1,4 +1,4 @@
--- Bits and fields of a list of bytes, the most significant bit of each byte first, and what it means to take and to put a field.
+-- Bits and fields of a list of bytes, the most significant bit of each byte first, and what it means to take a field.
 use mathlib.Core.Path.{_≡_}
 use mathlib.Core.List.{List}
 use Prim.Native.Nat.{ℕ, zero, suc, _+_, _-_, _*_, _/_, _%_, _^_, _≤_, _<_}
@@ -32,19 +32,3 @@ pub record Room (xs : List ℕ) (p w : ℕ) : Type 0 where
 pub record Taken (xs : List ℕ) (p w v e : ℕ) : Type 0 where
   pub value : v ≡ fieldAt xs p w
   pub next : e ≡ p + w
-
--- new is old with v in the w bits from p on, and every other bit as it was
-pub record Placed (old new : List ℕ) (p w v : ℕ) : Type 0 where
-  pub long : length new ≡ length old
-  pub reads : fieldAt new p w ≡ v
-  pub before : (q : ℕ) → q < p → bitAt new q ≡ bitAt old q
-  pub after : (q : ℕ) → p + w ≤ q → bitAt new q ≡ bitAt old q
-
--- the same, and the next field is at e
-pub record Written (old new : List ℕ) (p w v e : ℕ) : Type 0 where
-  pub placed : Placed old new p w v
-  pub next : e ≡ p + w
-
--- the byte b with the number v in its n bits above the lowest s
-unfoldable pub patch : ℕ → ℕ → ℕ → ℕ → ℕ
-patch b v n s = b / 2 ^ (n + s) * 2 ^ (n + s) + (v * 2 ^ s + b % 2 ^ s)

@@ -2,5 +2,8 @@ pub mod Bits
 pub mod BitLaws
 pub mod Table
 pub mod TableLaws
+pub mod PairLaws
 pub mod Pack
 pub mod PackLaws
+pub mod Written
+pub mod WrittenLaws

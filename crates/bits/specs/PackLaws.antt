@@ -7,10 +7,10 @@ use native.Mathlib.Nat.{zero-add}
 use native.Mathlib.Omega.{arith}
 use lib.ListN.{length, getD, take, drop, length-append, length-drop, List·getD-append, List·getD-eq-default}
 use lib.Seq.{getD-append-add, getD-at, getD-drop, take-at}
-use Rattle.bits.specs.Bits.{Bytes, bitAt, number, fieldAt, Placed}
+use Rattle.bits.specs.Bits.{Bytes, bitAt, number, fieldAt}
 use Rattle.bits.specs.BitLaws.{below-append, number-lt, number-mid, number-zero, number-one, number-is, Agree, agree-join, agree-append, bit-after, field-bits, same-bytes}
-use Rattle.bits.specs.Table.{total, fieldsAt, Valid, Put}
-use Rattle.bits.specs.TableLaws.{length-fields, fields-valid, fields-cong, fields-agree}
+use Rattle.bits.specs.Table.{total, fieldsAt, Valid}
+use Rattle.bits.specs.TableLaws.{length-fields, fields-valid, fields-agree}
 use Rattle.bits.specs.Pack.{bitsOf, spell, bytesFor, byteOf, bytesOf, pack, encode, filling}
 
 length-bits : (w v : ℕ) → length (bitsOf w v) ≡ w
@@ -152,13 +152,6 @@ write-back xs ws hx long zeros =
     let vs = fieldsAt xs 0 ws in
     let whole : xs ≡ encode ws vs ++ drop n xs = encode-unique xs xs ws vs hx hx refl (omega arith) refl zeros (λ q h. refl) in
     sym (ap (λ (l : List ℕ). take n l) whole ∙ take-at (encode ws vs) (drop n xs) n (length-encode ws vs (length-fields xs 0 ws)))
-
--- fields written one after another, and then zero filling, make the encoding
-pub put-filled : {old cur new : List ℕ} (ws vs : List ℕ) → Bytes old → Bytes new → bytesFor (total ws) ≤ length old → Put old cur 0 ws vs
-    → Placed cur new (total ws) (8 * bytesFor (total ws) - total ws) 0 → new ≡ encode ws vs ++ drop (bytesFor (total ws)) old
-put-filled {old} {cur} {new} ws vs ho hn room f g =
-    let kept : fieldsAt new 0 ws ≡ vs = fields-cong new cur 0 ws (record { same = λ q l m. g .before q (omega arith) }) ∙ f .reads in
-    encode-unique old new ws vs ho hn (g .long ∙ f .long) room kept (g .reads) (λ q h. g .after q (omega arith) ∙ f .after q (omega arith))
 
 -- 110 and 1000011, and six zero bits that fill the second byte
 pub encode-figure : encode (3 ∷ 7 ∷ []) (6 ∷ 67 ∷ []) ≡ 208 ∷ 192 ∷ []

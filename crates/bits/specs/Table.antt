@@ -1,16 +1,20 @@
 -- A layout as a table of widths, and the numbers that fields of these widths spell, one right after another.
-use mathlib.Core.Path.{_≡_}
 use mathlib.Core.List.{List, [], _∷_}
 use mathlib.Core.Bool.{Bool, true, _&&_}
-use Prim.Native.Nat.{ℕ, _+_, _*_, _^_, _≤_, _<_}
+use Prim.Native.Nat.{ℕ, zero, suc, _+_, _*_, _^_, _≤_, _<_}
 use lib.Dec.{T, leb}
 use lib.ListN.{length}
-use Rattle.bits.specs.Bits.{bitAt, fieldAt}
+use Rattle.bits.specs.Bits.{fieldAt}
 
 -- how many bits the widths take
 abbrev pub total : List ℕ → ℕ
 total [] = 0
 total (w ∷ ws) = w + total ws
+
+-- the widths of n pairs of fields
+unfoldable pub pairs : ℕ → ℕ → ℕ → List ℕ
+pairs a b zero = []
+pairs a b (suc n) = a ∷ b ∷ pairs a b n
 
 -- what the fields from p on spell
 abbrev pub fieldsAt : List ℕ → ℕ → List ℕ → List ℕ
@@ -33,10 +37,3 @@ pub record Fit (xs : List ℕ) (p : ℕ) (ws : List ℕ) : Type 0 where
   pub narrows : T (narrow ws)
   pub within : p + total ws ≤ 8 * length xs
   pub small : p + total ws ≤ 2 ^ 60
-
--- new is old with the values in the fields from p on, and every other bit as it was
-pub record Put (old new : List ℕ) (p : ℕ) (ws vs : List ℕ) : Type 0 where
-  pub long : length new ≡ length old
-  pub reads : fieldsAt new p ws ≡ vs
-  pub before : (q : ℕ) → q < p → bitAt new q ≡ bitAt old q
-  pub after : (q : ℕ) → p + total ws ≤ q → bitAt new q ≡ bitAt old q

@@ -1,4 +1,4 @@
--- Laws of tables of fields: two tables in a row, one more field read or written, and what the fields depend on.
+-- Laws of tables of fields: two tables in a row, one more field read, and what the fields depend on.
 use mathlib.Core.Path.{_≡_, refl, ap, _∙_}
 use mathlib.Core.List.{List, [], _∷_, _++_, append-assoc}
 use mathlib.Core.Bool.{_&&_}
@@ -10,9 +10,9 @@ use lib.Dec.{T, leb, leb→le}
 use lib.ListN.{length, getD, take, drop, set}
 use lib.Seq.{take-suc, drop-cons, set-at, length-take-le}
 use mir.Facts.{and-yes}
-use Rattle.bits.specs.Bits.{fieldAt, Room, Placed}
-use Rattle.bits.specs.BitLaws.{Agree, agree-join, agree-field, agree-append, agree-take, field-lt, field-bits}
-use Rattle.bits.specs.Table.{total, fieldsAt, Valid, narrow, Fit, Put}
+use Rattle.bits.specs.Bits.{fieldAt}
+use Rattle.bits.specs.BitLaws.{Agree, agree-join, agree-field, agree-take, field-lt, field-bits}
+use Rattle.bits.specs.Table.{total, fieldsAt, Valid, narrow}
 
 pub total-append : (ws vs : List ℕ) → total (ws ++ vs) ≡ total ws + total vs
 total-append [] vs = omega arith
@@ -81,14 +81,11 @@ pub fields-more : (xs : List ℕ) (p : ℕ) (ws : List ℕ) (i : ℕ) → i < le
     → fieldsAt xs p (take (i + 1) ws) ≡ fieldsAt xs p (take i ws) ++ (fieldAt xs (p + total (take i ws)) (getD ws i 0) ∷ [])
 fields-more xs p ws i h = rw (add-one, take-suc ws i 0, fields-append)
 
--- the field at index i of the table has room
-pub fit-room : {xs ws : List ℕ} {p : ℕ} (i q : ℕ) → Fit xs p ws → i < length ws → q ≡ p + total (take i ws) → Room xs q (getD ws i 0)
-fit-room {xs} {ws} {p} i q f h e =
-    let w = width-in ws i (f .narrows) h in
-    record { some = w .0; narrow = w .1; within = omega (arith, total-in ws i h, f .within); small = omega (arith, total-in ws i h, f .small) }
-
-pub fit-same : {xs ys ws : List ℕ} {p : ℕ} → length ys ≡ length xs → Fit xs p ws → Fit ys p ws
-fit-same e f = record { narrows = f .narrows; within = rw e (f .within); small = f .small }
+-- one more element behind those that are written over the front of old
+pub set-more : (front old out : List ℕ) (n x : ℕ) → length front ≡ n → n < length old → out ≡ front ++ drop n old → set out n x ≡ (front ++ (x ∷ [])) ++ drop (n + 1) old
+set-more front old out n x l h e =
+    let d : drop n old ≡ getD old n 0 ∷ drop (n + 1) old = rw add-one (drop-cons old n 0 h) in
+    rw (e, d, set-at front (getD old n 0) (drop (n + 1) old) x n l, append-assoc)
 
 -- one more field read into out, whose other elements are as in old
 pub out-more : (xs : List ℕ) (p : ℕ) (ws out old : List ℕ) (i : ℕ) → i < length ws → length ws ≤ length old
@@ -96,8 +93,7 @@ pub out-more : (xs : List ℕ) (p : ℕ) (ws out old : List ℕ) (i : ℕ) → i
     → set out i (fieldAt xs (p + total (take i ws)) (getD ws i 0)) ≡ fieldsAt xs p (take (i + 1) ws) ++ drop (i + 1) old
 out-more xs p ws out old i h n e =
     let l : length (fieldsAt xs p (take i ws)) ≡ i = length-fields xs p (take i ws) ∙ length-take-le i ws (omega arith) in
-    let d : drop i old ≡ getD old i 0 ∷ drop (i + 1) old = rw add-one (drop-cons old i 0 (omega arith)) in
-    rw (e, d, fields-more xs p ws i h, set-at (fieldsAt xs p (take i ws)) (getD old i 0) (drop (i + 1) old) (fieldAt xs (p + total (take i ws)) (getD ws i 0)) i l, append-assoc)
+    rw (fields-more xs p ws i h) (set-more (fieldsAt xs p (take i ws)) old out i _ l (omega arith) e)
 
 -- a table's fields depend on their own bits alone
 pub fields-cong : (xs ys : List ℕ) (p : ℕ) (ws : List ℕ) → Agree xs ys p (p + total ws) → fieldsAt xs p ws ≡ fieldsAt ys p ws
@@ -114,12 +110,6 @@ fields-take xs ys n p ws e l =
     let a : Agree xs ys 0 (8 * n) = agree-take xs ys n e in
     fields-cong xs ys p ws (record { same = λ q k h. a .same q (omega arith) (omega arith) })
 
--- whatever follows
-pub fields-front : (xs rest : List ℕ) (p : ℕ) (ws : List ℕ) → p + total ws ≤ 8 * length xs → fieldsAt (xs ++ rest) p ws ≡ fieldsAt xs p ws
-fields-front xs rest p ws l =
-    let a = agree-append xs rest in
-    fields-cong (xs ++ rest) xs p ws (record { same = λ q k h. a .same q (omega arith) (omega arith) })
-
 -- lists of bytes whose fields are the same have the same bits there
 pub fields-agree : (xs ys : List ℕ) (p : ℕ) (ws : List ℕ) → fieldsAt xs p ws ≡ fieldsAt ys p ws → Agree xs ys p (p + total ws)
 fields-agree xs ys p [] e = record { same = λ q l h. absurd (omega arith) }
@@ -127,27 +117,3 @@ fields-agree xs ys p (w ∷ ws) e =
     let a : fieldAt xs p w ≡ fieldAt ys p w = cc in
     let b : fieldsAt xs (p + w) ws ≡ fieldsAt ys (p + w) ws = cc in
     rw (← add-assoc p w (total ws)) (agree-join (field-bits xs ys p w a) (fields-agree xs ys (p + w) ws b))
-
-pub put-none : (xs : List ℕ) (p : ℕ) → Put xs xs p [] []
-put-none xs p = record { long = refl; reads = refl; before = λ q l. refl; after = λ q l. refl }
-
--- a table of one field
-pub put-one : {old new : List ℕ} {p w v : ℕ} → Placed old new p w v → Put old new p (w ∷ []) (v ∷ [])
-put-one {w = w} f = record { long = f .long; reads = ap (λ (x : ℕ). x ∷ []) (f .reads); before = f .before; after = λ q l. f .after q (omega arith) }
-
--- one table written after another
-pub put-join : {old cur new : List ℕ} {p : ℕ} {ws vs us ts : List ℕ} → Put old cur p ws vs → Put cur new (p + total ws) us ts → Put old new p (ws ++ us) (vs ++ ts)
-put-join {old} {cur} {new} {p} {ws} {vs} {us} {ts} f g =
-    let t = total-append ws us in
-    let kept : fieldsAt new p ws ≡ vs = fields-cong new cur p ws (record { same = λ q l m. g .before q m }) ∙ f .reads in
-    record {
-      long = g .long ∙ f .long;
-      reads = rw (fields-append new p ws us, kept, g .reads);
-      before = λ q l. g .before q (omega arith) ∙ f .before q l;
-      after = λ q l. g .after q (omega arith) ∙ f .after q (omega arith);
-    }
-
--- one more field written
-pub put-more : {old cur new : List ℕ} {p : ℕ} (ws vs : List ℕ) (i : ℕ) → i < length ws → i < length vs → Put old cur p (take i ws) (take i vs)
-    → Placed cur new (p + total (take i ws)) (getD ws i 0) (getD vs i 0) → Put old new p (take (i + 1) ws) (take (i + 1) vs)
-put-more ws vs i h k f g = rw (add-one, take-suc ws i 0, take-suc vs i 0) (put-join f (put-one g))

@@ -1,45 +1,25 @@
 -- The loop of `allot_by_seller`: sixteen allotments side by side, each by the weights of one seller's registrations.
-use Prim.Native.Nat.{ℕ, _+_, _*_, _/_, _^_, _≤_, _<_}
+use Prim.Native.Nat.{ℕ, _+_, _*_, _^_, _≤_, _<_}
 use mathlib.Core.Bool.{Bool, true, false, cond}
 use mathlib.Core.List.{List}
 use mathlib.Core.Path.{_≡_, refl, sym, _∙_}
 use native.Mathlib.Omega.{arith}
 use lib.Dec.{eqb}
-use lib.ListN.{length, getD, set}
+use native.Mathlib.Nat.{mul-zero, zero-div}
+use native.Mathlib.Decide.{ℕ-discrete}
+use lib.ListN.{length, set, replicate, length-set, getD-replicate}
+use lib.Seq.{getD-set-same, getD-set-other}
 use borrow.Author.Tests.{eq-eqb, ne-eqb}
 use Rattle.ids.specs.Ids.{at, sumTo, tabulate}
 use Rattle.ids.specs.Sums.{sum-bound}
-use Rattle.ids.specs.Tables.{getD-tabulate, is-tabulate}
+use Rattle.ids.specs.Tables.{getD-tabulate}
 use Rattle.ids.specs.Fill.{Filled, filled-none, filled-more}
-use Rattle.allotment.specs.Allot.{share}
-use Rattle.allotment.specs.Stepper.{Carried, Asks, Gives, before-first, share-asks, share-value}
-use Rattle.allotment.specs.Abreast.{past, Abreast, one-on}
+use Rattle.allotment.specs.Allot.{share-zero}
+use Rattle.allotment.specs.Stepper.{Before, Asks, Gives, before-first, share-asks, share-value, share-next, share-skip}
 use Rattle.allotment.specs.declared.Allotment.{Allotment}
 use Rattle.allotment.specs.declared.Share.{Share}
 use Rattle.tallies.specs.Arrays.{own, bySeller, all, ownShare, Within, Sellers}
 use Rattle.charges.specs.Bounds.{product-fits}
-
--- the allotment of a by weights of sum W, before its first share
-abbrev pub begun : ℕ → ℕ → Allotment
-begun a W = record { amount = a; total = W; passed = 0; quotient = a * 0 / W }
-
-pub is-begun : {a W : ℕ} {s : Allotment} → Carried a W 0 s → s ≡ begun a W
-is-begun c = alike (c .amount) (c .total) (c .passed) (c .quotient)
-  where
-    alike : {a b c d i j k l : ℕ} → a ≡ i → b ≡ j → c ≡ k → d ≡ l
-        → _≡_ {A = Allotment} (record { amount = a; total = b; passed = c; quotient = d }) (record { amount = i; total = j; passed = k; quotient = l })
-    alike p q r s = cc
-
--- one for each seller, by amounts and totals
-pub record Begun (amounts totals : List ℕ) (l : List Allotment) : Type 0 where
-  pub long : length l ≡ 16
-  pub each : (k : ℕ) → k < 16 → Carried (at amounts k) (at totals k) 0 (getD l k past)
-
-pub all-begun : {amounts totals : List ℕ} {l : List Allotment} {i : ℕ} → Filled past 16 (λ k. begun (at amounts k) (at totals k)) l i → 16 ≤ i → Begun amounts totals l
-all-begun h m = record {
-  long = h .long;
-  each = λ k b. rw (h .done k (omega arith)) (record { amount = refl; total = refl; passed = refl; quotient = refl });
-}
 
 -- the weights of seller k's registrations
 abbrev pub theirs : List ℕ → List ℕ → ℕ → ℕ → ℕ
@@ -67,41 +47,92 @@ module _ (sellers weights : List ℕ) where
   theirs-fit k ha hw =
       product-fits 10000000 6400000 ha (omega (arith, sum-bound 64 100000 (theirs sellers weights k) (λ i l. theirs-le hw k i))) (omega arith)
 
--- what the allotments of an array allot
-abbrev pub amountsOf : List Allotment → ℕ → ℕ
-amountsOf l k = getD l k past .amount
+  nobody : (i : ℕ) → at weights i ≡ 0 → (k : ℕ) → theirs sellers weights k i ≡ 0
+  unfolding own
+  nobody i z k = go (eqb (at sellers i) k)
+    where
+      go : (b : Bool) → cond b (at weights i) 0 ≡ 0
+      go true = z
+      go false = refl
+
+-- seller k's allotment
+abbrev pub stands : List ℕ → List ℕ → List ℕ → List ℕ → ℕ → Allotment
+stands amounts totals passed quotients k = record { amount = at amounts k; total = at totals k; passed = at passed k; quotient = at quotients k }
 
 -- before registration i, the first i shares are given and every seller's allotment stands before its share i
-pub record Turn (sellers weights : List ℕ) (a : ℕ → ℕ) (carried : List Allotment) (shares : List ℕ) (i : ℕ) : Type 0 where
-  pub filled : Filled 0 64 (λ j. share 64 (theirs sellers weights (at sellers j)) (a (at sellers j)) j) shares i
-  pub abreast : Abreast 64 16 (theirs sellers weights) a i carried
+pub record Turn (sellers weights amounts totals passed quotients shares : List ℕ) (i : ℕ) : Type 0 where
+  pub filled : Filled 0 64 (ownShare sellers weights amounts) shares i
+  pub passedLong : length passed ≡ 16
+  pub quotientsLong : length quotients ≡ 16
+  pub stood : (k : ℕ) → k < 16 → Before 64 (theirs sellers weights k) (at amounts k) i (stands amounts totals passed quotients k)
 
-pub turn-first : {sellers weights amounts totals shares : List ℕ} {carried : List Allotment} → totals ≡ tabulate 16 (bySeller sellers all (at weights))
-    → Begun amounts totals carried → length shares ≡ 64 → Turn sellers weights (amountsOf carried) carried shares 0
+pub turn-first : {sellers weights amounts totals shares : List ℕ} → totals ≡ tabulate 16 (bySeller sellers all (at weights))
+    → length shares ≡ 64 → Turn sellers weights amounts totals (replicate 16 0) (replicate 16 0) shares 0
 unfolding bySeller
-turn-first {sellers} {weights} t b l = record {
+turn-first {sellers} {weights} {amounts} {totals} t l = record {
   filled = filled-none l;
-  abreast = record {
-    long = b .long;
-    at = λ k m.
-        before-first (sym (b .each k m .amount)) (rw t (getD-tabulate (bySeller sellers all (at weights)) 16 k 0 m)) (b .each k m);
-  };
+  passedLong = refl;
+  quotientsLong = refl;
+  stood = λ k m.
+      let zero : at (replicate 16 0) k ≡ 0 = getD-replicate {A = ℕ} 16 k 0 0 m in
+      before-first refl (rw t (getD-tabulate (bySeller sellers all (at weights)) 16 k 0 m))
+      (record { amount = refl; total = refl; passed = zero; quotient = zero ∙ sym (rw (mul-zero (at amounts k)) (zero-div (at totals k))) });
 }
 
-module _ {sellers weights : List ℕ} {a : ℕ → ℕ} {carried : List Allotment} {shares : List ℕ} {i : ℕ} (h : Turn sellers weights a carried shares i) (s : Sellers sellers) where
-  pub turn-asks : i < 64 → a (at sellers i) ≤ 10000000 → Within 100000 weights → Asks (getD carried (at sellers i) past) (at weights i)
-  turn-asks l ha hw =
-      share-asks (h .abreast .at (at sellers i) (s i)) l (its-own sellers weights i) (theirs-fit sellers weights (at sellers i) ha hw)
+module _ {sellers weights amounts totals passed quotients shares : List ℕ} {i : ℕ} (h : Turn sellers weights amounts totals passed quotients shares i) (s : Sellers sellers) (l : i < 64) where
+  abbrev own-seller : ℕ
+  own-seller = at sellers i
 
-  pub turn-again : i < 64 → {r : Share} → Gives (getD carried (at sellers i) past) (at weights i) r
-      → Turn sellers weights a (set carried (at sellers i) (r .next)) (set shares i (r .value)) (i + 1)
-  turn-again l g = record {
-    filled = filled-more (h .filled) l (share-value (h .abreast .at (at sellers i) (s i)) (its-own sellers weights i) g);
-    abreast = one-on (h .abreast) (s i) (its-own sellers weights i) g (λ j n. no-other sellers weights i j n);
+  pub turn-asks : Within 10000000 amounts → Within 100000 weights → Asks (stands amounts totals passed quotients own-seller) (at weights i)
+  turn-asks ha hw =
+      share-asks (h .stood own-seller (s i)) l (its-own sellers weights i) (theirs-fit sellers weights own-seller (ha own-seller) hw)
+
+  -- a weight of 0
+  pub turn-skip : at weights i ≡ 0 → Turn sellers weights amounts totals passed quotients (set shares i 0) (i + 1)
+  unfolding ownShare
+  turn-skip z = record {
+    filled = filled-more (h .filled) l (sym (share-zero 64 (theirs sellers weights own-seller) (at amounts own-seller) i (nobody sellers weights i z own-seller)));
+    passedLong = h .passedLong;
+    quotientsLong = h .quotientsLong;
+    stood = λ k m. share-skip (h .stood k m) (nobody sellers weights i z k);
   }
 
-  pub turn-last : (amounts : List ℕ) → ((k : ℕ) → k < 16 → a k ≡ at amounts k) → 64 ≤ i → shares ≡ tabulate 64 (ownShare sellers weights amounts)
-  unfolding ownShare
-  turn-last amounts e m =
-      is-tabulate (ownShare sellers weights amounts) 64 0 shares (h .filled .long)
-      (λ j n. h .filled .done j (omega arith) ∙ rw (e (at sellers j) (s j)))
+  module _ {r : Share} (g : Gives (stands amounts totals passed quotients own-seller) (at weights i) r) where
+    abbrev passed-now : List ℕ
+    passed-now = set passed own-seller (r .next .passed)
+
+    abbrev quotients-now : List ℕ
+    quotients-now = set quotients own-seller (r .next .quotient)
+
+    on : (k : ℕ) → k < 16 → Dec (k ≡ own-seller) → Before 64 (theirs sellers weights k) (at amounts k) (i + 1) (stands amounts totals passed-now quotients-now k)
+    on k m (yes q) =
+        let b = share-next (h .stood own-seller (s i)) (its-own sellers weights i) g .carried in
+        let p = h .stood own-seller (s i) .carried in
+        rw q
+        (record {
+          carried = record {
+            amount = p .amount;
+            total = p .total;
+            passed = getD-set-same passed own-seller (r .next .passed) 0 (omega (arith, s i, h .passedLong)) ∙ b .passed;
+            quotient = getD-set-same quotients own-seller (r .next .quotient) 0 (omega (arith, s i, h .quotientsLong)) ∙ b .quotient;
+          };
+        })
+    on k m (no q) =
+        let b = share-skip (h .stood k m) (no-other sellers weights i k q) .carried in
+        record {
+          carried = record {
+            amount = b .amount;
+            total = b .total;
+            passed = getD-set-other passed own-seller k (r .next .passed) 0 q ∙ b .passed;
+            quotient = getD-set-other quotients own-seller k (r .next .quotient) 0 q ∙ b .quotient;
+          };
+        }
+
+    pub turn-again : Turn sellers weights amounts totals passed-now quotients-now (set shares i (r .value)) (i + 1)
+    unfolding ownShare
+    turn-again = record {
+      filled = filled-more (h .filled) l (share-value (h .stood own-seller (s i)) (its-own sellers weights i) g);
+      passedLong = length-set passed own-seller (r .next .passed) ∙ h .passedLong;
+      quotientsLong = length-set quotients own-seller (r .next .quotient) ∙ h .quotientsLong;
+      stood = λ k m. on k m (ℕ-discrete k own-seller);
+    }

@@ -1,13 +1,15 @@
 // Compliance charges of one event.
 ghost use mathlib.Core.Path.{_≡_};
 ghost use mathlib.Core.Bool.{cond};
-ghost use Prim.Native.Nat.{_+_, _-_, _*_, _/_, _≤_, min};
+ghost use Prim.Native.Nat.{_-_, _*_, _/_, _≤_, min};
 ghost use lib.Dec.{leb};
 ghost use Rattle.ids.specs.Ids.{at, tabulate};
 ghost use Rattle.units.specs.Units.{convert};
 ghost use Rattle.calendar.specs.Calendar.{due};
 ghost use Rattle.owed.specs.Owed.{uncapped};
 ghost use Rattle.tallies.specs.Arrays.{Within};
+ghost use Rattle.charges.specs.Charging.{dailyOf, centsOf, Chargeable, Charged};
+use tallies::add_at;
 use tallies::less;
 use units::Nominated;
 
@@ -106,6 +108,9 @@ fn asked(period: u64, calls: u64, u: u64, rate: u64) -> u64
     requires { ⌜ rate ≤ 100000 ⌝ }
     ensures { λ r. ⌜ r ≡ uncapped period calls u rate ⌝ }
 {
+    if u == 0 {
+        return 0;
+    }
     if period == 2 {
         return u * rate / 52;
     }
@@ -122,46 +127,6 @@ pub fn lesser(a: u64, b: u64) -> u64
     if a < b { a } else { b }
 }
 
-// Each registration's daily charge: what is asked, and at most the rest of the cap.
-pub fn dailies(
-    period: u64,
-    calls: &[u64; 64],
-    rates: &[u64; 64],
-    u: &[u64; 64],
-    caps: &[u64; 64],
-    taken: &[u64; 64],
-) -> [u64; 64]
-    requires { ⌜ Within 10000000 (now u) ⌝ }
-    requires { ⌜ Within 100000 (now rates) ⌝ }
-    ensures { λ r. ⌜ r ≡ tabulate 64 (λ i. min (uncapped period (at (now (calls .entry)) i) (at (now (u .entry)) i) (at (now (rates .entry)) i)) (at (now (caps .entry)) i - at (now (taken .entry)) i)) ⌝ }
-{
-    let mut daily = [0u64; 64];
-    let mut i: usize = 0;
-    while i < 64 {
-        daily[i] = lesser(
-            asked(period, calls[i], u[i], rates[i]),
-            less(caps[i], taken[i]),
-        );
-        i += 1;
-    }
-    daily
-}
-
-// What is taken of each cap after the daily charges.
-pub fn taken_after(taken: &[u64; 64], daily: &[u64; 64]) -> [u64; 64]
-    requires { ⌜ Within 100000000000 (now taken) ⌝ }
-    requires { ⌜ Within 100000000000 (now daily) ⌝ }
-    ensures { λ r. ⌜ r ≡ tabulate 64 (λ i. at (now (taken .entry)) i + at (now (daily .entry)) i) ⌝ }
-{
-    let mut after = [0u64; 64];
-    let mut i: usize = 0;
-    while i < 64 {
-        after[i] = taken[i] + daily[i];
-        i += 1;
-    }
-    after
-}
-
 // The charge to date in cents of a daily charge: the days come before the rounding.
 fn due_cents(product: u64, month: u64, k: u64, days: u64, daily: u64) -> u64
     requires { ⌜ month ≤ 12 ⌝ }
@@ -173,18 +138,38 @@ fn due_cents(product: u64, month: u64, k: u64, days: u64, daily: u64) -> u64
     if due <= k { daily * days / 1000 } else { 0 }
 }
 
-// Each registration's charge to date in cents, once its due month is reached.
-pub fn cents_of(products: &[u64; 64], month: u64, k: u64, days: u64, daily: &[u64; 64]) -> [u64; 64]
-    requires { ⌜ month ≤ 12 ⌝ }
-    requires { ⌜ days ≤ 366 ⌝ }
-    requires { ⌜ Within 100000000000 (now daily) ⌝ }
-    ensures { λ r. ⌜ r ≡ tabulate 64 (λ i. cond (leb (due (at (now (products .entry)) i) month) k) (at (now (daily .entry)) i * days / 1000) 0) ⌝ }
+// Charges each registration for its part u of a shortfall: what is asked, and at most the rest of its cap. What is taken of the caps and the
+// sellers' charges to date grow; the result is what the event charges to date.
+pub fn charge_event(
+    period: u64,
+    month: u64,
+    k: u64,
+    days: u64,
+    sellers: &[u64; 64],
+    products: &[u64; 64],
+    counts: &[u64; 64],
+    rates: &[u64; 64],
+    caps: &[u64; 64],
+    u: &[u64; 64],
+    taken: &mut [u64; 64],
+    compliance: &mut [u64; 16],
+) -> u64
+    requires { ⌜ Chargeable month days (now sellers) (now rates) (now caps) (now u) (now taken) (now compliance) ⌝ }
+    ensures { λ r. ⌜ Charged (now (sellers .entry)) (dailyOf period (now (counts .entry)) (now (rates .entry)) (now (caps .entry)) (now (u .entry)) (now (taken .entry))) (centsOf (now (products .entry)) month k days (dailyOf period (now (counts .entry)) (now (rates .entry)) (now (caps .entry)) (now (u .entry)) (now (taken .entry)))) (now (taken .entry)) (now (compliance .entry)) (now (taken .exit)) (now (compliance .exit)) r ⌝ }
 {
-    let mut cents = [0u64; 64];
+    let mut charged: u64 = 0;
     let mut i: usize = 0;
     while i < 64 {
-        cents[i] = due_cents(products[i], month, k, days, daily[i]);
+        let before = taken[i];
+        let daily = lesser(
+            asked(period, counts[i], u[i], rates[i]),
+            less(caps[i], before),
+        );
+        let cents = due_cents(products[i], month, k, days, daily);
+        taken[i] = before + daily;
+        add_at(compliance, sellers[i] as usize, cents);
+        charged += cents;
         i += 1;
     }
-    cents
+    charged
 }

@@ -1,11 +1,13 @@
 // Excess credits of one event.
 ghost use mathlib.Core.Path.{_≡_};
-ghost use Prim.Native.Nat.{_*_, _/_, _≤_, _<_, _^_, min};
-ghost use Rattle.ids.specs.Ids.{at, sumTo, tabulate};
-ghost use Rattle.allotment.specs.Allot.{share};
-ghost use Rattle.tallies.specs.Arrays.{Within};
+ghost use Prim.Native.Nat.{_+_, _*_, _/_, _≤_};
+ghost use Rattle.ids.specs.Ids.{at, tabulate};
+ghost use Rattle.tallies.specs.Arrays.{bySeller, all};
+ghost use Rattle.charges.specs.Crediting.{creditsOf, Creditable};
 use crate::compliance::lesser;
-use crate::shares::allot;
+use allotment::Allotment;
+use tallies::add_at;
+use tallies::sum_of;
 
 // The limit of a credit: a fifth of the rate for the excess, rounded before the days.
 fn limit(e: u64, rate: u64, days: u64) -> u64
@@ -17,21 +19,29 @@ fn limit(e: u64, rate: u64, days: u64) -> u64
     e * rate / 5 * days / 1000
 }
 
-// Each registration's credit: its share of the event's charges by its excess, and at most a fifth of its rate for it.
-pub fn credits_of(rates: &[u64; 64], days: u64, charged: u64, e: &[u64; 64]) -> [u64; 64]
-    requires { ⌜ days ≤ 366 ⌝ }
-    requires { ⌜ Within 100000 (now rates) ⌝ }
-    requires { ⌜ Within 10000000 (now e) ⌝ }
-    requires { ⌜ charged * sumTo 64 (at (now e)) < 2 ^ 64 ⌝ }
-    ensures { λ r. ⌜ r ≡ tabulate 64 (λ i. min (share 64 (at (now (e .entry))) charged i) (at (now (e .entry)) i * at (now (rates .entry)) i / 5 * days / 1000)) ⌝ }
+// Credits each registration with its share of what the event charges, by its excess e, and at most a fifth of its rate for it.
+pub fn credit_event(
+    sellers: &[u64; 64],
+    rates: &[u64; 64],
+    days: u64,
+    charged: u64,
+    e: &[u64; 64],
+    credit: &mut [u64; 16],
+)
+    requires { ⌜ Creditable days (now sellers) (now rates) charged (now e) (now credit) ⌝ }
+    ensures { λ _. ⌜ now (credit .exit) ≡ tabulate 16 (λ s. at (now (credit .entry)) s + bySeller (now (sellers .entry)) all (creditsOf (now (rates .entry)) days charged (now (e .entry))) s) ⌝ }
 {
-    let mut shares = [0u64; 64];
-    allot(charged, e, &mut shares);
-    let mut credits = [0u64; 64];
+    let mut a = Allotment::new(charged, sum_of(e));
     let mut i: usize = 0;
     while i < 64 {
-        credits[i] = lesser(shares[i], limit(e[i], rates[i], days));
+        let excess = e[i];
+        if excess != 0 {
+            let f = a.share(excess);
+            let next = f.next;
+            a = next;
+            let most = limit(excess, rates[i], days);
+            add_at(credit, sellers[i] as usize, lesser(f.value, most));
+        }
         i += 1;
     }
-    credits
 }

@@ -5,12 +5,10 @@ mod shares;
 mod tests;
 
 pub use compliance::caps_of;
-pub use compliance::cents_of;
-pub use compliance::dailies;
+pub use compliance::charge_event;
 pub use compliance::excesses;
 pub use compliance::shortfalls;
-pub use compliance::taken_after;
-pub use credits::credits_of;
+pub use credits::credit_event;
 pub use shares::allot;
 pub use shares::allot_by_seller;
 pub use tests::add_test;

@@ -1,11 +1,62 @@
-// The bytes of a buffer that are still to be taken, moved to its front, so that a record across two pieces of input is read as one.
+// Input in pieces through a lent buffer. What is still to be taken of it is moved to the front, so that a record or a line across two pieces is read as one.
+ghost use mathlib.Core.Bool.{false};
 ghost use mathlib.Core.Path.{_≡_};
-ghost use Prim.Native.Nat.{_-_, _≤_};
-ghost use lib.ListN.{length, drop};
+ghost use Prim.Native.Nat.{_-_, _≤_, _<_};
+ghost use lib.ListN.{length, take, drop};
 ghost use lib.Seq.{paste};
+ghost use Rattle.feed.specs.Filled.{Filled};
+
+// The bytes of the longest record, by its counts as written: 25 bits, 31 deficits of 24 and 127 entries of 23.
+pub const LONGEST_RECORD: usize = 462;
+
+// The part of the input buffer that is still to be taken. Ended: no more comes; failed: a read failed.
+pub struct Window {
+    pub start: usize,
+    pub end: usize,
+    pub ended: bool,
+    pub failed: bool,
+}
+
+// The window before anything is read.
+pub fn new_window() -> Window
+    ensures { λ r. ⌜ (r .start ≡ 0) × (r .end ≡ 0) × (r .ended ≡ false) × (r .failed ≡ false) ⌝ }
+{
+    Window {
+        start: 0,
+        end: 0,
+        ended: false,
+        failed: false,
+    }
+}
+
+// The window with so many bytes in it at least, unless the input ends before.
+pub fn filled(input: i32, buffer: &mut [u8], window: Window, least: usize) -> Window
+    requires { ⌜ window .start ≤ window .end ⌝ }
+    requires { ⌜ window .end ≤ length (now buffer) ⌝ }
+    requires { ⌜ least ≤ length (now buffer) ⌝ }
+    ensures { λ r. ⌜ Filled (now (buffer .entry)) (now (buffer .exit)) window least r ⌝ }
+{
+    if window.ended {
+        return window;
+    }
+    if least <= window.end - window.start {
+        return window;
+    }
+    let mut end = to_front(buffer, window.start, window.end);
+    while end < least {
+        let more = read_more(input, buffer, end);
+        if more.ended {
+            return more;
+        }
+        end = more.end;
+    }
+    let mut full = new_window();
+    full.end = end;
+    full
+}
 
 // The bytes from `start` up to `end` to the front; answers how many they are.
-pub fn to_front(buffer: &mut [u8], start: usize, end: usize) -> usize
+fn to_front(buffer: &mut [u8], start: usize, end: usize) -> usize
     requires { ⌜ start ≤ end ⌝ }
     requires { ⌜ end ≤ length (now buffer) ⌝ }
     ensures { λ r. ⌜ r ≡ end - start ⌝ }
@@ -18,4 +69,21 @@ pub fn to_front(buffer: &mut [u8], start: usize, end: usize) -> usize
         i += 1;
     }
     left
+}
+
+// Reads once behind what is there.
+fn read_more(input: i32, buffer: &mut [u8], end: usize) -> Window
+    requires { ⌜ end ≤ length (now buffer) ⌝ }
+    ensures { λ r. ⌜ (r .start ≡ 0) × (end ≤ r .end) × (r .end ≤ length (now (buffer .entry))) ⌝ }
+    ensures { λ r. ⌜ (r .ended ≡ false → end < r .end) ⌝ }
+    ensures { λ r. ⌜ take end (now (buffer .exit)) ≡ take end (now (buffer .entry)) ⌝ }
+{
+    let got = libc::read(input, &mut buffer[end..]);
+    let n = io::count(got, &buffer[end..]);
+    Window {
+        start: 0,
+        end: end + n,
+        ended: n == 0,
+        failed: got < 0,
+    }
 }

@@ -1,5 +1,7 @@
 // Reads records, one to a line, and prints what reading answers: number, count, bytes used, and the numbers.
 use libc::STDOUT_FILENO;
+ghost use Prim.Native.Nat.{_≤_};
+ghost use lib.ListN.{length};
 
 fn main() {
     let mut input = io::large_buffer();
@@ -12,9 +14,6 @@ fn cases(input: &[u8]) {
     while at < input.len() {
         let end = text::find(input, at, b'\n');
         case(&input[at..end]);
-        if end == input.len() {
-            return;
-        }
         at = end + 1;
     }
 }
@@ -22,39 +21,27 @@ fn cases(input: &[u8]) {
 // A line: the bytes in hexadecimal, `-` where there are none, and for how many numbers there is room.
 fn case(line: &[u8]) {
     let end = text::find(line, 0, b' ');
-    let mut bytes = io::buffer();
-    let n = text::hex_bytes(&line[..end], &mut bytes);
-    if end == line.len() {
-        return;
-    }
-    let from = end + 1;
-    let room = text::decimal(&line[from..]);
-    read(&bytes[..n], room as usize);
+    let mut bytes = [0u8; 4096];
+    let n = text::hex_bytes(&line[0..end], &mut bytes);
+    let mut words = [0u64; 2];
+    text::decimals(line, &mut words);
+    let room = text::least(words[1] as usize, 512);
+    let mut row = [0u64; 515];
+    read(&bytes[0..n], &mut row[0..room + 3]);
 }
 
-fn read(bytes: &[u8], room: usize) {
-    let mut numbers = [0u64; 512];
-    let most = text::least(room, 512);
-    let answer = records::read(bytes, &mut numbers[..most]);
-    io::print_decimal(STDOUT_FILENO, answer.number);
-    space();
-    io::print_decimal(STDOUT_FILENO, answer.count as u64);
-    space();
-    io::print_decimal(STDOUT_FILENO, answer.used as u64);
-    let count = text::least(answer.count, 512);
-    print(&numbers[..count]);
-    io::write_all(STDOUT_FILENO, b"\n");
-}
-
-fn print(numbers: &[u64]) {
-    let mut i = 0;
-    while i < numbers.len() {
-        space();
-        io::print_decimal(STDOUT_FILENO, numbers[i]);
-        i += 1;
-    }
-}
-
-fn space() {
-    io::write_all(STDOUT_FILENO, b" ");
+// The answer goes before the numbers, in one row.
+fn read(bytes: &[u8], row: &mut [u64])
+    requires { ⌜ 3 ≤ length (now row) ⌝ }
+    requires { ⌜ length (now row) ≤ 515 ⌝ }
+{
+    let room = row.len() - 3;
+    let answer = records::read(bytes, &mut row[3..]);
+    row[0] = answer.number;
+    row[1] = answer.count as u64;
+    row[2] = answer.used as u64;
+    let count = text::least(answer.count, room);
+    let mut out = io::large_buffer();
+    let end = report::numbers_line(&row[0..count + 3], &mut out, 0);
+    io::write_all(STDOUT_FILENO, &out[0..end]);
 }

@@ -1,4 +1,6 @@
 pub mod Tables
 pub mod Turns
+pub mod Parts
 pub mod Reading
 pub mod Writing
+pub mod Laying

@@ -1,8 +1,9 @@
 -- What taking a record apart answers, from the questions' answers; and what reading it answers.
 use Prim.Native.Nat.{ℕ, _+_, _-_, _*_, _≤_, _<_}
-use mathlib.Core.Bool.{Bool, true, false, _&&_, cond}
+use mathlib.Core.Bool.{Bool, true, false, cond}
 use mathlib.Core.List.{List, [], _∷_}
 use mathlib.Core.Path.{_≡_, refl, sym, ap, _∙_}
+use native.Mathlib.Decide.{decLt}
 use native.Mathlib.Omega.{arith}
 use borrow.Author.Tests.{leb-true, lt-leb, le-leb, eq-eqb, ne-eqb}
 use lib.Dec.{leb, eqb}
@@ -11,20 +12,30 @@ use lib.Seq.{take-at}
 use Rattle.ids.specs.Ids.{at}
 use Rattle.ids.specs.Tests.{cond-true, cond-false}
 use Rattle.bits.specs.Bits.{fieldAt}
+use Rattle.bits.specs.BitLaws.{field-past}
 use Rattle.bits.specs.Table.{total, fieldsAt}
 use Rattle.bits.specs.TableLaws.{length-fields}
 use Rattle.bits.specs.Pack.{bytesFor}
-use Rattle.records.specs.declared.Shape.{Shape}
-use Rattle.records.specs.Layout.{head, deficitsIn, entriesIn, rulesFor, widths, sizeOf}
-use Rattle.records.specs.LayoutLaws.{and-parts, bare-rules, length-widths, total-rules}
-use Rattle.records.specs.Questions.{firstFailed, kindOf, headOf, rulesOf, numbersOf, isKind, isWhole, permitted, isFilled, rises, idsRise, recordNumber, consumed, most, row}
+use Rattle.records.specs.declared.layout.Shape.{Shape}
+use Rattle.records.specs.Layout.{head, deficitsIn, entriesIn, widths, sizeOf}
+use Rattle.records.specs.LayoutLaws.{and-parts, length-widths}
+use Rattle.records.specs.Questions.{firstFailed, kindOf, headOf, rulesOf, numbersOf, isKind, isWhole, permitted, isFilled, idsRise, recordNumber, consumed, most, row}
 use Rattle.records.specs.QuestionLaws.{at-row, permitted-same, permitted-row, rises-row, head-refused, counts-same, counts-written, few-numbers, numbers-head, numbers-kind, numbers-counts}
 use Rattle.records.specs.Calls.{Parses, readNumber, over, readBuffer, Reads}
-use Rattle.records.specs.Shapes.{rulesIn, Sized, Whole}
+use Rattle.records.specs.Shapes.{rulesIn, Shaped, Sized, listsPermit, listsRise, Whole}
+use Rattle.records.specs.ShapeLaws.{lists-permit}
 
 pub kind-small : (k : ℕ) → isKind k ≡ true → k < 7
 unfolding isKind
 kind-small k e = omega (arith, leb-true k 6 (and-parts (leb 1 k) (leb k 6) e .1))
+
+-- a kind is in a byte
+pub kind-byte : (bytes : List ℕ) → isKind (kindOf bytes) ≡ true → 1 ≤ length bytes
+unfolding isKind kindOf
+kind-byte bytes e = elim (decLt (length bytes) 1) [
+  | yes l ↦ omega (arith, leb-true 1 (fieldAt bytes 0 4) (and-parts (leb 1 (fieldAt bytes 0 4)) (leb (fieldAt bytes 0 4) 6) e .0), field-past bytes 0 4 (omega arith))
+  | no l ↦ omega arith
+]
 
 -- the first question that fails, and the bytes consumed
 pub record Fails (bytes : List ℕ) (number used : ℕ) : Type 0 where
@@ -60,6 +71,10 @@ module _ (bytes : List ℕ) where
           unfolding recordNumber firstFailed consumed
           fails-none e = record { numbers = rw (a, b, c, d, e); uses = rw (a, b) }
 
+pub row-long : (vs : List ℕ) → length vs ≤ length (row vs)
+unfolding row
+row-long vs = omega (arith, length-append vs (replicate (most - length vs) 0))
+
 -- an answer with the number of a question that failed
 pub refuses : {bytes values : List ℕ} {number used n u count : ℕ} → number ≡ n → used ≡ u → (n ≡ 0 → ⊥) → Fails bytes n u → Parses bytes number used count values
 refuses e f some t =
@@ -70,10 +85,8 @@ module _ {bytes : List ℕ} {s : Shape} (w : Whole bytes s) where
   unfolding rulesOf
   whole-rules = rw (w .kind, w .deficits, w .entries)
 
-  pub whole-sized : Sized s
-  whole-sized =
-      let c = counts-written bytes in
-      record { kind = rw (w .kind) (kind-small (kindOf bytes) (w .first)); deficits = rw (w .deficits) (c .0); entries = rw (w .entries) (c .1) }
+  pub whole-few : length (rulesIn s) ≤ most
+  whole-few = rw (w .kind, w .deficits, w .entries) (few-numbers (kindOf bytes) (headOf bytes) (w .permits))
 
   pub whole-bytes : sizeOf (rulesIn s) ≤ length bytes
   unfolding isWhole
@@ -83,16 +96,19 @@ module _ {bytes : List ℕ} {s : Shape} (w : Whole bytes s) where
   unfolding numbersOf
   whole-values = rw whole-rules
 
-  pub whole-permitted : (values : List ℕ) → values ≡ row (numbersOf bytes) → permitted (rulesIn s) values ≡ permitted (rulesOf bytes) (numbersOf bytes)
-  whole-permitted values e = rw (e, whole-rules, permitted-row (rulesOf bytes) (numbersOf bytes))
+  pub whole-permitted : (values : List ℕ) → values ≡ row (numbersOf bytes) → listsPermit s values ≡ permitted (rulesOf bytes) (numbersOf bytes)
+  whole-permitted values e =
+      let k = kindOf bytes in
+      let same : permitted (head k) values ≡ permitted (head k) (headOf bytes) =
+      permitted-same (head k) values (headOf bytes) (λ j l. ap (λ (vs : List ℕ). at vs j) e ∙ at-row (numbersOf bytes) j ∙ numbers-head bytes (w .first) j l) in
+      sym (lists-permit s values (rw (w .kind) (same ∙ w .permits))) ∙ rw (e, whole-rules, permitted-row (rulesOf bytes) (numbersOf bytes))
 
   pub whole-filled : (n : ℕ) → n ≡ total (widths (rulesIn s)) → eqb (fieldAt bytes n (8 * bytesFor n - n)) 0 ≡ isFilled bytes
   unfolding isFilled
   whole-filled n e = rw (e, whole-rules)
 
-  pub whole-rise : (values : List ℕ) → values ≡ row (numbersOf bytes)
-      → (rises values (length (head (s .kind))) (s .deficits) && rises values (length (head (s .kind)) + 2 * s .deficits) (s .entries)) ≡ idsRise (numbersOf bytes)
-  unfolding idsRise
+  pub whole-rise : (values : List ℕ) → values ≡ row (numbersOf bytes) → listsRise s values ≡ idsRise (numbersOf bytes)
+  unfolding listsRise idsRise
   whole-rise values e =
       let vs = numbersOf bytes in
       let c = numbers-counts bytes (w .first) in
@@ -104,47 +120,50 @@ module _ {bytes : List ℕ} {s : Shape} (w : Whole bytes s) where
   unfolding numbersOf
   whole-count = sym (length-fields bytes 0 (widths (rulesOf bytes)) ∙ length-widths (rulesOf bytes) ∙ ap length (sym whole-rules))
 
--- the head's shape p and numbers, and the shape s that they say
-pub record Headed (bytes : List ℕ) (p : Shape) (values : List ℕ) (s : Shape) : Type 0 where
+  pub whole-long : {values : List ℕ} → values ≡ row (numbersOf bytes) → length (rulesIn s) ≤ length values
+  whole-long e = rw (whole-count, e) (row-long (numbersOf bytes))
+
+-- a head's numbers in a row
+pub head-long : (bytes : List ℕ) (k : ℕ) {values : List ℕ} → values ≡ row (fieldsAt bytes 0 (widths (head k))) → length (head k) ≤ length values
+head-long bytes k e =
+    let ws = widths (head k) in
+    rw e (omega (arith, row-long (fieldsAt bytes 0 ws), length-fields bytes 0 ws, length-widths (head k)))
+
+-- the head's numbers in a row, and the shape s that they say
+pub record Headed (bytes values : List ℕ) (s : Shape) : Type 0 where
   pub first : isKind (kindOf bytes) ≡ true
-  pub plain : rulesIn p ≡ head (kindOf bytes)
   pub numbers : values ≡ row (headOf bytes)
-  pub kind : s .kind ≡ kindOf bytes
-  pub deficits : s .deficits ≡ deficitsIn (kindOf bytes) values
-  pub entries : s .entries ≡ entriesIn (kindOf bytes) values
+  pub shaped : Shaped (kindOf bytes) values s
 
-pub plain-rules : (p : Shape) (k : ℕ) → p .kind ≡ k → p .deficits ≡ 0 → p .entries ≡ 0 → rulesIn p ≡ head k
-plain-rules p k a b c = rw (a, b, c) (bare-rules k)
+-- as they come of the kind
+pub headed : (bytes values : List ℕ) (s : Shape) (k : ℕ) → k ≡ kindOf bytes → isKind k ≡ true → values ≡ row (fieldsAt bytes 0 (widths (head k))) → Shaped k values s → Headed bytes values s
+unfolding headOf
+headed bytes values s k e i v h = record { first = rw (← e) i; numbers = rw e at v; shaped = rw e at h }
 
-pub plain-sized : (p : Shape) (k : ℕ) → isKind k ≡ true → p .kind ≡ k → p .deficits ≡ 0 → p .entries ≡ 0 → Sized p
-plain-sized p k e a b c = record { kind = rw a (kind-small k e); deficits = omega arith; entries = omega arith }
-
--- fewer bytes than the head's are too few
-pub short-head : (bytes : List ℕ) (p : Shape) → rulesIn p ≡ head (kindOf bytes) → length bytes < sizeOf (rulesIn p) → isWhole bytes ≡ false
-unfolding isWhole rulesOf
-short-head bytes p e l =
-    let k = kindOf bytes in
-    let d = deficitsIn k (headOf bytes) in
-    let n = entriesIn k (headOf bytes) in
-    lt-leb (sizeOf (rulesFor k d n)) (length bytes) (omega (arith, total-rules k d n, ap (λ (rs : _). total (widths rs)) e))
-
-module _ {bytes values : List ℕ} {p s : Shape} (h : Headed bytes p values s) where
+module _ {bytes values : List ℕ} {s : Shape} (h : Headed bytes values s) where
   same : (j : ℕ) → at values j ≡ at (headOf bytes) j
   same j = rw (h .numbers) (at-row (headOf bytes) j)
 
   counts : (s .deficits ≡ deficitsIn (kindOf bytes) (headOf bytes)) × (s .entries ≡ entriesIn (kindOf bytes) (headOf bytes))
   counts =
       let c = counts-same (kindOf bytes) values (headOf bytes) (λ j l. same j) in
-      (h .deficits ∙ c .0, h .entries ∙ c .1)
+      (h .shaped .deficits ∙ c .0, h .shaped .entries ∙ c .1)
 
   pub headed-rules : rulesIn s ≡ rulesOf bytes
   unfolding rulesOf
-  headed-rules = rw (h .kind, counts .0, counts .1)
+  headed-rules = rw (h .shaped .kind, counts .0, counts .1)
 
   pub headed-sized : Sized s
   headed-sized =
       let c = counts-written bytes in
-      record { kind = rw (h .kind) (kind-small (kindOf bytes) (h .first)); deficits = rw (counts .0) (c .0); entries = rw (counts .1) (c .1) }
+      let k = h .shaped .kind in
+      record {
+        kind = rw k (kind-small (kindOf bytes) (h .first));
+        count = rw k (h .shaped .count);
+        bits = rw k (h .shaped .bits);
+        deficits = rw (counts .0) (c .0);
+        entries = rw (counts .1) (c .1);
+      }
 
   pub headed-short : length bytes < sizeOf (rulesIn s) → isWhole bytes ≡ false
   unfolding isWhole
@@ -154,42 +173,23 @@ module _ {bytes values : List ℕ} {p s : Shape} (h : Headed bytes p values s) w
   unfolding isWhole
   headed-whole l = le-leb (sizeOf (rulesOf bytes)) (length bytes) (rw headed-rules at l)
 
-  pub headed-refused : permitted (rulesIn p) values ≡ false → permitted (rulesOf bytes) (numbersOf bytes) ≡ false
+  pub headed-refused : permitted (head (kindOf bytes)) values ≡ false → permitted (rulesOf bytes) (numbersOf bytes) ≡ false
   unfolding rulesOf
   headed-refused e =
       let k = kindOf bytes in
-      let no : permitted (head k) (numbersOf bytes) ≡ false =
-      permitted-same (head k) (numbersOf bytes) values (λ j l. numbers-head bytes (h .first) j l ∙ sym (same j)) ∙ rw (h .plain) at e in
-      head-refused k _ _ (numbersOf bytes) no
+      head-refused k _ _ (numbersOf bytes) (permitted-same (head k) (numbersOf bytes) values (λ j l. numbers-head bytes (h .first) j l ∙ sym (same j)) ∙ e)
 
-  pub headed-made : sizeOf (rulesIn s) ≤ length bytes → permitted (rulesIn p) values ≡ true → Whole bytes s
+  pub headed-made : sizeOf (rulesIn s) ≤ length bytes → permitted (head (kindOf bytes)) values ≡ true → Whole bytes s
   headed-made l e =
-      let k = kindOf bytes in
-      let yes : permitted (head k) (headOf bytes) ≡ true =
-      permitted-same (head k) (headOf bytes) values (λ j m. sym (same j)) ∙ rw (h .plain) at e in
       record {
-        kind = h .kind;
+        sized = headed-sized;
+        kind = h .shaped .kind;
         deficits = counts .0;
         entries = counts .1;
         first = h .first;
         whole = headed-whole l;
-        few = rw (h .kind, counts .0, counts .1) (few-numbers k (headOf bytes) yes);
+        permits = permitted-same (head (kindOf bytes)) (headOf bytes) values (λ j m. sym (same j)) ∙ e;
       }
-
--- the head's shape and numbers, as they come of the kind
-pub headed : (bytes : List ℕ) (p s : Shape) (values : List ℕ) (k : ℕ) → k ≡ kindOf bytes → isKind k ≡ true → p .kind ≡ k → p .deficits ≡ 0 → p .entries ≡ 0
-    → values ≡ row (fieldsAt bytes 0 (widths (rulesIn p))) → s .kind ≡ k → s .deficits ≡ deficitsIn k values → s .entries ≡ entriesIn k values → Headed bytes p values s
-unfolding headOf
-headed bytes p s values k e i a b c v x y z =
-    let plain : rulesIn p ≡ head (kindOf bytes) = plain-rules p (kindOf bytes) (a ∙ e) b c in
-    record {
-      first = rw (← e) i;
-      plain = plain;
-      numbers = v ∙ rw plain;
-      kind = x ∙ e;
-      deficits = y ∙ rw e;
-      entries = z ∙ rw e;
-    }
 
 -- reading puts question 16 behind the others
 after-five : (a b c d e f : Bool)
@@ -225,18 +225,14 @@ rejects n e f g kept some t =
     let z = ne-eqb _ 0 (λ q. some (t ∙ q)) in
     record { numbers = e ∙ t; counts = cond-false _ z f; uses = cond-false _ z g; leaves = cond-false _ z kept }
 
-pub yields : {bytes before after : List ℕ} {count used : ℕ} → count ≡ length (numbersOf bytes) → used ≡ sizeOf (rulesOf bytes) → after ≡ over (numbersOf bytes) before
-    → 0 ≡ readNumber bytes (length before) → Reads bytes before 0 count used after
+pub yields : {bytes before after : List ℕ} {number count used : ℕ} → number ≡ 0 → count ≡ length (numbersOf bytes) → used ≡ sizeOf (rulesOf bytes) → after ≡ over (numbersOf bytes) before
+    → 0 ≡ readNumber bytes (length before) → Reads bytes before number count used after
 unfolding readBuffer
-yields f g made t =
+yields e f g made t =
     let z = eq-eqb _ 0 (sym t) in
-    record { numbers = t; counts = cond-true _ z f; uses = cond-true _ z g; leaves = cond-true _ z made }
+    record { numbers = e ∙ t; counts = cond-true _ z f; uses = cond-true _ z g; leaves = cond-true _ z made }
 
 -- the front of a row is the numbers
 pub row-front : (vs values : List ℕ) (n : ℕ) → values ≡ row vs → n ≡ length vs → take n values ≡ vs
 unfolding row
 row-front vs values n e f = rw e (take-at vs _ n (sym f))
-
-pub row-long : (vs : List ℕ) → length vs ≤ length (row vs)
-unfolding row
-row-long vs = omega (arith, length-append vs (replicate (most - length vs) 0))

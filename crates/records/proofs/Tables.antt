@@ -1,81 +1,66 @@
--- The code's table of rules has each head's rules where the table of heads says, and then the lists' rules.
-use Prim.Native.Nat.{ℕ, zero, suc, _+_, _<_}
-use mathlib.Core.List.{List, [], _∷_, _++_, append-assoc}
-use mathlib.Core.Path.{_≡_, refl, ap, _∙_}
+-- The code's tables have each head's fields where the table of starts says.
+use Prim.Native.Nat.{ℕ, zero, suc, _+_, _-_, _≤_, _<_}
+use mathlib.Core.List.{List, [], _∷_, _++_, map}
+use mathlib.Core.Path.{_≡_, refl, sym, ap, _∙_}
 use native.Mathlib.Omega.{arith}
-use native.Mathlib.Nat.{zero-add}
-use lib.ListN.{length, getD, length-append, List·getD-append}
-use lib.Seq.{getD-append-add}
-use Rattle.bits.specs.Table.{total}
-use Rattle.records.specs.declared.Head.{Head}
-use Rattle.records.specs.Layout.{Rule, noRule, heads, head, deficit, entry, widths}
-use Rattle.records.specs.Shapes.{join, ruleRows, headRows, headRow}
+use lib.ListN.{length, getD, take, drop, length-append, length-map, List·getD-append, List·getD-map}
+use lib.Seq.{take-at, drop-append-add, getD-drop}
+use Rattle.records.specs.Layout.{Rule, noRule, heads, head}
+use Rattle.records.specs.Shapes.{join, startOf}
 
-abbrev none : Head
-none = record { 0 = 0; 1 = 0; 2 = 0 }
+-- where each head starts, in a list
+unfoldable pub starts : ℕ → List (List Rule) → List ℕ
+starts s [] = []
+starts s (h ∷ hs) = s ∷ starts (s + length h) hs
 
-rows-count : (s : ℕ) (hs : List (List Rule)) (k : ℕ) → (getD (headRows s hs) k none) .1 ≡ length (getD hs k [])
-unfolding headRows
-rows-count s [] k = refl
-rows-count s (h ∷ hs) zero = refl
-rows-count s (h ∷ hs) (suc k) = rows-count (s + length h) hs k
+pub starts-at : (s : ℕ) (hs : List (List Rule)) (k : ℕ) → k < length hs → getD (starts s hs) k 0 ≡ s + startOf hs k
+unfolding starts
+starts-at s [] k l = absurd (omega arith)
+starts-at s (h ∷ hs) zero l = omega arith
+starts-at s (h ∷ hs) (suc k) l = omega (arith, starts-at (s + length h) hs k (omega arith))
 
-rows-bits : (s : ℕ) (hs : List (List Rule)) (k : ℕ) → (getD (headRows s hs) k none) .2 ≡ total (widths (getD hs k []))
-unfolding headRows
-rows-bits s [] k = refl
-rows-bits s (h ∷ hs) zero = refl
-rows-bits s (h ∷ hs) (suc k) = rows-bits (s + length h) hs k
+ends : (hs : List (List Rule)) (k : ℕ) → k < length hs → startOf hs k + length (getD hs k []) ≤ length (join hs)
+ends [] k l = absurd (omega arith)
+ends (h ∷ hs) zero l = omega (arith, length-append h (join hs))
+ends (h ∷ hs) (suc k) l = omega (arith, length-append h (join hs), ends hs k (omega arith))
 
-record Stands (rs : List Rule) (i j : ℕ) (hs : List Rule) : Type 0 where
-  within : i + j < length rs
-  same : (rest : List Rule) → getD (rs ++ rest) (i + j) noRule ≡ getD hs j noRule
+pub head-ends : (k : ℕ) → k < 7 → startOf heads k + length (head k) ≤ 29
+head-ends k l = ends heads k l
 
-rows-start : (s : ℕ) (hs : List (List Rule)) (k j : ℕ) → j < length (getD hs k [])
-    → (m : ℕ) × ((getD (headRows s hs) k none) .0 ≡ s + m) × Stands (join hs) m j (getD hs k [])
-unfolding headRows
-rows-start s [] k j l = absurd (omega arith)
-rows-start s (h ∷ hs) zero j l = (
-  0,
-  omega arith,
-  record {
-    within = omega (arith, length-append h (join hs));
-    same = λ rest. rw (append-assoc h (join hs) rest, zero-add) (List·getD-append h (join hs ++ rest) noRule j l);
-  },
-)
-rows-start s (h ∷ hs) (suc k) j l =
-    let r = rows-start (s + length h) hs k j l in
-    let m = length h + r .0 in
-    let at : m + j ≡ length h + (r .0 + j) = omega arith in (
-      m,
-      omega (arith, r .1),
-      record {
-        within = omega (arith, length-append h (join hs), r .2 .within);
-        same = λ rest. ap (λ (l : List Rule). getD l (m + j) noRule) (append-assoc h (join hs) rest)
-            ∙ ap (λ (i : ℕ). getD (h ++ (join hs ++ rest)) i noRule) at ∙ getD-append-add h (join hs ++ rest) (r .0 + j) noRule ∙ r .2 .same rest;
-      },
-    )
+module _ (f : Rule → ℕ) where
+  map-append : (rs ss : List Rule) → map f (rs ++ ss) ≡ map f rs ++ map f ss
+  map-append [] ss = refl
+  map-append (r ∷ rs) ss = ap (λ (l : List ℕ). f r ∷ l) (map-append rs ss)
 
-pub head-count : (k : ℕ) → headRow k .1 ≡ length (head k)
-unfolding headRow
-head-count k = rows-count 0 heads k
+  from-start : (hs : List (List Rule)) (k : ℕ) → k < length hs → (rest : List ℕ) × (drop (startOf hs k) (map f (join hs)) ≡ map f (getD hs k []) ++ rest)
+  from-start [] k l = absurd (omega arith)
+  from-start (h ∷ hs) zero l = (map f (join hs), map-append h (join hs))
+  from-start (h ∷ hs) (suc k) l =
+      let r = from-start hs k (omega arith) in
+      let n : length h + startOf hs k ≡ length (map f h) + startOf hs k = omega (arith, length-map h f) in
+      (r .0, rw (map-append h (join hs), n) (drop-append-add (map f h) (map f (join hs)) (startOf hs k)) ∙ r .1)
 
-pub head-bits : (k : ℕ) → headRow k .2 ≡ total (widths (head k))
-unfolding headRow
-head-bits k = rows-bits 0 heads k
+  -- the head's part of a table, and its field j
+  pub head-part : (k n : ℕ) → k < 7 → n ≡ length (head k) → take n (drop (startOf heads k) (map f (join heads))) ≡ map f (head k)
+  head-part k n l e =
+      let r = from-start heads k l in
+      ap (λ (xs : List ℕ). take n xs) (r .1) ∙ take-at (map f (head k)) (r .0) n (length-map (head k) f ∙ sym e)
 
-pub head-within : (k j : ℕ) → j < length (head k) → headRow k .0 + j < 29
-unfolding headRow
-head-within k j l = let r = rows-start 0 heads k j l in omega (arith, r .1, r .2 .within)
+  pub head-at : (k j : ℕ) → k < 7 → j < length (head k) → f noRule ≡ 0 → getD (map f (join heads)) (startOf heads k + j) 0 ≡ f (getD (head k) j noRule)
+  head-at k j l h z =
+      let r = from-start heads k l in
+      sym (getD-drop (startOf heads k) (map f (join heads)) j 0)
+      ∙ ap (λ (xs : List ℕ). getD xs j 0) (r .1)
+      ∙ List·getD-append (map f (head k)) (r .0) 0 j (omega (arith, length-map (head k) f))
+      ∙ rw z at (List·getD-map f (head k) j noRule)
 
-pub head-rule : (k j : ℕ) → j < length (head k) → getD ruleRows (headRow k .0 + j) noRule ≡ getD (head k) j noRule
-unfolding headRow
-head-rule k j l =
-    let r = rows-start 0 heads k j l in
-    let at : headRow k .0 ≡ r .0 = omega (arith, r .1) in
-    ap (λ (i : ℕ). getD ruleRows (i + j) noRule) at ∙ r .2 .same (deficit ++ entry)
+  -- as the code takes them
+  pub part-is : (k start count : ℕ) (table : List ℕ) → k < 7 → start ≡ startOf heads k → count ≡ length (head k) → table ≡ map f (join heads)
+      → take (start + count - start) (drop start table) ≡ map f (head k)
+  part-is k start count table l e n t =
+      let same : startOf heads k + count - startOf heads k ≡ length (head k) = omega arith in
+      rw (t, e) (head-part k _ l same)
 
-pub deficit-rule : (j : ℕ) → j < 2 → getD ruleRows (29 + j) noRule ≡ getD deficit j noRule
-deficit-rule j l = getD-append-add (join heads) (deficit ++ entry) j noRule ∙ List·getD-append deficit entry noRule j l
-
-pub entry-rule : (j : ℕ) → getD ruleRows (31 + j) noRule ≡ getD entry j noRule
-entry-rule j = getD-append-add (join heads ++ deficit) entry j noRule
+  pub limit-is : f noRule ≡ 0 → (k j start x : ℕ) (table : List ℕ) → k < 7 → j < length (head k) → start ≡ startOf heads k → table ≡ map f (join heads) → x ≡ getD table (start + j) 0
+      → x ≡ f (getD (head k) j noRule)
+  limit-is z k j start x table l h e t g = g ∙ rw (t, e) (head-at k j l h z)

@@ -4,22 +4,11 @@ use mathlib.Core.Bool.{Bool, true}
 use mathlib.Core.List.{List, _++_}
 use mathlib.Core.Path.{_≡_}
 use native.Mathlib.Nat.{zero-add}
-use native.Mathlib.Numerals.{add-one}
 use native.Mathlib.Omega.{arith}
 use lib.ListN.{length, getD, take, drop, set}
-use lib.Seq.{take-suc, take-suc-set, paste-suc}
+use lib.Seq.{paste-suc}
 use Rattle.ids.specs.Ids.{allTo}
 use Rattle.ids.specs.Tests.{all-step}
-use Rattle.records.specs.Layout.{Rule, noRule, widths}
-use Rattle.records.specs.LayoutLaws.{length-widths, width-at}
-
--- one more width
-pub widths-turn : (rs : List Rule) (ws : List ℕ) (j w : ℕ) → j < length rs → j < length ws → w ≡ (getD rs j noRule) .width
-    → take j ws ≡ take j (widths rs) → take (j + 1) (set ws j w) ≡ take (j + 1) (widths rs)
-widths-turn rs ws j w l m e h =
-    let n : j < length (widths rs) = omega (arith, length-widths rs) in
-    let v : w ≡ getD (widths rs) j 0 = rw (width-at rs j) e in
-    rw (add-one, take-suc-set ws j w m, take-suc (widths rs) j 0 n, h, v)
 
 -- one more id at which a test holds
 pub test-turn : (p : ℕ → Bool) (j : ℕ) → allTo j p ≡ true → p j ≡ true → allTo (j + 1) p ≡ true

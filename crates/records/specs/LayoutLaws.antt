@@ -1,7 +1,7 @@
 -- Laws of the layouts: how many fields and bits a record has, which rule each field has, and what every rule keeps.
 use Prim.Native.Nat.{ℕ, zero, suc, _+_, _-_, _*_, _%_, _^_, _≤_, _<_}
 use mathlib.Core.Bool.{Bool, true, false, _&&_, or-true}
-use mathlib.Core.List.{List, [], _∷_, _++_, append-nil}
+use mathlib.Core.List.{List, [], _∷_, _++_}
 use mathlib.Core.Path.{_≡_, refl, ap, _∙_}
 use native.Mathlib.Decide.{decLt}
 use native.Mathlib.Omega.{arith}
@@ -46,7 +46,7 @@ module _ {A : Type 0} (p : A → Bool) where
 unfoldable pub sound : Rule → Bool
 sound r = (leb 1 (r .width) && leb (r .width) 42) && ltb (r .high) (2 ^ r .width)
 
-sound-heads : (k : ℕ) → every sound (head k) ≡ true
+pub sound-heads : (k : ℕ) → every sound (head k) ≡ true
 unfolding every sound
 sound-heads k = every-at (λ rs. every sound rs) heads [] k refl refl
 
@@ -148,11 +148,6 @@ module _ (k d n : ℕ) where
       ap (λ (i : ℕ). getD (head k ++ (times d deficit ++ times n entry)) i noRule) at
       ∙ getD-append-add (head k) (times d deficit ++ times n entry) (length (times d deficit) + j) noRule
       ∙ getD-append-add (times d deficit) (times n entry) j noRule ∙ times-at n entry refl j l
-
--- a record without lists has its head's fields
-pub bare-rules : (k : ℕ) → rulesFor k 0 0 ≡ head k
-unfolding rulesFor times
-bare-rules k = append-nil (head k)
 
 -- only kinds 4 and 5 have lists
 pub no-lists : (k : ℕ) → (k ≡ 4 → ⊥) → (k ≡ 5 → ⊥) → hasLists k ≡ false

@@ -4,5 +4,6 @@ pub mod Calls
 pub mod Shapes
 pub mod LayoutLaws
 pub mod QuestionLaws
+pub mod ShapeLaws
 pub mod Accepted
 pub mod RoundTrip

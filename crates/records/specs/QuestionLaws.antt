@@ -1,5 +1,5 @@
 -- Laws of the questions: what a record's numbers say of it, and what each question depends on.
-use Prim.Native.Nat.{ℕ, zero, suc, _+_, _-_, _*_, _≤_, _<_, min}
+use Prim.Native.Nat.{ℕ, zero, suc, _+_, _-_, _*_, _≤_, _<_}
 use mathlib.Core.Bool.{Bool, true, false, _&&_, and-false, cond}
 use mathlib.Core.List.{List, [], _++_}
 use mathlib.Core.Logic.{_⊎_, inl, inr}
@@ -9,8 +9,8 @@ use native.Mathlib.Nat.{sub-zero, zero-sub, suc-sub-suc, add-zero}
 use native.Mathlib.Omega.{arith}
 use borrow.Author.Tests.{leb-true, lt-leb, le-leb, eqb-true}
 use lib.Dec.{leb, eqb}
-use lib.ListN.{length, getD, take, drop, replicate, length-take, List·getD-append, List·getD-eq-default}
-use lib.Seq.{take-all, getD-append-add}
+use lib.ListN.{length, getD, drop, replicate, List·getD-append, List·getD-eq-default}
+use lib.Seq.{getD-append-add}
 use Rattle.ids.specs.Ids.{at, allTo}
 use Rattle.ids.specs.Tests.{all-same, all-at}
 use Rattle.bits.specs.BitLaws.{field-lt}
@@ -35,7 +35,7 @@ zeros-at zero j = refl
 zeros-at (suc n) zero = refl
 zeros-at (suc n) (suc j) = zeros-at n j
 
-drop-zeros : (n m : ℕ) → _≡_ {A = List ℕ} (drop n (replicate m 0)) (replicate (m - n) 0)
+pub drop-zeros : (n m : ℕ) → _≡_ {A = List ℕ} (drop n (replicate m 0)) (replicate (m - n) 0)
 drop-zeros zero m = rw sub-zero
 drop-zeros (suc n) zero = rw zero-sub
 drop-zeros (suc n) (suc m) = rw suc-sub-suc (drop-zeros n m)
@@ -54,16 +54,6 @@ at-row vs j = elim (decLt j (length vs)) [
 ]
 
 -- a row, as it is filled from the front
-pub front-row : (vs : List ℕ) (n : ℕ) → n ≡ min (length vs) most → take n vs ++ drop n (replicate most 0) ≡ row (take most vs)
-unfolding row
-front-row vs n e =
-    let l : length (take most vs) ≡ n = length-take most vs ∙ omega arith in
-    let front : take n vs ≡ take most vs = elim (decLt (length vs) most) [
-      | yes h ↦ take-all n vs (omega arith) ∙ sym (take-all most vs (omega arith))
-      | no h ↦ let m : n ≡ most = omega arith in rw m
-    ] in
-    rw (drop-zeros n most, l, front)
-
 pub fields-row : (xs ws : List ℕ) → fieldsAt xs 0 ws ++ drop (length ws) (replicate most 0) ≡ row (fieldsAt xs 0 ws)
 unfolding row
 fields-row xs ws = rw (drop-zeros (length ws) most, length-fields xs 0 ws)
@@ -136,6 +126,9 @@ lists-kind k e = go (eqb k 4) refl
     go true q = inl (eqb-true k 4 q)
     go false q = inr (eqb-true k 5 (rw q at e))
 
+pub lists-six : (k : ℕ) → hasLists k ≡ true → length (head k) ≡ 6
+lists-six k e = elim (lists-kind k e) [ inl f ↦ rw f | inr f ↦ rw f ]
+
 -- the counts, of two lists of numbers with the same head
 pub counts-same : (k : ℕ) (vs us : List ℕ) → ((j : ℕ) → j < length (head k) → at vs j ≡ at us j) → (deficitsIn k vs ≡ deficitsIn k us) × (entriesIn k vs ≡ entriesIn k us)
 unfolding deficitsIn entriesIn
@@ -144,7 +137,7 @@ counts-same k vs us h = go (hasLists k) refl
     go : (b : Bool) → hasLists k ≡ b → (cond b (at vs 4) 0 ≡ cond b (at us 4) 0) × (cond b (at vs 5) 0 ≡ cond b (at us 5) 0)
     go false q = (refl, refl)
     go true q =
-        let six : length (head k) ≡ 6 = elim (lists-kind k q) [ inl e ↦ rw e | inr e ↦ rw e ] in
+        let six = lists-six k q in
         (h 4 (omega arith), h 5 (omega arith))
 
 -- the counts, within bounds that both kinds of lists keep
@@ -187,7 +180,7 @@ few-numbers k vs e = go (hasLists k) refl
     go : (b : Bool) → hasLists k ≡ b → length (rulesFor k (cond b (at vs 4) 0) (cond b (at vs 5) 0)) ≤ most
     go false q = omega (arith, length-rules k 0 0, head-small k)
     go true q =
-        let six : length (head k) ≡ 6 = elim (lists-kind k q) [ inl e ↦ rw e | inr e ↦ rw e ] in
+        let six = lists-six k q in
         let c : (at vs 4 ≤ 16) × (at vs 5 ≤ 64) = rw q at (counts-permitted k vs e) in
         omega (arith, length-rules k (at vs 4) (at vs 5))
 

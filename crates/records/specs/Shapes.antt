@@ -1,60 +1,79 @@
 -- The code's tables and shapes, as the layouts' data say them.
-use Prim.Native.Nat.{ℕ, _+_, _≤_, _<_}
-use mathlib.Core.Bool.{true}
-use mathlib.Core.List.{List, [], _∷_, _++_}
+use Prim.Native.Nat.{ℕ, zero, suc, _+_, _*_, _≤_, _<_}
+use mathlib.Core.Bool.{Bool, true, _&&_}
+use mathlib.Core.List.{List, [], _∷_, _++_, map}
 use mathlib.Core.Path.{_≡_}
-use lib.ListN.{length, getD}
-use Rattle.ids.specs.Ids.{at}
+use lib.Dec.{leb}
+use lib.ListN.{length}
+use Rattle.ids.specs.Ids.{at, allTo}
 use Rattle.bits.specs.Table.{total}
-use Rattle.records.specs.declared.Rule as code
-use Rattle.records.specs.declared.Head.{Head}
-use Rattle.records.specs.declared.Shape.{Shape}
-use Rattle.records.specs.Layout.{Rule, heads, deficit, entry, deficitsIn, entriesIn, rulesFor, widths}
-use Rattle.records.specs.Questions.{kindOf, headOf, rulesBy, isKind, isWhole, permitted, idsRise, most}
+use Rattle.records.specs.declared.layout.Shape.{Shape}
+use Rattle.records.specs.Layout.{Rule, head, deficitsIn, entriesIn, rulesFor, widths}
+use Rattle.records.specs.Questions.{kindOf, headOf, rulesBy, isKind, isWhole, permitted, rises, idsRise}
 
--- a row of the code's table of rules
-abbrev pub ruleBy : code.Rule → Rule
-ruleBy r = record { width = r .0; low = r .1; high = r .2 }
-
--- the rules of all heads one after another, then those of a deficit and of an entry
+-- the code's tables: the rules of all heads one after another, and where each head starts
 abbrev pub join : List (List Rule) → List Rule
 join [] = []
 join (h ∷ hs) = h ++ join hs
 
-abbrev pub ruleRows : List Rule
-ruleRows = join heads ++ (deficit ++ entry)
+abbrev pub startOf : List (List Rule) → ℕ → ℕ
+startOf [] k = 0
+startOf (h ∷ hs) zero = 0
+startOf (h ∷ hs) (suc k) = length h + startOf hs k
 
--- for each head: where its rules start, how many they are, and their bits
-unfoldable pub headRows : ℕ → List (List Rule) → List Head
-headRows s [] = []
-headRows s (h ∷ hs) = record { 0 = s; 1 = length h; 2 = total (widths h) } ∷ headRows (s + length h) hs
+abbrev pub lows : List Rule → List ℕ
+lows rs = map (λ r. r .low) rs
 
-unfoldable pub headRow : ℕ → Head
-headRow k = getD (headRows 0 heads) k (record { 0 = 0; 1 = 0; 2 = 0 })
+abbrev pub highs : List Rule → List ℕ
+highs rs = map (λ r. r .high) rs
 
 -- the fields of a record of the shape
 abbrev pub rulesIn : Shape → List Rule
 rulesIn s = rulesFor (s .kind) (s .deficits) (s .entries)
 
--- a kind, and counts that a record can state
+-- s is the shape of a record of kind k, by the counts among the numbers
+pub record Shaped (k : ℕ) (vs : List ℕ) (s : Shape) : Type 0 where
+  pub kind : s .kind ≡ k
+  pub count : s .count ≡ length (head k)
+  pub bits : s .bits ≡ total (widths (head k))
+  pub deficits : s .deficits ≡ deficitsIn k vs
+  pub entries : s .entries ≡ entriesIn k vs
+
+-- a kind with its head, and counts that a record can state
 pub record Sized (s : Shape) : Type 0 where
   pub kind : s .kind < 7
+  pub count : s .count ≡ length (head (s .kind))
+  pub bits : s .bits ≡ total (widths (head (s .kind)))
   pub deficits : s .deficits ≤ 31
   pub entries : s .entries ≤ 127
 
--- s is the shape of the bytes' record, which is whole, and whose counts are permitted
+-- questions 3 and 5 of the lists alone: n pairs from place p on, with ids up to last and kW from low to high
+unfoldable pub pairsPermit : List ℕ → ℕ → ℕ → ℕ → ℕ → ℕ → Bool
+pairsPermit vs p n last low high = allTo n (λ k. leb (at vs (p + 2 * k)) last && (leb low (at vs (p + 2 * k + 1)) && leb (at vs (p + 2 * k + 1)) high))
+
+unfoldable pub listsPermit : Shape → List ℕ → Bool
+listsPermit s vs =
+    let p = length (head (s .kind)) in
+    pairsPermit vs p (s .deficits) 15 1 1000000 && pairsPermit vs (p + 2 * s .deficits) (s .entries) 63 0 100000
+
+unfoldable pub listsRise : Shape → List ℕ → Bool
+listsRise s vs =
+    let p = length (head (s .kind)) in
+    rises vs p (s .deficits) && rises vs (p + 2 * s .deficits) (s .entries)
+
+-- s is the shape of the bytes' record, which is whole, and whose head is permitted
 pub record Whole (bytes : List ℕ) (s : Shape) : Type 0 where
+  pub sized : Sized s
   pub kind : s .kind ≡ kindOf bytes
   pub deficits : s .deficits ≡ deficitsIn (kindOf bytes) (headOf bytes)
   pub entries : s .entries ≡ entriesIn (kindOf bytes) (headOf bytes)
   pub first : isKind (kindOf bytes) ≡ true
   pub whole : isWhole bytes ≡ true
-  pub few : length (rulesIn s) ≤ most
+  pub permits : permitted (head (kindOf bytes)) (headOf bytes) ≡ true
 
 -- s is the shape of the record with these numbers, which questions 1, 3 and 5 let pass
 pub record Passed (vs : List ℕ) (s : Shape) : Type 0 where
   pub sized : Sized s
-  pub few : length (rulesIn s) ≤ most
   pub rules : rulesIn s ≡ rulesBy vs
   pub first : isKind (at vs 0) ≡ true
   pub counted : length vs ≡ length (rulesBy vs)

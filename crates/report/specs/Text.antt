@@ -1,10 +1,11 @@
--- The bill program's lines (document 01, 'The bill program'), as bytes.
+-- The programs' lines, as bytes: the bill's (document 01, 'The bill program'), that of a record's numbers, and that of a call's answer.
 use Prim.Native.Nat.{ℕ, zero, suc, _+_, _*_, _/_, _%_}
 use mathlib.Core.Bool.{cond}
 use mathlib.Core.List.{List, [], _∷_, _++_}
 use lib.IntN.{ℤ, pos, negsuc}
 use lib.Dec.{ltb, eqb}
 use Rattle.bits.specs.Bits.{fieldAt}
+use Rattle.text.specs.Text.{character}
 use Rattle.statement.specs.Value42.{value42}
 
 -- the digits of n in decimal, at most so many, the first of them the highest
@@ -28,6 +29,29 @@ word text = 32 ∷ text
 -- `N position number`
 unfoldable pub refusalLine : ℕ → ℕ → List ℕ
 refusalLine position number = 78 ∷ (word (decimal position) ++ (word (decimal number) ++ (10 ∷ [])))
+
+-- the texts of some numbers, one after another
+unfoldable pub each : (ℕ → List ℕ) → List ℕ → List ℕ
+each text [] = []
+each text (n ∷ ns) = text n ++ each text ns
+
+-- numbers with a space between them
+unfoldable pub numbersLine : List ℕ → List ℕ
+numbersLine [] = 10 ∷ []
+numbersLine (n ∷ ns) = decimal n ++ (each (λ m. word (decimal m)) ns ++ (10 ∷ []))
+
+-- a byte's two hexadecimal digits
+abbrev pub hexOf : ℕ → List ℕ
+hexOf b = character (b / 16) ∷ character (b % 16) ∷ []
+
+-- bytes in hexadecimal, `-` where there are none
+unfoldable pub hexadecimal : List ℕ → List ℕ
+hexadecimal [] = 45 ∷ []
+hexadecimal (b ∷ bs) = each hexOf (b ∷ bs)
+
+-- `number used bytes`
+unfoldable pub callLine : ℕ → ℕ → List ℕ → List ℕ
+callLine number used bytes = decimal number ++ (word (decimal used) ++ (word (hexadecimal bytes) ++ (10 ∷ [])))
 
 -- n lines of so many bits each, from bit p on
 unfoldable pub linesFrom : (ℕ → List ℕ) → ℕ → ℕ → ℕ → List ℕ

@@ -1,4 +1,4 @@
-// The bill program's lines, as bytes: those of a statement, and that of a refusal.
+// The programs' lines, as bytes: those of a statement, of a refusal, of a record's numbers and of a call's answer.
 // Each function puts its text into a lent buffer from a place on and answers the next place, so that output can be gathered.
 use bits::Cursor;
 ghost use mathlib.Core.Path.{_≡_};
@@ -8,7 +8,7 @@ ghost use lib.ListN.{length};
 ghost use Rattle.bits.specs.Bits.{Room, fieldAt};
 ghost use Rattle.report.specs.Pasted.{Pasted};
 ghost use Rattle.report.specs.Lies.{Lies};
-ghost use Rattle.report.specs.Text.{amountAt, answerLines, decimal, linesFrom, lseLine, monthLine, refusalLine, room, sellerLine, statementLines, statementRoom, word};
+ghost use Rattle.report.specs.Text.{amountAt, answerLines, callLine, decimal, hexadecimal, linesFrom, lseLine, monthLine, numbersLine, refusalLine, room, sellerLine, statementLines, statementRoom, word};
 
 // The bytes that a caller leaves free for one report.
 pub const ROOM: usize = 4177;
@@ -149,7 +149,7 @@ fn put_lses(statement: &[u8], from: usize, lses: usize, out: &mut [u8], at: usiz
 }
 
 // The lines of a statement: `M month`, `S seller compliance test credit`, `L lse credit`.
-pub fn statement_lines(statement: &[u8], out: &mut [u8], at: usize) -> usize
+fn statement_lines(statement: &[u8], out: &mut [u8], at: usize) -> usize
     requires { ⌜ statementRoom ≤ length (now statement) ⌝ }
     requires { ⌜ at + room ≤ length (now out) ⌝ }
     ensures { λ r. ⌜ Pasted (now (out .entry)) (now (out .exit)) at (statementLines (now (statement .entry))) r ⌝ }
@@ -163,12 +163,61 @@ pub fn statement_lines(statement: &[u8], out: &mut [u8], at: usize) -> usize
 
 // The line of a refusal: `N position number`.
 pub fn refusal_line(position: u64, number: u64, out: &mut [u8], at: usize) -> usize
-    requires { ⌜ at + room ≤ length (now out) ⌝ }
+    requires { ⌜ at + 44 ≤ length (now out) ⌝ }
     ensures { λ r. ⌜ Pasted (now (out .entry)) (now (out .exit)) at (refusalLine position number) r ⌝ }
 {
     let mut p = put_byte(out, at, b'N');
     p = put_number(out, p, position);
     p = put_number(out, p, number);
+    put_byte(out, p, b'\n')
+}
+
+// The line of a record that is read: its numbers.
+pub fn numbers_line(numbers: &[u64], out: &mut [u8], at: usize) -> usize
+    requires { ⌜ at + (21 * length (now numbers) + 1) ≤ length (now out) ⌝ }
+    ensures { λ r. ⌜ Pasted (now (out .entry)) (now (out .exit)) at (numbersLine (now (numbers .entry))) r ⌝ }
+{
+    if numbers.len() == 0 {
+        return put_byte(out, at, b'\n');
+    }
+    let mut p = put_decimal(out, at, numbers[0]);
+    let mut i = 1;
+    while i < numbers.len() {
+        p = put_number(out, p, numbers[i]);
+        i += 1;
+    }
+    put_byte(out, p, b'\n')
+}
+
+// Bytes in hexadecimal, `-` where there are none.
+fn put_bytes(bytes: &[u8], out: &mut [u8], at: usize) -> usize
+    requires { ⌜ at + (2 * length (now bytes) + 1) ≤ length (now out) ⌝ }
+    ensures { λ r. ⌜ Pasted (now (out .entry)) (now (out .exit)) at (hexadecimal (now (bytes .entry))) r ⌝ }
+    ensures { λ r. ⌜ r ≤ at + (2 * length (now (bytes .entry)) + 1) ⌝ }
+{
+    if bytes.len() == 0 {
+        return put_byte(out, at, b'-');
+    }
+    let mut p = at;
+    let mut i = 0;
+    while i < bytes.len() {
+        let digits = text::hex_digits(bytes[i]);
+        p = put_byte(out, p, digits[0]);
+        p = put_byte(out, p, digits[1]);
+        i += 1;
+    }
+    p
+}
+
+// The line of what a call answers: its number, how many bytes it used, and bytes in hexadecimal.
+pub fn call_line(number: u64, used: u64, bytes: &[u8], out: &mut [u8], at: usize) -> usize
+    requires { ⌜ at + (2 * length (now bytes) + 44) ≤ length (now out) ⌝ }
+    ensures { λ r. ⌜ Pasted (now (out .entry)) (now (out .exit)) at (callLine number used (now (bytes .entry))) r ⌝ }
+{
+    let mut p = put_decimal(out, at, number);
+    p = put_number(out, p, used);
+    p = put_byte(out, p, b' ');
+    p = put_bytes(bytes, out, p);
     put_byte(out, p, b'\n')
 }
 

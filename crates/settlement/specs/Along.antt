@@ -7,7 +7,7 @@ use lib.ListN.{getD, take, length, replicate}
 use Rattle.ids.specs.Ids.{at, tabulate}
 use Rattle.ids.specs.Sums.{sum-one}
 use Rattle.ids.specs.Each.{Each}
-use Rattle.ids.specs.Tables.{zeros, table-at, table-same, table-le}
+use Rattle.ids.specs.Tables.{zeros, length-tabulate, table-at, table-same, table-le}
 use Rattle.year.specs.declared.Event.{Event}
 use Rattle.year.specs.declared.Terms.{Terms}
 use Rattle.year.specs.Year.{pastEvent, listed, sellers}
@@ -18,10 +18,8 @@ use Rattle.owed.specs.Events.{after, next, ofSeller, events-step, after-step}
 use Rattle.owed.specs.Cap.{after-le}
 use Rattle.owed.specs.Bound.{cap-le, compliance-along, credit-along}
 use Rattle.tallies.specs.Arrays.{Within}
-use Rattle.settlement.specs.declared.Base.{Base}
-use Rattle.settlement.specs.declared.Running.{Running}
-use Rattle.settlement.specs.Base.{SoundBase}
-use Rattle.settlement.specs.Event.{WithEvent}
+use Rattle.settlement.specs.Base.{Base, SoundBase}
+use Rattle.settlement.specs.Event.{Running, Turn, WithEvent}
 use Rattle.settlement.specs.Past.{reads-taken}
 
 -- what is carried after some events
@@ -38,20 +36,36 @@ module _ {b : Base} (B : SoundBase b) where
   n = at (b .counts)
 
   module _ {evs : List Event} {r : Running} (A : Along b evs r) where
-    pub taken-fits : Within 100000000000 (r .taken)
+    taken-fits : Within 100000000000 (r .taken)
     taken-fits =
         table-le _ _ (A .taken) (λ i m.
         omega (arith, after-le T n i (λ i. 0) evs (omega arith), cap-le T (B .terms) i (rw (size-is (B .terms)) m)))
 
-    pub compliance-fits : Within 1000000000000 (r .compliance)
+    compliance-fits : Within 1000000000000 (r .compliance)
     compliance-fits =
         table-le _ _ (A .compliance) (λ s m.
         omega (arith, sum-one {n = sellers} {i = s} (ofSeller T n (charge T n (b .k)) (λ i. 0) evs) m, compliance-along T (B .terms) n (b .k) evs))
 
-    pub credit-fits : Within 1000000000000 (r .credit)
+    credit-fits : Within 1000000000000 (r .credit)
     credit-fits =
         table-le _ _ (A .credit) (λ s m.
         omega (arith, sum-one {n = sellers} {i = s} (ofSeller T n (creditOf T n (b .k)) (λ i. 0) evs) m, credit-along T (B .terms) n (b .k) evs))
+
+    long : (n : ℕ) (f : ℕ → ℕ) {l : List ℕ} → l ≡ tabulate n f → length l ≡ n
+    long n f e = ap length e ∙ length-tabulate f n
+
+    pub along-turn : {ev : Event} → SoundEvent ev → Turn b ev r
+    along-turn E =
+        record {
+          base = B;
+          event = E;
+          taken = taken-fits;
+          takenLong = long 64 _ (A .taken);
+          compliance = compliance-fits;
+          complianceLong = long 16 _ (A .compliance);
+          credit = credit-fits;
+          creditLong = long 16 _ (A .credit);
+        }
 
   -- a turn
   module _ (evs : List Event) (E : Each SoundEvent pastEvent 16 evs) (j : ℕ) (l : j < 16) {q r : Running}

@@ -16,8 +16,7 @@ use Rattle.owed.specs.Owed.{part, total}
 use Rattle.tallies.specs.Arrays.{own, bySeller, all, ownShare}
 use Rattle.tallies.specs.Sums.{Summed}
 use Rattle.tallies.specs.declared.sums.Sums.{Sums}
-use Rattle.settlement.specs.declared.Columns.{Columns}
-use Rattle.settlement.specs.Base.{ColumnsOf}
+use Rattle.settlement.specs.Base.{Columns, ColumnsOf}
 
 and-last : (a b : Bool) (x : ℕ) → cond (a && b) x 0 ≡ cond b (cond a x 0) 0
 and-last true b x = refl

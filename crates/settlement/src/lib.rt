@@ -8,30 +8,29 @@ ghost use Rattle.allotment.specs.Allot.{share};
 ghost use Rattle.year.specs.Year.{noRegistration, pastEvent, pastTest};
 ghost use Rattle.year.specs.Steps.{withRegistrations};
 ghost use Rattle.year.specs.Sound.{SoundTerms, SoundListing, SoundEvent, Sound};
-ghost use Rattle.owed.specs.Owed.{u, e, testOf, amounts};
+ghost use Rattle.owed.specs.Owed as Owed;
+ghost use Rattle.owed.specs.Owed.{D, charge, creditOf, testOf, amounts};
+ghost use Rattle.owed.specs.Events.{ofSeller};
 ghost use Rattle.tallies.specs.Arrays.{Within};
-ghost use Rattle.settlement.specs.Base.{ColumnsOf, SoundBase};
-ghost use Rattle.settlement.specs.Event.{Turn, WithEvent};
+ghost use Rattle.settlement.specs.Base.{columns, ColumnsOf, baseOf, SoundBase};
+ghost use Rattle.settlement.specs.Event.{running, Turn, WithEvent};
 ghost use Rattle.settlement.specs.Test.{testsOf};
-ghost use Rattle.settlement.specs.Along.{Along};
 ghost use Rattle.settlement.specs.Amounts.{sumOf};
 use charges::add_test;
 use charges::allot;
 use charges::allot_by_seller;
 use charges::caps_of;
-use charges::cents_of;
-use charges::credits_of;
-use charges::dailies;
+use charges::charge_event;
+use charges::credit_event;
 use charges::excesses;
 use charges::shortfalls;
-use charges::taken_after;
-use tallies::add_by_seller;
+use tallies::any;
 use tallies::calls_of;
 use tallies::left;
 use tallies::less;
 use tallies::sum_of;
 use tallies::sums_of;
-use tallies::weights_of;
+use tallies::weigh;
 use units::Nominated;
 use year::Amounts;
 use year::Event;
@@ -40,195 +39,246 @@ use year::Terms;
 use year::Test;
 use year::Year;
 
-// What the settlement reads of the registrations, one array for each field.
-struct Columns {
-    sellers: [u64; 64],
-    products: [u64; 64],
-    committed: [u64; 64],
-    rates: [u64; 64],
-}
-
-fn columns_of(terms: Terms) -> Columns
-    requires { ⌜ SoundTerms terms ⌝ }
-    ensures { λ r. ⌜ ColumnsOf terms r ⌝ }
+// What the settlement reads of the registrations, an array for each field.
+fn read_columns(
+    registrations: [Registration; 64],
+    sellers: &mut [u64; 64],
+    products: &mut [u64; 64],
+    committed: &mut [u64; 64],
+    rates: &mut [u64; 64],
+)
+    requires { ⌜ length (now sellers) ≡ 64 ⌝ }
+    requires { ⌜ length (now products) ≡ 64 ⌝ }
+    requires { ⌜ length (now committed) ≡ 64 ⌝ }
+    requires { ⌜ length (now rates) ≡ 64 ⌝ }
+    ensures sellers { λ _. ⌜ now (sellers .exit) ≡ tabulate 64 (λ i. getD registrations i noRegistration .seller) ⌝ }
+    ensures products { λ _. ⌜ now (products .exit) ≡ tabulate 64 (λ i. getD registrations i noRegistration .product) ⌝ }
+    ensures committed { λ _. ⌜ now (committed .exit) ≡ tabulate 64 (λ i. getD registrations i noRegistration .committed .0) ⌝ }
+    ensures rates { λ _. ⌜ now (rates .exit) ≡ tabulate 64 (λ i. getD registrations i noRegistration .rate) ⌝ }
 {
-    let registrations = terms.registrations;
-    let zero = [0u64; 64];
-    let mut c = Columns {
-        sellers: zero,
-        products: zero,
-        committed: zero,
-        rates: zero,
-    };
     let mut i: usize = 0;
     while i < 64 {
         let r = registrations[i];
-        c.sellers[i] = r.seller;
-        c.products[i] = r.product;
-        c.committed[i] = r.committed.0;
-        c.rates[i] = r.rate;
+        sellers[i] = r.seller;
+        products[i] = r.product;
+        committed[i] = r.committed.0;
+        rates[i] = r.rate;
         i += 1;
     }
-    c
 }
 
-// What stays the same from event to event and from test to test: the terms, the days to date and each registration's calls and cap.
-struct Base {
+// Each registration's part of its seller's shortfall, u, and of its seller's excess, e.
+fn parts_of(
     terms: Terms,
-    k: u64,
-    days: u64,
-    columns: Columns,
-    called: [bool; 64],
-    counts: [u64; 64],
-    caps: [u64; 64],
-}
-
-// Each registration's part of its seller's shortfall and of its seller's excess.
-struct Parts {
-    u: [u64; 64],
-    e: [u64; 64],
-}
-
-fn parts_of(base: Base, event: Event) -> Parts
-    requires { ⌜ SoundBase base ⌝ }
+    sellers: &[u64; 64],
+    committed: &[u64; 64],
+    rates: &[u64; 64],
+    event: Event,
+    u: &mut [u64; 64],
+    e: &mut [u64; 64],
+)
+    requires { ⌜ SoundTerms terms ⌝ }
+    requires { ⌜ ColumnsOf terms (columns (now sellers) (now committed) (now rates)) ⌝ }
     requires { ⌜ SoundEvent event ⌝ }
-    ensures u { λ r. ⌜ r .u ≡ tabulate 64 (u (base .terms) event) ⌝ }
-    ensures e { λ r. ⌜ r .e ≡ tabulate 64 (e (base .terms) event) ⌝ }
+    requires { ⌜ length (now u) ≡ 64 ⌝ }
+    requires { ⌜ length (now e) ≡ 64 ⌝ }
+    ensures u { λ _. ⌜ now (u .exit) ≡ tabulate 64 (Owed.u terms event) ⌝ }
+    ensures e { λ _. ⌜ now (e .exit) ≡ tabulate 64 (Owed.e terms event) ⌝ }
 {
-    let terms = base.terms;
-    let columns = base.columns;
-    let sellers = columns.sellers;
-    let committed = columns.committed;
-    let rates = columns.rates;
     let listing = event.listing;
     let listed = listing.listed;
     let reductions = listing.reductions;
     let deficits = listing.deficits;
-    let sums = sums_of(&sellers, &committed, &rates, &listed, &reductions);
-    let all_committed = sums.committed;
-    let all_reduced = sums.reduction;
-    let short_totals = sums.short;
-    let over_totals = sums.over;
-    let weights = weights_of(&committed, &listed, &reductions);
-    let short = weights.short;
-    let over = weights.over;
+    let mut short = [0u64; 64];
+    let mut over = [0u64; 64];
+    let totals = weigh(
+        sellers,
+        committed,
+        &listed,
+        &reductions,
+        &mut short,
+        &mut over,
+    );
+    let all_short = totals.short;
+    let all_over = totals.over;
     let shortfall = shortfalls(
         terms.factor,
         terms.requirement,
-        all_committed,
-        all_reduced,
+        all_short,
+        all_over,
         deficits,
     );
-    let u = allot_by_seller(&sellers, &short, shortfall, short_totals);
-    let excess = excesses(all_committed, all_reduced);
-    let e = allot_by_seller(&sellers, &over, excess, over_totals);
-    Parts { u: u, e: e }
+    allot_by_seller(sellers, &short, &shortfall, &all_short, u);
+    let excess = excesses(all_short, all_over);
+    allot_by_seller(sellers, &over, &excess, &all_over, e);
 }
 
-// What is carried from event to event: what is taken of each cap, and the sellers' charges and credits.
-struct Running {
-    taken: [u64; 64],
+// One more event, in order of acceptance: what is taken of each cap, and the sellers' charges and credits.
+fn add_event(
+    terms: Terms,
+    k: u64,
+    days: u64,
+    sellers: &[u64; 64],
+    committed: &[u64; 64],
+    rates: &[u64; 64],
+    products: &[u64; 64],
+    counts: &[u64; 64],
+    caps: &[u64; 64],
+    event: Event,
+    taken: &mut [u64; 64],
+    compliance: &mut [u64; 16],
+    credit: &mut [u64; 16],
+)
+    requires { ⌜ Turn (baseOf terms k days (columns (now sellers) (now committed) (now rates)) (now products) (now counts) (now caps)) event (running (now taken) (now compliance) (now credit)) ⌝ }
+    ensures { λ _. ⌜ WithEvent (baseOf terms k days (columns (now (sellers .entry)) (now (committed .entry)) (now (rates .entry))) (now (products .entry)) (now (counts .entry)) (now (caps .entry))) event (running (now (taken .entry)) (now (compliance .entry)) (now (credit .entry))) (running (now (taken .exit)) (now (compliance .exit)) (now (credit .exit))) ⌝ }
+{
+    let mut u = [0u64; 64];
+    let mut e = [0u64; 64];
+    parts_of(terms, sellers, committed, rates, event, &mut u, &mut e);
+    let charged = charge_event(
+        event.period,
+        event.month,
+        k,
+        days,
+        sellers,
+        products,
+        counts,
+        rates,
+        caps,
+        &u,
+        taken,
+        compliance,
+    );
+    credit_event(sellers, rates, days, charged, &e, credit);
+}
+
+// The sellers' charges and credits of all events.
+struct Summed {
     compliance: [u64; 16],
     credit: [u64; 16],
 }
 
-// One more event, in order of acceptance.
-fn add_event(base: Base, event: Event, running: Running) -> Running
-    requires { ⌜ Turn base event running ⌝ }
-    ensures { λ r. ⌜ WithEvent base event running r ⌝ }
-{
-    let columns = base.columns;
-    let sellers = columns.sellers;
-    let products = columns.products;
-    let rates = columns.rates;
-    let counts = base.counts;
-    let caps = base.caps;
-    let taken = running.taken;
-    let compliance = running.compliance;
-    let credit = running.credit;
-    let parts = parts_of(base, event);
-    let u = parts.u;
-    let e = parts.e;
-    let daily = dailies(event.period, &counts, &rates, &u, &caps, &taken);
-    let cents = cents_of(&products, event.month, base.k, base.days, &daily);
-    let charged = sum_of(&cents);
-    let credits = credits_of(&rates, base.days, charged, &e);
-    let taken_now = taken_after(&taken, &daily);
-    let compliance_now = add_by_seller(compliance, &sellers, &cents);
-    let credit_now = add_by_seller(credit, &sellers, &credits);
-    Running {
-        taken: taken_now,
-        compliance: compliance_now,
-        credit: credit_now,
-    }
-}
-
-// All events.
-fn over_events(base: Base, events: [Event; 16], held: usize) -> Running
-    requires { ⌜ SoundBase base ⌝ }
+fn over_events(
+    terms: Terms,
+    k: u64,
+    days: u64,
+    sellers: &[u64; 64],
+    committed: &[u64; 64],
+    rates: &[u64; 64],
+    products: &[u64; 64],
+    counts: &[u64; 64],
+    caps: &[u64; 64],
+    events: [Event; 16],
+    held: usize,
+) -> Summed
+    requires { ⌜ SoundBase (baseOf terms k days (columns (now sellers) (now committed) (now rates)) (now products) (now counts) (now caps)) ⌝ }
     requires { ⌜ Each SoundEvent pastEvent 16 events ⌝ }
     requires { ⌜ held ≤ 16 ⌝ }
-    ensures { λ r. ⌜ Along base (take held events) r ⌝ }
+    ensures compliance { λ r. ⌜ r .compliance ≡ tabulate 16 (ofSeller terms (at (now (counts .entry))) (charge terms (at (now (counts .entry))) k) (λ i. 0) (take held events)) ⌝ }
+    ensures credit { λ r. ⌜ r .credit ≡ tabulate 16 (ofSeller terms (at (now (counts .entry))) (creditOf terms (at (now (counts .entry))) k) (λ i. 0) (take held events)) ⌝ }
 {
-    let none = [0u64; 64];
-    let zero = [0u64; 16];
-    let mut running = Running {
-        taken: none,
-        compliance: zero,
-        credit: zero,
-    };
+    let mut taken = [0u64; 64];
+    let mut compliance = [0u64; 16];
+    let mut credit = [0u64; 16];
     let mut j: usize = 0;
     while j < held {
         let event = events[j];
-        running = add_event(base, event, running);
+        add_event(
+            terms,
+            k,
+            days,
+            sellers,
+            committed,
+            rates,
+            products,
+            counts,
+            caps,
+            event,
+            &mut taken,
+            &mut compliance,
+            &mut credit,
+        );
         j += 1;
     }
-    running
+    Summed {
+        compliance: compliance,
+        credit: credit,
+    }
 }
 
 // One more test.
-fn with_test(base: Base, test: Test, charges: [u64; 16]) -> [u64; 16]
-    requires { ⌜ SoundBase base ⌝ }
+fn with_test(
+    terms: Terms,
+    days: u64,
+    sellers: &[u64; 64],
+    committed: &[u64; 64],
+    rates: &[u64; 64],
+    called: &[bool; 64],
+    test: Test,
+    charges: [u64; 16],
+) -> [u64; 16]
+    requires { ⌜ SoundTerms terms ⌝ }
+    requires { ⌜ days ≤ 366 ⌝ }
+    requires { ⌜ ColumnsOf terms (columns (now sellers) (now committed) (now rates)) ⌝ }
     requires { ⌜ SoundListing (test .listing) ⌝ }
     requires { ⌜ Within 1000000000000 charges ⌝ }
-    ensures { λ r. ⌜ r ≡ tabulate 16 (λ s. at charges s + testOf (base .terms) (holds (base .called)) (base .k) s test) ⌝ }
+    ensures { λ r. ⌜ ((k : ℕ) → days ≡ D terms k → r ≡ tabulate 16 (λ s. at charges s + testOf terms (holds (now (called .entry))) k s test)) ⌝ }
 {
-    let terms = base.terms;
-    let columns = base.columns;
-    let sellers = columns.sellers;
-    let committed = columns.committed;
-    let rates = columns.rates;
-    let called = base.called;
     let listing = test.listing;
     let listed = listing.listed;
     let reductions = listing.reductions;
     let deficits = listing.deficits;
-    let picked = left(&listed, &called);
-    let sums = sums_of(&sellers, &committed, &rates, &picked, &reductions);
+    let picked = left(&listed, called);
+    let sums = sums_of(sellers, committed, rates, &picked, &reductions);
     add_test(
         terms.factor,
         terms.requirement,
-        base.days,
+        days,
         sums,
         deficits,
         charges,
     )
 }
 
-// All tests.
-fn over_tests(base: Base, tests: [Test; 24]) -> [u64; 16]
-    requires { ⌜ SoundBase base ⌝ }
+// All tests. One that lists nothing, as at a place where none was taken, charges nothing.
+fn over_tests(
+    terms: Terms,
+    k: u64,
+    sellers: &[u64; 64],
+    committed: &[u64; 64],
+    rates: &[u64; 64],
+    called: &[bool; 64],
+    tests: [Test; 24],
+) -> [u64; 16]
+    requires { ⌜ SoundTerms terms ⌝ }
+    requires { ⌜ 1 ≤ k ⌝ }
+    requires { ⌜ k ≤ 15 ⌝ }
+    requires { ⌜ ColumnsOf terms (columns (now sellers) (now committed) (now rates)) ⌝ }
     requires { ⌜ length tests ≡ 24 ⌝ }
     requires { ⌜ ((t : ℕ) → t < 24 → SoundListing (getD tests t pastTest .listing)) ⌝ }
-    requires { ⌜ ((s : ℕ) → s < 16 → testsOf base tests s ≤ 1000000000000) ⌝ }
-    ensures { λ r. ⌜ r ≡ tabulate 16 (testsOf base tests) ⌝ }
+    requires { ⌜ ((s : ℕ) → s < 16 → testsOf terms (now called) k tests s ≤ 1000000000000) ⌝ }
+    ensures { λ r. ⌜ r ≡ tabulate 16 (testsOf terms (now (called .entry)) k tests) ⌝ }
 {
+    let days = calendar::days(terms.leap, k);
     let mut charges = [0u64; 16];
     let mut t: usize = 0;
     while t < 24 {
         let test = tests[t];
-        let more = with_test(base, test, charges);
-        charges = more;
+        let listing = test.listing;
+        let listed = listing.listed;
+        if any(&listed) {
+            let more = with_test(
+                terms,
+                days,
+                sellers,
+                committed,
+                rates,
+                called,
+                test,
+                charges,
+            );
+            charges = more;
+        }
         t += 1;
     }
     charges
@@ -266,27 +316,38 @@ fn amounts_with(registrations: [Registration; 64], year: Year, k: u64) -> Amount
     let events = year.events;
     let tests = year.tests;
     let obligations = terms.obligations;
-    let columns = columns_of(terms);
-    let committed = columns.committed;
-    let rates = columns.rates;
+    let mut sellers = [0u64; 64];
+    let mut products = [0u64; 64];
+    let mut committed = [0u64; 64];
+    let mut rates = [0u64; 64];
+    read_columns(
+        registrations,
+        &mut sellers,
+        &mut products,
+        &mut committed,
+        &mut rates,
+    );
     let calls = calls_of(events, year.held);
     let called = calls.called;
     let counts = calls.counts;
     let caps = caps_of(terms.factor, terms.requirement, &committed, &rates);
     let days = calendar::days(terms.leap, k);
-    let base = Base {
-        terms: terms,
-        k: k,
-        days: days,
-        columns: columns,
-        called: called,
-        counts: counts,
-        caps: caps,
-    };
-    let running = over_events(base, events, year.held);
-    let compliance = running.compliance;
-    let credit = running.credit;
-    let test = over_tests(base, tests);
+    let summed = over_events(
+        terms,
+        k,
+        days,
+        &sellers,
+        &committed,
+        &rates,
+        &products,
+        &counts,
+        &caps,
+        events,
+        year.held,
+    );
+    let compliance = summed.compliance;
+    let credit = summed.credit;
+    let test = over_tests(terms, k, &sellers, &committed, &rates, &called, tests);
     let lse = lses_of(&compliance, &test, &credit, &obligations);
     Amounts {
         compliance: compliance,
@@ -323,7 +384,7 @@ pub fn settle(registrations: &[Registration], year: Year, k: u64) -> Amounts
     let mut copy = no_registrations();
     let mut i: usize = 0;
     while i < 64 {
-        // By field: with whole records the compiled program takes every copy of a year apart, and each call is slower.
+        // By field: a loop over whole records is unrolled, and every copy of a year taken apart with it.
         let r = registrations[i];
         copy[i] = Registration {
             known: r.known,

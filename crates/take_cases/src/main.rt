@@ -19,9 +19,6 @@ fn cases(input: &[u8]) {
     while at < input.len() {
         let end = text::find(input, at, b'\n');
         year = case(year, &input[at..end]);
-        if end == input.len() {
-            return;
-        }
         at = end + 1;
     }
 }
@@ -32,44 +29,43 @@ fn case(year: Year, line: &[u8]) -> Year
     ensures { λ r. ⌜ Sound r ⌝ }
 {
     let end = text::find(line, 0, b' ');
-    if end == line.len() {
-        return year;
-    }
     let mut bytes = [0u8; 4096];
     let n = text::hex_bytes(&line[0..end], &mut bytes);
-    let from = end + 1;
-    let room = text::decimal(&line[from..]);
+    let mut words = [0u64; 2];
+    text::decimals(line, &mut words);
     let mut buffer = [0u8; 4096];
-    let lent = text::least(room as usize, 4096);
+    let lent = text::least(words[1] as usize, 4096);
     take(year, &bytes[0..n], &mut buffer[0..lent])
 }
 
 fn take(year: Year, bytes: &[u8], buffer: &mut [u8]) -> Year
     requires { ⌜ Sound year ⌝ }
+    requires { ⌜ length (now buffer) ≤ 4096 ⌝ }
     ensures { λ r. ⌜ Sound r ⌝ }
 {
     let posted = book::post(year, bytes, buffer);
-    io::print_decimal(STDOUT_FILENO, posted.number);
-    io::write_all(STDOUT_FILENO, b" ");
-    io::print_decimal(STDOUT_FILENO, posted.used as u64);
-    io::write_all(STDOUT_FILENO, b" ");
-    // of the records, a close alone has one byte
-    if posted.number == 0 && posted.used == 1 {
-        print_statement(buffer);
-    } else {
-        io::write_all(STDOUT_FILENO, b"-");
-    }
-    io::write_all(STDOUT_FILENO, b"\n");
+    let size = stated(posted.number, posted.used, buffer);
+    let mut out = io::large_buffer();
+    let end = report::call_line(
+        posted.number,
+        posted.used as u64,
+        &buffer[0..size],
+        &mut out,
+        0,
+    );
+    io::write_all(STDOUT_FILENO, &out[0..end]);
     posted.year
 }
 
-// The statement at the front of the buffer, in hexadecimal.
-fn print_statement(buffer: &[u8]) {
-    if buffer.len() < 2 {
-        return;
+// The bytes of the statement that an answer leaves at the front of the buffer.
+fn stated(number: u64, used: usize, buffer: &[u8]) -> usize
+    ensures { λ r. ⌜ r ≤ length (now (buffer .entry)) ⌝ }
+{
+    // of the records, a close alone has one byte
+    if number != 0 || used != 1 || buffer.len() < 2 {
+        return 0;
     }
-    let size = text::least(statement_size(buffer), buffer.len());
-    print_hex(&buffer[0..size]);
+    text::least(statement_size(buffer), buffer.len())
 }
 
 // The bytes of a statement, from its counts of sellers and LSEs.
@@ -87,13 +83,4 @@ fn count(statement: &[u8], from: usize) -> usize
 {
     let field = (Cursor { at: from }).take(statement, 5);
     field.value as usize
-}
-
-fn print_hex(bytes: &[u8]) {
-    let mut i = 0;
-    while i < bytes.len() {
-        let digits = text::hex_digits(bytes[i]);
-        io::write_all(STDOUT_FILENO, &digits);
-        i += 1;
-    }
 }

@@ -1,10 +1,10 @@
 -- What the loops over entries compute, from arrays by registration (64 places) and by seller (16 places).
-use Prim.Native.Nat.{ℕ, _+_, _*_, _≤_, _<_}
+use Prim.Native.Nat.{ℕ, _+_, _-_, _*_, _≤_, _<_}
 use mathlib.Core.List.{List}
 use mathlib.Core.Bool.{Bool, true, _&&_, cond}
 use lib.ListN.{set}
 use lib.Dec.{eqb}
-use Rattle.ids.specs.Ids.{at, sumTo, tabulate}
+use Rattle.ids.specs.Ids.{at, holds, sumTo}
 use Rattle.allotment.specs.Allot.{share}
 
 -- f at the registrations of seller s that are picked, 0 at the others; and the sum
@@ -14,13 +14,13 @@ own sellers p s f i = cond (p i && eqb (at sellers i) s) (f i) 0
 unfoldable pub bySeller : List ℕ → (ℕ → Bool) → (ℕ → ℕ) → ℕ → ℕ
 bySeller sellers p f s = sumTo 64 (own sellers p s f)
 
+-- what a has more than b at an entry that is listed, 0 at another
+abbrev pub lacks : List Bool → List ℕ → List ℕ → ℕ → ℕ
+lacks listed a b i = cond (holds listed i) (at a i - at b i) 0
+
 -- every registration
 abbrev pub all : ℕ → Bool
 all i = true
-
--- each seller's sum so far, with the amounts of its registrations
-unfoldable pub added : List ℕ → List ℕ → List ℕ → List ℕ
-added sums sellers amounts = tabulate 16 (λ s. at sums s + bySeller sellers all (at amounts) s)
 
 -- registration i's share of its own seller's amount, by the weights of that seller's registrations
 unfoldable pub ownShare : List ℕ → List ℕ → List ℕ → ℕ → ℕ

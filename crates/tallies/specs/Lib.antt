@@ -4,3 +4,4 @@ pub mod Sums
 pub mod Passed
 pub mod Counts
 pub mod Summing
+pub mod Weighing

@@ -32,6 +32,12 @@ module _ {sellers : List ℕ} {p : ℕ → Bool} {f : ℕ → ℕ} {sums₀ : Li
     passed-skip e =
         record { long = h .long; each = λ s l. rw (sum-step i (own sellers p s f), e) (omega (arith, h .each s l)) }
 
+    -- one that adds nothing
+    pub passed-nothing : f i ≡ 0 → Passed sellers p f sums₀ sums (i + 1)
+    unfolding own
+    passed-nothing e =
+        record { long = h .long; each = λ s l. rw (sum-step i (own sellers p s f)) (omega (arith, h .each s l, cond-le (p i && eqb (at sellers i) s) {x = f i} {b = 0} (omega arith))) }
+
     -- one that is
     pub passed-add : p i ≡ true → at sellers i < 16 → Passed sellers p f sums₀ (addedAt sums (at sellers i) (f i)) (i + 1)
     unfolding own

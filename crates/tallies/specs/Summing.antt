@@ -1,5 +1,5 @@
--- The five sums of a pass over the picked entries, as its loop goes: each by the same laws.
-use Prim.Native.Nat.{ℕ, _+_, _-_, _*_, _≤_, _<_}
+-- The three sums of a pass over the picked entries, as its loop goes: each by the same laws.
+use Prim.Native.Nat.{ℕ, _+_, _*_, _≤_, _<_}
 use mathlib.Core.List.{List}
 use mathlib.Core.Bool.{Bool, true, false}
 use mathlib.Core.Path.{_≡_, refl, _∙_}
@@ -18,7 +18,7 @@ abbrev zeros : List ℕ
 zeros = replicate 16 0
 
 abbrev pub noSums : Sums
-noSums = record { committed = zeros; reduction = zeros; short = zeros; over = zeros; value = zeros }
+noSums = record { committed = zeros; reduction = zeros; value = zeros }
 
 abbrev pub FromZero : List ℕ → (ℕ → Bool) → (ℕ → ℕ) → List ℕ → ℕ → Type 0
 FromZero sellers p f sums i = Passed sellers p f zeros sums i
@@ -26,24 +26,22 @@ FromZero sellers p f sums i = Passed sellers p f zeros sums i
 pub record Summing (sellers : List ℕ) (p : ℕ → Bool) (c q v : ℕ → ℕ) (sums : Sums) (i : ℕ) : Type 0 where
   pub committed : FromZero sellers p c (sums .committed) i
   pub reduction : FromZero sellers p v (sums .reduction) i
-  pub short : FromZero sellers p (λ j. c j - v j) (sums .short) i
-  pub over : FromZero sellers p (λ j. v j - c j) (sums .over) i
   pub value : FromZero sellers p (λ j. c j * q j) (sums .value) i
 
 module _ {sellers : List ℕ} {p : ℕ → Bool} where
-  from-zero-all : {f : ℕ → ℕ} {sums : List ℕ} → FromZero sellers p f sums 64 → sums ≡ tabulate 16 (bySeller sellers p f)
+  pub from-zero-all : {f : ℕ → ℕ} {sums : List ℕ} → FromZero sellers p f sums 64 → sums ≡ tabulate 16 (bySeller sellers p f)
   from-zero-all {f} h =
       passed-all h
       ∙ tabulate-same 16 (λ s l. omega (arith, getD-replicate {A = ℕ} 16 s 0 0 l))
 
-  from-zero-le : {f : ℕ → ℕ} {sums : List ℕ} {i : ℕ} → FromZero sellers p f sums i → i < 64 → ((j : ℕ) → f j ≤ 10000000000)
+  pub from-zero-le : {f : ℕ → ℕ} {sums : List ℕ} {i : ℕ} → FromZero sellers p f sums i → i < 64 → ((j : ℕ) → f j ≤ 10000000000)
       → (s : ℕ) → s < 16 → at sums s ≤ 1000000000000
   from-zero-le h l most s k = omega (arith, passed-le h 10000000000 s most k, getD-replicate {A = ℕ} 16 s 0 0 k)
 
 module _ {sellers : List ℕ} {p : ℕ → Bool} {c q v : ℕ → ℕ} where
   pub summing-none : Summing sellers p c q v noSums 0
   summing-none =
-      record { committed = passed-none refl; reduction = passed-none refl; short = passed-none refl; over = passed-none refl; value = passed-none refl }
+      record { committed = passed-none refl; reduction = passed-none refl; value = passed-none refl }
 
   module _ {sums : Sums} {i : ℕ} (h : Summing sellers p c q v sums i) where
     pub summing-skip : p i ≡ false → Summing sellers p c q v sums (i + 1)
@@ -51,8 +49,6 @@ module _ {sellers : List ℕ} {p : ℕ → Bool} {c q v : ℕ → ℕ} where
         record {
           committed = passed-skip (h .committed) e;
           reduction = passed-skip (h .reduction) e;
-          short = passed-skip (h .short) e;
-          over = passed-skip (h .over) e;
           value = passed-skip (h .value) e;
         }
 
@@ -62,8 +58,6 @@ module _ {sellers : List ℕ} {p : ℕ → Bool} {c q v : ℕ → ℕ} where
         record {
           committed = from-zero-le (h .committed) l (λ j. omega (arith, mc j)) s k;
           reduction = from-zero-le (h .reduction) l (λ j. omega (arith, mv j)) s k;
-          short = from-zero-le (h .short) l (λ j. omega (arith, mc j)) s k;
-          over = from-zero-le (h .over) l (λ j. omega (arith, mv j)) s k;
           value = from-zero-le (h .value) l (λ j. mul-le-mul (mc j) (mq j)) s k;
         }
 
@@ -72,8 +66,6 @@ module _ {sellers : List ℕ} {p : ℕ → Bool} {c q v : ℕ → ℕ} where
         record {
           committed = rw (a .committed) (passed-add (h .committed) e k);
           reduction = rw (a .reduction) (passed-add (h .reduction) e k);
-          short = rw (a .short) (passed-add (h .short) e k);
-          over = rw (a .over) (passed-add (h .over) e k);
           value = rw (a .value) (passed-add (h .value) e k);
         }
 
@@ -82,7 +74,5 @@ module _ {sellers : List ℕ} {p : ℕ → Bool} {c q v : ℕ → ℕ} where
       record {
         committed = from-zero-all (h .committed);
         reduction = from-zero-all (h .reduction);
-        short = from-zero-all (h .short);
-        over = from-zero-all (h .over);
         value = from-zero-all (h .value);
       }

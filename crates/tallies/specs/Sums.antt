@@ -1,5 +1,5 @@
 -- The sums by seller of a pass over the picked entries.
-use Prim.Native.Nat.{ℕ, _-_, _*_, _≤_}
+use Prim.Native.Nat.{ℕ, _*_, _≤_}
 use mathlib.Core.List.{List}
 use mathlib.Core.Bool.{Bool}
 use mathlib.Core.Path.{_≡_}
@@ -11,22 +11,16 @@ use Rattle.tallies.specs.Arrays.{bySeller, addedAt}
 pub record Summed (sellers : List ℕ) (p : ℕ → Bool) (c q v : ℕ → ℕ) (r : Sums) : Type 0 where
   pub committed : r .committed ≡ tabulate 16 (bySeller sellers p c)
   pub reduction : r .reduction ≡ tabulate 16 (bySeller sellers p v)
-  pub short : r .short ≡ tabulate 16 (bySeller sellers p (λ i. c i - v i))
-  pub over : r .over ≡ tabulate 16 (bySeller sellers p (λ i. v i - c i))
   pub value : r .value ≡ tabulate 16 (bySeller sellers p (λ i. c i * q i))
 
 -- one more entry of seller s
 pub record Entered (sums : Sums) (s c q v : ℕ) (r : Sums) : Type 0 where
   pub committed : r .committed ≡ addedAt (sums .committed) s c
   pub reduction : r .reduction ≡ addedAt (sums .reduction) s v
-  pub short : r .short ≡ addedAt (sums .short) s (c - v)
-  pub over : r .over ≡ addedAt (sums .over) s (v - c)
   pub value : r .value ≡ addedAt (sums .value) s (c * q)
 
 -- what the sums of a seller with room for an entry are
 pub record Room (sums : Sums) (s : ℕ) : Type 0 where
   pub committed : at (sums .committed) s ≤ 1000000000000
   pub reduction : at (sums .reduction) s ≤ 1000000000000
-  pub short : at (sums .short) s ≤ 1000000000000
-  pub over : at (sums .over) s ≤ 1000000000000
   pub value : at (sums .value) s ≤ 1000000000000

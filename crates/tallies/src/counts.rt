@@ -2,7 +2,7 @@
 ghost use mathlib.Core.Path.{_≡_};
 ghost use mathlib.Core.Bool.{not};
 ghost use Prim.Native.Nat.{_≤_};
-ghost use lib.ListN.{take};
+ghost use lib.ListN.{length, take};
 ghost use lib.Dec.{eqb};
 ghost use Rattle.ids.specs.Ids.{tabulate};
 ghost use Rattle.calendar.specs.Calendar.{offPeak};
@@ -16,26 +16,26 @@ pub struct Calls {
 }
 
 // One more event: a pass over its entries.
-fn count_event(calls: Calls, event: Event) -> Calls
-    requires { ⌜ Countable calls ⌝ }
-    ensures called { λ r. ⌜ r .called ≡ tabulate 64 (nowCalled (calls .called) (event .listing)) ⌝ }
-    ensures counts { λ r. ⌜ r .counts ≡ tabulate 64 (nowCounted (calls .counts) (event .listing) (not (eqb (event .period) offPeak))) ⌝ }
+fn count_event(event: Event, called: &mut [bool; 64], counts: &mut [u64; 64])
+    requires { ⌜ length (now called) ≡ 64 ⌝ }
+    requires { ⌜ length (now counts) ≡ 64 ⌝ }
+    requires { ⌜ Countable (now counts) ⌝ }
+    ensures called { λ _. ⌜ now (called .exit) ≡ tabulate 64 (nowCalled (now (called .entry)) (event .listing)) ⌝ }
+    ensures counts { λ _. ⌜ now (counts .exit) ≡ tabulate 64 (nowCounted (now (counts .entry)) (event .listing) (not (eqb (event .period) offPeak))) ⌝ }
 {
-    let mut c = calls;
     let listing = event.listing;
     let on_peak = event.period != 2;
     let mut i: usize = 0;
     while i < 64 {
         if listing.listed[i] {
-            c.called[i] = true;
+            called[i] = true;
             if on_peak {
-                let n = c.counts[i];
-                c.counts[i] = n + 1;
+                let n = counts[i];
+                counts[i] = n + 1;
             }
         }
         i += 1;
     }
-    c
 }
 
 // The calls of the first `held` events.
@@ -44,17 +44,16 @@ pub fn calls_of(events: [Event; 16], held: usize) -> Calls
     ensures called { λ r. ⌜ r .called ≡ tabulate 64 (called (take held events)) ⌝ }
     ensures counts { λ r. ⌜ r .counts ≡ tabulate 64 (calls (take held events)) ⌝ }
 {
-    let called = [false; 64];
-    let counts = [0u64; 64];
-    let mut c = Calls {
-        called: called,
-        counts: counts,
-    };
+    let mut called = [false; 64];
+    let mut counts = [0u64; 64];
     let mut j: usize = 0;
     while j < held {
         let event = events[j];
-        c = count_event(c, event);
+        count_event(event, &mut called, &mut counts);
         j += 1;
     }
-    c
+    Calls {
+        called: called,
+        counts: counts,
+    }
 }

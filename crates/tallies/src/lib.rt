@@ -2,14 +2,16 @@
 mod counts;
 mod entries;
 mod sums;
+mod weights;
 
 pub use counts::Calls;
 pub use counts::calls_of;
-pub use entries::Weights;
+pub use entries::any;
 pub use entries::left;
 pub use entries::less;
-pub use entries::weights_of;
 pub use sums::Sums;
-pub use sums::add_by_seller;
+pub use sums::add_at;
 pub use sums::sum_of;
 pub use sums::sums_of;
+pub use weights::Totals;
+pub use weights::weigh;

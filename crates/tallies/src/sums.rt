@@ -3,22 +3,19 @@ ghost use mathlib.Core.Path.{_≡_};
 ghost use Prim.Native.Nat.{_+_, _<_, _^_};
 ghost use lib.ListN.{length};
 ghost use Rattle.ids.specs.Ids.{at, holds, sumTo};
-ghost use Rattle.tallies.specs.Arrays.{added, addedAt, Within, Sellers};
+ghost use Rattle.tallies.specs.Arrays.{addedAt, Within, Sellers};
 ghost use Rattle.tallies.specs.Sums.{Summed};
-use crate::entries::less;
 use crate::entries::wide;
 
-// Of each seller: committed, given, what its short entries lack, what its over-performing ones give more, and committed × rate.
+// Of each seller: committed, given, and committed × rate.
 pub struct Sums {
     pub committed: [u64; 16],
     pub reduction: [u64; 16],
-    pub short: [u64; 16],
-    pub over: [u64; 16],
     pub value: [u64; 16],
 }
 
 // x more at seller s.
-fn add_at(sums: &mut [u64; 16], s: usize, x: u64)
+pub fn add_at(sums: &mut [u64; 16], s: usize, x: u64)
     requires { ⌜ s < 16 ⌝ }
     requires { ⌜ at (now sums) s + x < 2 ^ 64 ⌝ }
     ensures { λ _. ⌜ now (sums .exit) ≡ addedAt (now (sums .entry)) s x ⌝ }
@@ -43,8 +40,6 @@ pub fn sums_of(
 {
     let mut all_committed = [0u64; 16];
     let mut all_reduced = [0u64; 16];
-    let mut short = [0u64; 16];
-    let mut over = [0u64; 16];
     let mut value = [0u64; 16];
     let mut i: usize = 0;
     while i < 64 {
@@ -55,8 +50,6 @@ pub fn sums_of(
             let q = rates[i];
             add_at(&mut all_committed, s, c);
             add_at(&mut all_reduced, s, v);
-            add_at(&mut short, s, less(c, v));
-            add_at(&mut over, s, less(v, c));
             add_at(&mut value, s, c * q);
         }
         i += 1;
@@ -64,28 +57,8 @@ pub fn sums_of(
     Sums {
         committed: all_committed,
         reduction: all_reduced,
-        short: short,
-        over: over,
         value: value,
     }
-}
-
-// The amounts by registration, added to those of their sellers.
-pub fn add_by_seller(sums: [u64; 16], sellers: &[u64; 64], amounts: &[u64; 64]) -> [u64; 16]
-    requires { ⌜ Sellers (now sellers) ⌝ }
-    requires { ⌜ Within 1000000000000 sums ⌝ }
-    requires { ⌜ Within 1000000000000 (now amounts) ⌝ }
-    ensures { λ r. ⌜ r ≡ added sums (now (sellers .entry)) (now (amounts .entry)) ⌝ }
-{
-    let mut r = sums;
-    let mut i: usize = 0;
-    while i < 64 {
-        let s = sellers[i] as usize;
-        let sum = r[s];
-        r[s] = sum + amounts[i];
-        i += 1;
-    }
-    r
 }
 
 // The sum of the amounts.

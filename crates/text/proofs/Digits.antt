@@ -1,5 +1,5 @@
--- Laws of digits: a value is below 16, and one more digit or pair.
-use Prim.Native.Nat.{ℕ, zero, suc, _+_, _-_, _*_, _^_, _<_, min}
+-- Laws of digits: a value is below 16, and one more pair.
+use Prim.Native.Nat.{ℕ, zero, suc, _+_, _-_, _*_, _<_}
 use mathlib.Core.Bool.{Bool, true, false, cond}
 use mathlib.Core.List.{List, [], _∷_, _++_, append-assoc}
 use mathlib.Core.Path.{_≡_, refl}
@@ -9,7 +9,7 @@ use borrow.Author.Tests.{ltb-true}
 use lib.Dec.{ltb}
 use lib.ListN.{length, getD, drop, set, length-append}
 use lib.Seq.{drop-cons, set-at}
-use Rattle.text.specs.Text.{digit, spells, pairs}
+use Rattle.text.specs.Text.{digit, pairs}
 
 pub digit-lt : (b : ℕ) → digit b < 16
 unfolding digit
@@ -22,17 +22,13 @@ digit-lt b = go (ltb b 48) (ltb b 58) refl (ltb b 97) (ltb b 103) refl
     go false false p false true q = omega (arith, ltb-true b 103 q)
     go false false p false false q = omega arith
 
-pub spells-more : (s : List ℕ) (i : ℕ) → spells s (i + 1) ≡ min (spells s i * 10 + digit (getD s i 0)) (2 ^ 64 - 1)
-unfolding spells
-spells-more s i = rw add-one
-
 length-pairs : (s : List ℕ) (n : ℕ) → length (pairs s n) ≡ n
 unfolding pairs
 length-pairs s zero = refl
 length-pairs s (suc n) = rw (length-append, length-pairs s n) (omega arith)
 
 -- one more element over the front
-front-more : (xs old : List ℕ) (i v : ℕ) → length xs ≡ i → i < length old → set (xs ++ drop i old) i v ≡ (xs ++ (v ∷ [])) ++ drop (suc i) old
+pub front-more : (xs old : List ℕ) (i v : ℕ) → length xs ≡ i → i < length old → set (xs ++ drop i old) i v ≡ (xs ++ (v ∷ [])) ++ drop (suc i) old
 front-more xs old i v e l = rw (drop-cons old i 0 l, set-at xs (getD old i 0) (drop (suc i) old) v i e, append-assoc)
 
 pub pairs-more : (s old : List ℕ) (i : ℕ) → i < length old

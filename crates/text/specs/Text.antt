@@ -1,5 +1,5 @@
--- Words, and digits and the numbers that they spell.
-use Prim.Native.Nat.{ℕ, zero, suc, _+_, _-_, _*_, _^_, _≤_, _<_, min}
+-- Where a byte stands, and bytes in hexadecimal digits.
+use Prim.Native.Nat.{ℕ, zero, suc, _+_, _-_, _*_, _≤_, _<_}
 use mathlib.Core.Bool.{cond}
 use mathlib.Core.List.{List, [], _∷_, _++_}
 use mathlib.Core.Path.{_≡_}
@@ -16,11 +16,6 @@ pub record Ends (s : List ℕ) (p b e : ℕ) : Type 0 where
 -- the value of a character 0 to 9 or a to f, and 0 of any other
 unfoldable pub digit : ℕ → ℕ
 digit b = cond (ltb b 48) 0 (cond (ltb b 58) (b - 48) (cond (ltb b 97) 0 (cond (ltb b 103) (b - 87) 0)))
-
--- what the first n digits spell in decimal, at most 2 ^ 64 - 1
-unfoldable pub spells : List ℕ → ℕ → ℕ
-spells s zero = 0
-spells s (suc n) = min (spells s n * 10 + digit (getD s n 0)) (2 ^ 64 - 1)
 
 -- the bytes that the first n pairs of hexadecimal digits spell
 unfoldable pub pairs : List ℕ → ℕ → List ℕ

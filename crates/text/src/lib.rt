@@ -1,9 +1,11 @@
-// Words of a text: where one ends, the number that decimal digits spell, and bytes in hexadecimal digits.
+// Words of a text: where they end, the numbers that they spell, and bytes in hexadecimal digits.
 ghost use mathlib.Core.Path.{_≡_};
 ghost use mathlib.Core.List.{[], _∷_, _++_};
-ghost use Prim.Native.Nat.{_+_, _-_, _*_, _/_, _%_, _^_, _≤_, _<_, min};
-ghost use lib.ListN.{length, drop};
-ghost use Rattle.text.specs.Text.{Ends, spells, digit, pairs, character};
+ghost use mathlib.Core.Bool.{false};
+ghost use Prim.Native.Nat.{_+_, _*_, _/_, _%_, _≤_, _<_, min};
+ghost use lib.ListN.{length, getD, take, drop};
+ghost use Rattle.text.specs.Text.{Ends, digit, pairs, character};
+ghost use Rattle.text.specs.Words.{Starts, Stops, separates, further, spelled, numbers};
 
 // Where the byte stands first from a place on, or the length.
 pub fn find(s: &[u8], at: usize, byte: u8) -> usize
@@ -20,35 +22,104 @@ pub fn find(s: &[u8], at: usize, byte: u8) -> usize
     i
 }
 
-// The number that decimal digits spell, the largest u64 where it is larger.
-pub fn decimal(s: &[u8]) -> u64
-    ensures { λ r. ⌜ r ≡ spells (now (s .entry)) (length (now (s .entry))) ⌝ }
+// The numbers of a line's words into the front of out, as far as it goes; how many.
+pub fn decimals(line: &[u8], out: &mut [u64]) -> usize
+    ensures { λ r. ⌜ r ≡ min (length (numbers (now (line .entry)))) (length (now (out .entry))) ⌝ }
+    ensures { λ r. ⌜ now (out .exit) ≡ take r (numbers (now (line .entry))) ++ drop r (now (out .entry)) ⌝ }
+{
+    let mut at = word_start(line, 0);
+    let mut n = 0;
+    while n < out.len() {
+        if at == line.len() {
+            return n;
+        }
+        let end = word_end(line, at);
+        out[n] = decimal(&line[at..end]);
+        n += 1;
+        at = word_start(line, end);
+    }
+    n
+}
+
+// Where the next word starts from a place on, or the length.
+fn word_start(line: &[u8], at: usize) -> usize
+    requires { ⌜ at ≤ length (now line) ⌝ }
+    ensures { λ r. ⌜ Starts (now (line .entry)) at r ⌝ }
+{
+    let mut i = at;
+    while i < line.len() {
+        if !is_separator(line[i]) {
+            return i;
+        }
+        i += 1;
+    }
+    i
+}
+
+// Where the word that starts at a place ends.
+fn word_end(line: &[u8], at: usize) -> usize
+    requires { ⌜ at < length (now line) ⌝ }
+    requires { ⌜ separates (getD (now line) at 0) ≡ false ⌝ }
+    ensures { λ r. ⌜ Stops (now (line .entry)) at r ⌝ }
+{
+    let mut i = at + 1;
+    while i < line.len() {
+        if is_separator(line[i]) {
+            return i;
+        }
+        i += 1;
+    }
+    i
+}
+
+// Does it stand between words?
+fn is_separator(b: u8) -> bool
+    ensures { λ r. ⌜ r ≡ separates b ⌝ }
+{
+    if b == b' ' {
+        return true;
+    }
+    if b == b'\t' {
+        return true;
+    }
+    b == b'\r'
+}
+
+// The number that decimal digits spell, the largest u64 where it is larger or a character is no digit.
+fn decimal(word: &[u8]) -> u64
+    ensures { λ r. ⌜ r ≡ spelled (now (word .entry)) ⌝ }
 {
     let mut v: u64 = 0;
     let mut i = 0;
-    while i < s.len() {
-        v = then_digit(v, digit_of(s[i]));
+    while i < word.len() {
+        v = then(v, word[i]);
         i += 1;
     }
     v
 }
 
-// The digit's value at the end of a number.
-fn then_digit(v: u64, d: u8) -> u64
-    ensures { λ r. ⌜ r ≡ min (v * 10 + d) (2 ^ 64 - 1) ⌝ }
+// A number with one more character behind it.
+fn then(v: u64, b: u8) -> u64
+    ensures { λ r. ⌜ r ≡ further v b ⌝ }
 {
+    if b < 48 {
+        return u64::MAX;
+    }
+    if 57 < b {
+        return u64::MAX;
+    }
     if 1844674407370955161 < v {
-        return 18446744073709551615;
+        return u64::MAX;
     }
     let t = v * 10;
-    let low = d as u64;
-    if 18446744073709551615 - t < low {
-        return 18446744073709551615;
+    let low = (b - 48) as u64;
+    if u64::MAX - t < low {
+        return u64::MAX;
     }
     t + low
 }
 
-// A digit's value, decimal or hexadecimal in small letters.
+// A hexadecimal digit's value, in small letters.
 fn digit_of(b: u8) -> u8
     ensures { λ r. ⌜ r ≡ digit b ⌝ }
 {

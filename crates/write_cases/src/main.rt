@@ -14,9 +14,6 @@ fn cases(input: &[u8]) {
     while at < input.len() {
         let end = text::find(input, at, b'\n');
         case(&input[at..end]);
-        if end == input.len() {
-            return;
-        }
         at = end + 1;
     }
 }
@@ -24,58 +21,27 @@ fn cases(input: &[u8]) {
 // A line: for how many bytes there is room, and the numbers.
 fn case(line: &[u8]) {
     let mut words = [0u64; 256];
-    let n = decimals(line, &mut words);
+    let n = text::decimals(line, &mut words);
     if n == 0 {
         return;
     }
-    let room = words[0] as usize;
-    write(&words[1..n], room);
+    let room = text::least(words[0] as usize, 4096);
+    let mut bytes = [0u8; 4096];
+    write(&words[1..n], &mut bytes[0..room]);
 }
 
-// The numbers of a line into the front of out, as far as it goes; how many.
-fn decimals(line: &[u8], out: &mut [u64]) -> usize
-    ensures { λ r. ⌜ r ≤ length (now (out .entry)) ⌝ }
+fn write(numbers: &[u64], bytes: &mut [u8])
+    requires { ⌜ length (now bytes) ≤ 4096 ⌝ }
 {
-    let mut at = 0;
-    let mut n = 0;
-    while n < out.len() {
-        let end = text::find(line, at, b' ');
-        out[n] = text::decimal(&line[at..end]);
-        n += 1;
-        if end == line.len() {
-            return n;
-        }
-        at = end + 1;
-    }
-    n
-}
-
-fn write(numbers: &[u64], room: usize) {
-    let mut bytes = io::buffer();
-    let most = text::least(room, 4096);
-    let answer = records::write(numbers, &mut bytes[..most]);
-    io::print_decimal(STDOUT_FILENO, answer.number);
-    space();
-    io::print_decimal(STDOUT_FILENO, answer.used as u64);
-    space();
-    let used = text::least(answer.used, 4096);
-    print(&bytes[..used]);
-    io::write_all(STDOUT_FILENO, b"\n");
-}
-
-// The bytes in hexadecimal, `-` where there are none.
-fn print(bytes: &[u8]) {
-    if bytes.len() == 0 {
-        io::write_all(STDOUT_FILENO, b"-");
-        return;
-    }
-    let mut i = 0;
-    while i < bytes.len() {
-        io::write_all(STDOUT_FILENO, &text::hex_digits(bytes[i]));
-        i += 1;
-    }
-}
-
-fn space() {
-    io::write_all(STDOUT_FILENO, b" ");
+    let answer = records::write(numbers, bytes);
+    let used = text::least(answer.used, bytes.len());
+    let mut out = io::large_buffer();
+    let end = report::call_line(
+        answer.number,
+        answer.used as u64,
+        &bytes[0..used],
+        &mut out,
+        0,
+    );
+    io::write_all(STDOUT_FILENO, &out[0..end]);
 }

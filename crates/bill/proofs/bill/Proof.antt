@@ -20,18 +20,21 @@ abbrev μ-loop : tie.MeasureT-loop
 -- the three lengths are kept, up to a step
 lengths : (s : tie.After-step Inv-loop μ-loop)
     → (let f = s .before .before .before .before .before .before .before .before in
-    let a = f .before .before .before .before .before .before .before .before .args in
+    let a = f .before .before .before .before .before .before .before .before .before .args in
     (length (f .filled .last .1 .0) ≡ length (a .buffer .now))
     × (length (s .step .last .1 .1 .1 .1 .1 .0) ≡ length (a .statement .now))
     × (length (s .step .last .1 .1 .1 .1 .1 .1 .0) ≡ length (a .out .now)))
 lengths s =
     let f = s .before .before .before .before .before .before .before .before in
     let l = f .before .before .before in
-    let a = l .before .before .before .before .before in
+    let a = l .before .before .before .before .before .before in
     (omega (arith, f .filled, l .loop, a), omega (arith, s .step, l .loop, a), omega (arith, s .step, l .loop, a))
 
 new-book-requires : tie.Need-new-book-requires Inv-loop μ-loop
 new-book-requires c κs = search needs
+
+new-window-requires : tie.Need-new-window-requires Inv-loop μ-loop
+new-window-requires c κs = search needs
 
 loop-holds : tie.Need-loop-holds Inv-loop μ-loop
 loop-holds c = search needs
@@ -51,8 +54,8 @@ same-length-3 c = search needs
 returns : tie.Need-returns Inv-loop μ-loop
 returns c = search needs
 
-print-requires : tie.Need-print-requires Inv-loop μ-loop
-print-requires c κs = search needs
+with-room-requires : tie.Need-with-room-requires Inv-loop μ-loop
+with-room-requires c κs = search needs
 
 same-length-4 : tie.Need-same-length-4 Inv-loop μ-loop
 same-length-4 c = search needs
@@ -70,30 +73,30 @@ step-requires : tie.Need-step-requires Inv-loop μ-loop
 step-requires c κs =
     let f = c .before .before .before .before .before .before .before in
     let l = f .before .before .before in
-    let a = l .before .before .before .before .before in
+    let a = l .before .before .before .before .before .before in
     (l .loop .inv .1 .0, (omega (arith, c .before .before .before .if2, f .filled), (omega (arith, f .filled, l .loop, a), (omega (arith, f .filled, l .loop, a), omega (arith, f .filled, l .loop, a)))))
 
-print-requires-2 : tie.Need-print-requires-2 Inv-loop μ-loop
-print-requires-2 c κs = search needs
+with-room-requires-2 : tie.Need-with-room-requires-2 Inv-loop μ-loop
+with-room-requires-2 c κs = search needs
 
 same-length-7 : tie.Need-same-length-7 Inv-loop μ-loop
-same-length-7 c = lengths (c .before .before .before .before .before .before .before .before) .0
+same-length-7 c = lengths (c .before .before .before .before .before .before .before .before .before) .0
 
 same-length-8 : tie.Need-same-length-8 Inv-loop μ-loop
-same-length-8 c = lengths (c .before .before .before .before .before .before .before .before) .1
+same-length-8 c = lengths (c .before .before .before .before .before .before .before .before .before) .1
 
 same-length-9 : tie.Need-same-length-9 Inv-loop μ-loop
-same-length-9 c = lengths (c .before .before .before .before .before .before .before .before) .2
+same-length-9 c = lengths (c .before .before .before .before .before .before .before .before .before) .2
 
 returns-3 : tie.Need-returns-3 Inv-loop μ-loop
 returns-3 c = search needs
 
-with-room-requires : tie.Need-with-room-requires Inv-loop μ-loop
-with-room-requires c κs =
+with-room-requires-3 : tie.Need-with-room-requires-3 Inv-loop μ-loop
+with-room-requires-3 c κs =
     let s = c .before .before .before .before .before .before .before .before in
     let f = s .before .before .before .before .before .before .before .before in
     let l = f .before .before .before in
-    let a = l .before .before .before .before .before in
+    let a = l .before .before .before .before .before .before in
     omega (arith, s .step, f .filled, l .loop, a)
 
 same-length-10 : tie.Need-same-length-10 Inv-loop μ-loop
@@ -113,7 +116,7 @@ add-window c =
     let s = c .before .before .before .before .before .before .before .before .before .before .before in
     let f = s .before .before .before .before .before .before .before .before in
     let l = f .before .before .before in
-    let a = l .before .before .before .before .before in
+    let a = l .before .before .before .before .before .before in
     omega (arith, s .step, f .filled, l .loop, a)
 
 add-position : tie.Need-add-position Inv-loop μ-loop
@@ -132,8 +135,8 @@ loop-again c =
     let s = w .before .before .before .before .before .before .before .before .before in
     let f = s .before .before .before .before .before .before .before .before in
     let l = f .before .before .before in
-    let a = l .before .before .before .before .before in
-    ((omega (arith, s .step, f .filled, l .loop, a), omega (arith, s .step, f .filled, l .loop, a), omega (arith, s .step, f .filled, l .loop, a)), (s .step .ensures .0, omega (arith, s .step, f .filled, l .loop, a), omega (arith, s .step, f .filled, l .loop, a), omega (arith, w .with-room, s .step, f .filled, l .loop, a)))
+    let a = l .before .before .before .before .before .before in
+    ((omega (arith, s .step, f .filled, l .loop, a), omega (arith, s .step, f .filled, l .loop, a), omega (arith, s .step, f .filled, l .loop, a)), (s .step .ensures .0, omega (arith, s .step, f .filled, l .loop, a), omega (arith, s .step, f .filled, l .loop, a), omega (arith, w .with-room3, s .step, f .filled, l .loop, a)))
 
 same-length-13 : tie.Need-same-length-13 Inv-loop μ-loop
 same-length-13 c = search needs
@@ -154,24 +157,25 @@ bill-spec =
     Inv-loop
     μ-loop
     new-book-requires
+    new-window-requires
     loop-holds
     filled-requires
     same-length
     same-length-2
     same-length-3
     returns
-    print-requires
+    with-room-requires
     same-length-4
     same-length-5
     same-length-6
     returns-2
     step-requires
-    print-requires-2
+    with-room-requires-2
     same-length-7
     same-length-8
     same-length-9
     returns-3
-    with-room-requires
+    with-room-requires-3
     same-length-10
     same-length-11
     same-length-12

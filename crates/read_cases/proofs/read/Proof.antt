@@ -1,70 +1,72 @@
--- The parts that are lent lie within the row of numbers.
-use mathlib.Core.List.{List, _++_}
-use mathlib.Core.Path.{sym}
-use Prim.Native.Nat.{ℕ, _≤_}
+-- Stores keep the length of the row.
 use native.Mathlib.Omega.{arith}
-use lib.ListN.{length, drop, replicate}
-use lib.Seq.{length-take-le, length-front}
 use borrow.Author.Needs.{needs}
+use lib.ListN.{length-set}
 use Rattle.read_cases.proofs.read.Statement.{statement}
 use Rattle.read_cases.proofs.read.Tie as tie
 
-abbrev zeros : List ℕ
-zeros = replicate 512 0
+sub-room : tie.Need-sub-room
+sub-room c = search needs
 
-least-requires : tie.Need-least-requires
-least-requires c κs = search needs
+sub-read : tie.Need-sub-read
+sub-read c = search needs
 
-array-borrow-prefix-numbers : tie.Need-array-borrow-prefix-numbers
-array-borrow-prefix-numbers c = search needs
+part-read-start : tie.Need-part-read-start
+part-read-start c = search needs
 
-slice-aggregate-read : tie.Need-slice-aggregate-read
-slice-aggregate-read c =
-    let n = c .before .least .result in
-    let within : n ≤ 512 = omega arith in
-    sym (length-take-le n zeros within)
+part-read-end : tie.Need-part-read-end
+part-read-end c = search needs
 
 read-requires : tie.Need-read-requires
 read-requires c κs = search needs
 
-print-decimal-requires : tie.Need-print-decimal-requires
-print-decimal-requires c κs = search needs
+slice-write-row : tie.Need-slice-write-row
+slice-write-row c = search needs
 
-space-requires : tie.Need-space-requires
-space-requires c κs = search needs
+slice-write-row-2 : tie.Need-slice-write-row-2
+slice-write-row-2 c = simp length-set (omega arith)
 
-print-decimal-requires-2 : tie.Need-print-decimal-requires-2
-print-decimal-requires-2 c κs = search needs
+slice-write-row-3 : tie.Need-slice-write-row-3
+slice-write-row-3 c = simp length-set (omega arith)
 
-space-requires-2 : tie.Need-space-requires-2
-space-requires-2 c κs = search needs
+least-requires : tie.Need-least-requires
+least-requires c κs = search needs
 
-print-decimal-requires-3 : tie.Need-print-decimal-requires-3
-print-decimal-requires-3 c κs = search needs
+large-buffer-requires : tie.Need-large-buffer-requires
+large-buffer-requires c κs = search needs
 
-least-requires-2 : tie.Need-least-requires-2
-least-requires-2 c κs = search needs
+add-numbers-line : tie.Need-add-numbers-line
+add-numbers-line c = search needs
 
-array-share-prefix-numbers : tie.Need-array-share-prefix-numbers
-array-share-prefix-numbers c =
-    let e = length-front zeros (c .before .before .before .before .before .before .before .read .last .1 .0) (c .before .before .before .before .before .before .before .before .before .least .result) (c .before .before .before .before .before .before .numbers2 .given) in
-    omega arith
+sub-numbers-line : tie.Need-sub-numbers-line
+sub-numbers-line c = search needs
 
-slice-aggregate-print : tie.Need-slice-aggregate-print
-slice-aggregate-print c =
-    let row = c .before .before .before .before .before .before .before .before .read .last .1 .0 ++ drop (c .before .before .before .before .before .before .before .before .before .before .least .result) zeros in
-    let e = length-front zeros (c .before .before .before .before .before .before .before .before .read .last .1 .0) (c .before .before .before .before .before .before .before .before .before .before .least .result) (c .before .before .before .before .before .before .before .numbers2 .given) in
-    let within : c .before .least2 .result ≤ length row = omega arith in
-    sym (length-take-le (c .before .least2 .result) row within)
+part-numbers-line-start : tie.Need-part-numbers-line-start
+part-numbers-line-start c = search needs
 
-print-requires : tie.Need-print-requires
-print-requires c κs = search needs
+part-numbers-line-end : tie.Need-part-numbers-line-end
+part-numbers-line-end c = simp length-set (omega arith)
 
-slice-aggregate-write-all : tie.Need-slice-aggregate-write-all
-slice-aggregate-write-all c = search needs
+slice-aggregate-numbers-line : tie.Need-slice-aggregate-numbers-line
+slice-aggregate-numbers-line c = search needs
+
+numbers-line-requires : tie.Need-numbers-line-requires
+numbers-line-requires c κs = search needs
+
+sub-write-all : tie.Need-sub-write-all
+sub-write-all c = search needs
+
+part-write-all-start : tie.Need-part-write-all-start
+part-write-all-start c = search needs
+
+part-write-all-end : tie.Need-part-write-all-end
+part-write-all-end c = search needs
 
 write-all-requires : tie.Need-write-all-requires
 write-all-requires c κs = search needs
+
+same-length : tie.Need-same-length
+same-length c = search needs
 
 returns : tie.Need-returns
 returns c = search needs
@@ -73,19 +75,25 @@ pub read-spec : {M : Type 1} → statement M
 read-spec =
     tie.close
     (tie.spec
-    least-requires
-    array-borrow-prefix-numbers
-    slice-aggregate-read
+    sub-room
+    sub-read
+    part-read-start
+    part-read-end
     read-requires
-    print-decimal-requires
-    space-requires
-    print-decimal-requires-2
-    space-requires-2
-    print-decimal-requires-3
-    least-requires-2
-    array-share-prefix-numbers
-    slice-aggregate-print
-    print-requires
-    slice-aggregate-write-all
+    slice-write-row
+    slice-write-row-2
+    slice-write-row-3
+    least-requires
+    large-buffer-requires
+    add-numbers-line
+    sub-numbers-line
+    part-numbers-line-start
+    part-numbers-line-end
+    slice-aggregate-numbers-line
+    numbers-line-requires
+    sub-write-all
+    part-write-all-start
+    part-write-all-end
     write-all-requires
+    same-length
     returns)

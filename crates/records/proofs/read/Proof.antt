@@ -1,45 +1,47 @@
 -- What is refused leaves the buffer as it was; else the row has the numbers in front.
 use mathlib.Core.Path.{refl, sym, ap, _∙_}
+use borrow.Author.Needs.{needs}
 use native.Mathlib.Omega.{arith}
 use lib.ListN.{length}
 use Rattle.records.specs.Questions.{numbersOf}
 use Rattle.records.specs.Accepted.{accepted, consumed-size, numbers-few}
 use Rattle.records.proofs.Reading.{read-fails, read-short, read-full, rejects, yields, row-front, row-long}
-use borrow.Author.Needs.{needs}
 use Rattle.records.proofs.read.Statement.{statement}
 use Rattle.records.proofs.read.Tie as tie
 
-parse-requires : tie.Need-parse-requires
-parse-requires c κs = search needs
+slice-aggregate-parse-into : tie.Need-slice-aggregate-parse-into
+slice-aggregate-parse-into c = search needs
 
-unread-requires : tie.Need-unread-requires
-unread-requires c κs = search needs
+parse-into-requires : tie.Need-parse-into-requires
+parse-into-requires c κs = refl
+
+refused-requires : tie.Need-refused-requires
+refused-requires c κs = search needs
 
 returns : tie.Need-returns
 returns c =
-    let p = c .before .before .before .parse .ensures in
+    let p = c .before .before .before .before .parse-into .ensures in
     let some = c .before .if1 .taken in
-    let u = c .unread .ensures in
+    let u = c .refused .ensures in
     rejects _ (u .0 ∙ p .numbers) (u .1) (u .2) refl (λ e. some (p .numbers ∙ e)) (read-fails _ _ (λ e. some (p .numbers ∙ e)))
 
-unread-requires-2 : tie.Need-unread-requires-2
-unread-requires-2 c κs = search needs
+refused-requires-2 : tie.Need-refused-requires-2
+refused-requires-2 c κs = search needs
 
 returns-2 : tie.Need-returns-2
 returns-2 c =
-    let p = c .before .before .before .before .parse .ensures in
-    let none = c .before .before .if1 .left in
-    let u = c .unread2 .ensures in
-    rejects 16 (u .0) (u .1) (u .2) refl (λ e. omega arith) (read-short _ _ (sym (p .numbers) ∙ none) (c .before .if2 .taken))
+    let p = c .before .before .before .before .before .parse-into .ensures in
+    let u = c .refused2 .ensures in
+    rejects 16 (u .0) (u .1) (u .2) refl (λ e. omega arith) (read-short _ _ (sym (p .numbers) ∙ c .before .before .if1 .left) (c .before .if2 .taken))
 
 slice-aggregate-copy-front : tie.Need-slice-aggregate-copy-front
 slice-aggregate-copy-front c = search needs
 
 copy-front-requires : tie.Need-copy-front-requires
 copy-front-requires c κs =
-    let bytes = c .before .before .before .before .before .before .before .before .before .args .bytes .now in
-    let p = c .before .before .before .before .before .before .parse .ensures in
-    let none = c .before .before .before .before .if1 .left in
+    let bytes = c .before .before .before .before .before .before .before .before .before .before .args .bytes .now in
+    let p = c .before .before .before .before .before .before .parse-into .ensures in
+    let none = c .before .before .before .if1 .left in
     let few = numbers-few bytes (accepted bytes (sym (p .numbers) ∙ none)) in
     let n = p .counts none in
     (omega (arith, row-long (numbersOf bytes), ap length (p .rows none)), omega arith)
@@ -49,21 +51,22 @@ same-length c = search needs
 
 returns-3 : tie.Need-returns-3
 returns-3 c =
-    let p = c .before .before .before .before .before .before .before .before .before .parse .ensures in
-    let none = c .before .before .before .before .before .before .before .if1 .left in
+    let p = c .before .before .before .before .before .before .before .before .before .parse-into .ensures in
+    let none = c .before .before .before .before .before .before .if1 .left in
     let zero = sym (p .numbers) ∙ none in
     let n = p .counts none in
     let front = row-front _ _ _ (p .rows none) n in
-    yields n (p .uses ∙ consumed-size _ (accepted _ zero)) (c .before .before .copy-front .ensures ∙ rw (front, n)) (read-full _ _ zero (c .before .before .before .before .before .before .if2 .left))
+    yields none n (p .uses ∙ consumed-size _ (accepted _ zero)) (c .before .before .copy-front .ensures ∙ rw (front, n)) (read-full _ _ zero (c .before .before .before .before .before .if2 .left))
 
 pub read-spec : {M : Type 1} → statement M
 read-spec =
     tie.close
     (tie.spec
-    parse-requires
-    unread-requires
+    slice-aggregate-parse-into
+    parse-into-requires
+    refused-requires
     returns
-    unread-requires-2
+    refused-requires-2
     returns-2
     slice-aggregate-copy-front
     copy-front-requires

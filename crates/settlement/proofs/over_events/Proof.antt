@@ -3,18 +3,20 @@ use Prim.Native.Nat.{_-_, _≤_}
 use mathlib.Core.Path.{_≡_}
 use native.Mathlib.Omega.{arith}
 use lib.ListN.{take}
-use Rattle.settlement.specs.Along.{Along, along-none, along-step, taken-fits, compliance-fits, credit-fits}
+use Rattle.settlement.specs.Base.{columns, baseOf}
+use Rattle.settlement.specs.Event.{running}
+use Rattle.settlement.specs.Along.{Along, along-none, along-turn, along-step}
 use Rattle.settlement.proofs.over_events.Statement.{statement}
 use Rattle.settlement.proofs.over_events.Tie as tie
 
 abbrev Inv-loop : tie.InvT-loop
-Inv-loop base held events running₀ j₀ running j = (j ≤ held) × Along base (take j events) running
+Inv-loop terms k days sellers committed rates products counts caps held events taken₀ compliance₀ credit₀ j₀ taken compliance credit j = (j ≤ held) × Along (baseOf terms k days (columns sellers committed rates) products counts caps) (take j events) (running taken compliance credit)
 
 abbrev μ-loop : tie.MeasureT-loop
-μ-loop base held events running₀ j₀ running j = held - j
+μ-loop terms k days sellers committed rates products counts caps held events taken₀ compliance₀ credit₀ j₀ taken compliance credit j = held - j
 
 loop-holds : tie.Need-loop-holds Inv-loop μ-loop
-loop-holds c = (omega arith, along-none (c .args .base))
+loop-holds c = (omega arith, along-none _)
 
 mul-event : tie.Need-mul-event Inv-loop μ-loop
 mul-event c = omega arith
@@ -24,17 +26,9 @@ array-copy-out-event c = omega arith
 
 add-event-requires : tie.Need-add-event-requires Inv-loop μ-loop
 add-event-requires c κs =
-    let t = c .before .before in
-    let s = t .before in
-    let B = s .pre .0 in
-    let A = t .loop .inv .1 in
-    record {
-      base = B;
-      event = s .pre .1 .0 .at (t .loop .j) (omega arith);
-      taken = taken-fits B A;
-      compliance = compliance-fits B A;
-      credit = credit-fits B A;
-    }
+    let l = c .before .before .before .before .before in
+    let q = c .before .before .before .before .before .before .pre in
+    along-turn (q .0) (l .loop .inv .1) (q .1 .0 .at (l .loop .j) (omega arith))
 
 add-j : tie.Need-add-j Inv-loop μ-loop
 add-j c = omega arith
@@ -44,15 +38,17 @@ loop-less c = omega arith
 
 loop-again : tie.Need-loop-again Inv-loop μ-loop
 loop-again c =
-    let t = c .before .before .before in
-    let s = t .before in
-    (omega arith, along-step (s .pre .0) (s .args .t2) (s .pre .1 .0) (t .loop .j) (omega arith) (t .loop .inv .1) (c .add-event .ensures))
+    let l = c .before .before .before .before .before .before in
+    let s = c .before .before .before .before .before .before .before in
+    let m = c .before .before .before .before .before .loop-test .taken in
+    (omega (arith, m), along-step (s .pre .0) (s .args .t10) (s .pre .1 .0) (l .loop .j) (omega (arith, m, s .pre .1 .1)) (l .loop .inv .1) (c .add-event .ensures))
 
 returns : tie.Need-returns Inv-loop μ-loop
 returns c =
-    let t = c .before in
-    let q : t .loop .j ≡ t .before .args .held = omega arith in
-    rw q at (t .loop .inv .1)
+    let l = c .before in
+    let all : l .loop .j ≡ c .before .before .args .held = omega arith in
+    let A = rw all at (l .loop .inv .1) in
+    (A .compliance, A .credit)
 
 pub over-events-spec : {M : Type 1} → statement M
 over-events-spec =

@@ -1,22 +1,31 @@
 -- `settlement::over_tests` meets its contract. The invariant: the charges are those of the first t tests. Assumes nothing.
-use Prim.Native.Nat.{_-_, _≤_}
-use mathlib.Core.Path.{_≡_}
+use Prim.Native.Nat.{_-_, _≤_, _<_}
+use mathlib.Core.Path.{_≡_, sym, _∙_}
+use mathlib.Core.Logic.{⊎-elim}
 use native.Mathlib.Omega.{arith}
 use lib.ListN.{length, take}
 use lib.Seq.{take-length}
 use Rattle.ids.specs.Ids.{tabulate}
-use Rattle.settlement.specs.Test.{testsOf, tests-none, tests-fit, tests-more}
+use Rattle.calendar.specs.Calendar.{days-le}
+use Rattle.settlement.specs.Test.{testsOf, tests-none, tests-fit, tests-more, tests-skip}
 use Rattle.settlement.proofs.over_tests.Statement.{statement}
 use Rattle.settlement.proofs.over_tests.Tie as tie
 
 abbrev Inv-loop : tie.InvT-loop
-Inv-loop base tests charges₀ t₀ charges t = (t ≤ 24) × (charges ≡ tabulate 16 (testsOf base (take t tests)))
+Inv-loop terms k sellers committed rates called tests days charges₀ t₀ charges t = (t ≤ 24) × (charges ≡ tabulate 16 (testsOf terms called k (take t tests)))
 
 abbrev μ-loop : tie.MeasureT-loop
-μ-loop base tests charges₀ t₀ charges t = 24 - t
+μ-loop terms k sellers committed rates called tests days charges₀ t₀ charges t = 24 - t
+
+days-requires : tie.Need-days-requires Inv-loop μ-loop
+days-requires c κs =
+    let q = c .pre in
+    (q .0 .factors .leap, q .1 .0, q .1 .1 .0)
 
 loop-holds : tie.Need-loop-holds Inv-loop μ-loop
-loop-holds c = (omega arith, tests-none (c .args .base))
+loop-holds c =
+    let s = c .before in
+    (omega arith, tests-none (s .args .terms) (s .args .called .now) (s .args .k))
 
 mul-test : tie.Need-mul-test Inv-loop μ-loop
 mul-test c = omega arith
@@ -24,14 +33,24 @@ mul-test c = omega arith
 array-copy-out-test : tie.Need-array-copy-out-test Inv-loop μ-loop
 array-copy-out-test c = omega arith
 
+any-requires : tie.Need-any-requires Inv-loop μ-loop
+any-requires c κs = tt
+
 with-test-requires : tie.Need-with-test-requires Inv-loop μ-loop
 with-test-requires c κs =
-    let t = c .before .before in
-    let s = t .before in (
-      s .pre .0,
+    let l = c .before .before .before .before .before .before .before in
+    let s = c .before .before .before .before .before .before .before .before .before in
+    let q = s .pre in (
+      q .0,
       (
-        s .pre .1 .1 .0 (t .loop .t) (omega arith),
-        tests-fit (s .args .base) (s .args .t2) (t .loop .t) (t .loop .inv .1) (s .pre .1 .1 .1),
+        rw (c .before .before .before .before .before .before .before .before .days .ensures) (days-le (s .args .k) (q .0 .factors .leap)),
+        (
+          q .1 .1 .1 .0,
+          (
+            q .1 .1 .1 .1 .1 .0 (l .loop .t) (c .before .before .before .before .before .before .loop-test .taken),
+            tests-fit (s .args .terms) (s .args .called .now) (s .args .k) (s .args .t7) (l .loop .t) (l .loop .inv .1) (q .1 .1 .1 .1 .1 .1),
+          ),
+        ),
       ),
     )
 
@@ -43,15 +62,25 @@ loop-less c = omega arith
 
 loop-again : tie.Need-loop-again Inv-loop μ-loop
 loop-again c =
-    let t = c .before .before .before in
-    let s = t .before in
-    (omega arith, tests-more (s .args .base) (s .args .t2) (t .loop .t) (t .loop .inv .1) (omega (arith, s .pre .1 .0)) (c .with-test .ensures))
+    let l = c .before .before .before .before .before .before .before in
+    let s = c .before .before .before .before .before .before .before .before .before in
+    let q = s .pre in
+    let m = c .before .before .before .before .before .before .loop-test .taken in
+    let within : l .loop .t < length (s .args .t7) = omega (arith, m, q .1 .1 .1 .1 .0) in
+    let day = c .before .before .before .before .before .before .before .before .days .ensures in (
+      omega (arith, m),
+      ⊎-elim
+          (λ w. w .2 ∙ tests-more (s .args .terms) (s .args .called .now) (s .args .k) (s .args .t7) (l .loop .t) (l .loop .inv .1) within (w .1 .ensures (s .args .k) day))
+          (λ w. w .1 ∙ tests-skip (s .args .terms) (s .args .called .now) (s .args .k) (s .args .t7) (l .loop .t) (l .loop .inv .1) within (q .0) (sym (c .before .any .ensures) ∙ w .0 .left))
+          (c .if1 .came),
+    )
 
 returns : tie.Need-returns Inv-loop μ-loop
 returns c =
-    let t = c .before in
-    let q : t .loop .t ≡ length (t .before .args .t2) = omega (arith, t .before .pre .1 .0) in
-    rw (q, take-length (t .before .args .t2)) at (t .loop .inv .1)
+    let l = c .before in
+    let s = c .before .before .before in
+    let all : l .loop .t ≡ length (s .args .t7) = omega (arith, s .pre .1 .1 .1 .1 .0) in
+    rw (all, take-length (s .args .t7)) at (l .loop .inv .1)
 
 pub over-tests-spec : {M : Type 1} → statement M
 over-tests-spec =
@@ -59,9 +88,11 @@ over-tests-spec =
     (tie.spec
     Inv-loop
     μ-loop
+    days-requires
     loop-holds
     mul-test
     array-copy-out-test
+    any-requires
     with-test-requires
     add-t
     loop-less

@@ -1,5 +1,5 @@
 -- The year stays sound from line to line.
-use Prim.Native.Nat.{_-_, _≤_}
+use Prim.Native.Nat.{_+_, _-_, _≤_}
 use lib.ListN.{length}
 use borrow.Author.Needs.{needs}
 use Rattle.year.specs.Sound.{Sound}
@@ -7,10 +7,10 @@ use Rattle.take_cases.proofs.cases.Statement.{statement}
 use Rattle.take_cases.proofs.cases.Tie as tie
 
 abbrev Inv-loop : tie.InvT-loop
-Inv-loop input year₀ at₀ year at = Sound year × (at ≤ length input)
+Inv-loop input year₀ at₀ year at = Sound year × (at ≤ length input + 1)
 
 abbrev μ-loop : tie.MeasureT-loop
-μ-loop input year₀ at₀ year at = length input - at
+μ-loop input year₀ at₀ year at = length input + 1 - at
 
 new-book-requires : tie.Need-new-book-requires Inv-loop μ-loop
 new-book-requires c κs = search needs
@@ -33,9 +33,6 @@ part-case-end c = search needs
 case-requires : tie.Need-case-requires Inv-loop μ-loop
 case-requires c κs = search needs
 
-returns : tie.Need-returns Inv-loop μ-loop
-returns c = search needs
-
 add-at : tie.Need-add-at Inv-loop μ-loop
 add-at c = search needs
 
@@ -45,8 +42,8 @@ loop-less c = search needs
 loop-again : tie.Need-loop-again Inv-loop μ-loop
 loop-again c = search needs
 
-returns-2 : tie.Need-returns-2 Inv-loop μ-loop
-returns-2 c = search needs
+returns : tie.Need-returns Inv-loop μ-loop
+returns c = search needs
 
 pub cases-spec : {M : Type 1} → statement M
 cases-spec =
@@ -61,8 +58,7 @@ cases-spec =
     part-case-start
     part-case-end
     case-requires
-    returns
     add-at
     loop-less
     loop-again
-    returns-2)
+    returns)

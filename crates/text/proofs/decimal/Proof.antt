@@ -2,31 +2,29 @@
 use mathlib.Core.Path.{_≡_, refl, _∙_}
 use Prim.Native.Nat.{_-_, _≤_}
 use native.Mathlib.Omega.{arith}
-use lib.ListN.{length}
-use Rattle.text.specs.Text.{spells}
-use Rattle.text.proofs.Digits.{spells-more}
+use lib.ListN.{length, take}
+use lib.Seq.{take-length}
+use Rattle.text.specs.Words.{spelled}
+use Rattle.text.proofs.Words.{spelled-more}
 use borrow.Author.Needs.{needs}
 use Rattle.text.proofs.decimal.Statement.{statement}
 use Rattle.text.proofs.decimal.Tie as tie
 
 abbrev Inv-loop : tie.InvT-loop
-Inv-loop s v₀ i₀ v i = (i ≤ length s) × (v ≡ spells s i)
+Inv-loop word v₀ i₀ v i = (i ≤ length word) × (v ≡ spelled (take i word))
 
 abbrev μ-loop : tie.MeasureT-loop
-μ-loop s v₀ i₀ v i = length s - i
+μ-loop word v₀ i₀ v i = length word - i
 
 loop-holds : tie.Need-loop-holds Inv-loop μ-loop
-unfolding spells
+unfolding spelled
 loop-holds c = (omega arith, refl)
 
-shared-slice-read-digit-of : tie.Need-shared-slice-read-digit-of Inv-loop μ-loop
-shared-slice-read-digit-of c = omega arith
+shared-slice-read-then : tie.Need-shared-slice-read-then Inv-loop μ-loop
+shared-slice-read-then c = omega arith
 
-digit-of-requires : tie.Need-digit-of-requires Inv-loop μ-loop
-digit-of-requires c κs = search needs
-
-then-digit-requires : tie.Need-then-digit-requires Inv-loop μ-loop
-then-digit-requires c κs = search needs
+then-requires : tie.Need-then-requires Inv-loop μ-loop
+then-requires c κs = search needs
 
 add-i : tie.Need-add-i Inv-loop μ-loop
 add-i c = omega arith
@@ -36,15 +34,16 @@ loop-less c = omega arith
 
 loop-again : tie.Need-loop-again Inv-loop μ-loop
 loop-again c =
-    let l = c .before .before .before .before .loop in
-    let s = c .before .before .before .before .before .before .args .s .now in
-    (omega arith, c .then-digit .ensures ∙ rw (l .inv .1, c .before .digit-of .ensures, spells-more s (l .i)))
+    let l = c .before .before .before .loop in
+    let word = c .before .before .before .before .before .args .word .now in
+    (omega arith, c .then .ensures ∙ rw (l .inv .1, spelled-more word (l .i) (omega arith)))
 
 returns : tie.Need-returns Inv-loop μ-loop
 returns c =
     let l = c .before .loop in
-    let n : l .i ≡ length (c .before .before .before .args .s .now) = omega arith in
-    rw n at (l .inv .1)
+    let word = c .before .before .before .args .word .now in
+    let n : l .i ≡ length word = omega arith in
+    rw (n, take-length word) at (l .inv .1)
 
 pub decimal-spec : {M : Type 1} → statement M
 decimal-spec =
@@ -53,9 +52,8 @@ decimal-spec =
     Inv-loop
     μ-loop
     loop-holds
-    shared-slice-read-digit-of
-    digit-of-requires
-    then-digit-requires
+    shared-slice-read-then
+    then-requires
     add-i
     loop-less
     loop-again

@@ -1,15 +1,15 @@
 -- Each turn passes a line.
-use Prim.Native.Nat.{_-_, _≤_}
+use Prim.Native.Nat.{_+_, _-_, _≤_}
 use lib.ListN.{length}
 use borrow.Author.Needs.{needs}
 use Rattle.write_cases.proofs.cases.Statement.{statement}
 use Rattle.write_cases.proofs.cases.Tie as tie
 
 abbrev Inv-loop : tie.InvT-loop
-Inv-loop input at₀ at = (at ≤ length input)
+Inv-loop input at₀ at = (at ≤ length input + 1)
 
 abbrev μ-loop : tie.MeasureT-loop
-μ-loop input at₀ at = length input - at
+μ-loop input at₀ at = length input + 1 - at
 
 loop-holds : tie.Need-loop-holds Inv-loop μ-loop
 loop-holds c = search needs
@@ -29,9 +29,6 @@ part-case-end c = search needs
 case-requires : tie.Need-case-requires Inv-loop μ-loop
 case-requires c κs = search needs
 
-returns : tie.Need-returns Inv-loop μ-loop
-returns c = search needs
-
 add-at : tie.Need-add-at Inv-loop μ-loop
 add-at c = search needs
 
@@ -41,8 +38,8 @@ loop-less c = search needs
 loop-again : tie.Need-loop-again Inv-loop μ-loop
 loop-again c = search needs
 
-returns-2 : tie.Need-returns-2 Inv-loop μ-loop
-returns-2 c = search needs
+returns : tie.Need-returns Inv-loop μ-loop
+returns c = search needs
 
 pub cases-spec : {M : Type 1} → statement M
 cases-spec =
@@ -56,8 +53,7 @@ cases-spec =
     part-case-start
     part-case-end
     case-requires
-    returns
     add-at
     loop-less
     loop-again
-    returns-2)
+    returns)

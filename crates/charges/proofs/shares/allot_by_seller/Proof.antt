@@ -1,22 +1,37 @@
--- `charges::shares::allot_by_seller` meets its contract: the loop and its turn are those of `Sellers`.
-use Prim.Native.Nat.{_-_}
-use mathlib.Core.Path.{refl}
+-- `charges::shares::allot_by_seller` meets its contract: the loop and its turns are those of `Sellers`.
+use Prim.Native.Nat.{_-_, _<_}
 use native.Mathlib.Omega.{arith}
-use Rattle.charges.specs.Sellers.{amountsOf, Turn, turn-first, turn-asks, turn-again, turn-last}
+use mathlib.Core.Logic.{⊎-elim}
+use Rattle.ids.specs.Ids.{at}
+use Rattle.ids.specs.Fill.{filled-all}
+use Rattle.charges.specs.Sellers.{Turn, turn-first, turn-asks, turn-skip, turn-again}
 use Rattle.charges.proofs.shares.allot_by_seller.Statement.{statement}
 use Rattle.charges.proofs.shares.allot_by_seller.Tie as tie
 
 abbrev Inv-loop : tie.InvT-loop
-Inv-loop sellers weights carried₀ shares₀ i₀ carried shares i = Turn sellers weights (amountsOf carried₀) carried shares i
+Inv-loop sellers weights amounts totals shares₀ passed₀ quotients₀ i₀ shares passed quotients i = Turn sellers weights amounts totals passed quotients shares i
 
 abbrev μ-loop : tie.MeasureT-loop
-μ-loop sellers weights carried₀ shares₀ i₀ carried shares i = 64 - i
+μ-loop sellers weights amounts totals shares₀ passed₀ quotients₀ i₀ shares passed quotients i = 64 - i
 
-begin-requires : tie.Need-begin-requires Inv-loop μ-loop
-begin-requires c κs = tt
+-- the seller of the turn's registration
+seller : (l : tie.At-loop Inv-loop μ-loop) → at (l .before .args .sellers .now) (l .loop .i) < 16
+seller l = l .before .pre .0 (l .loop .i)
 
 loop-holds : tie.Need-loop-holds Inv-loop μ-loop
-loop-holds c = turn-first (c .before .before .before .pre .1 .1 .1) (c .begin .ensures) refl
+loop-holds c = turn-first (c .pre .1 .1 .1 .0) (c .pre .1 .1 .1 .1)
+
+mul-weight : tie.Need-mul-weight Inv-loop μ-loop
+mul-weight c = omega arith
+
+element-copy-out-weight : tie.Need-element-copy-out-weight Inv-loop μ-loop
+element-copy-out-weight c = omega arith
+
+mul-shares : tie.Need-mul-shares Inv-loop μ-loop
+mul-shares c = omega arith
+
+element-write-shares : tie.Need-element-write-shares Inv-loop μ-loop
+element-write-shares c = omega arith
 
 mul-s : tie.Need-mul-s Inv-loop μ-loop
 mul-s c = omega arith
@@ -24,44 +39,53 @@ mul-s c = omega arith
 element-copy-out-s : tie.Need-element-copy-out-s Inv-loop μ-loop
 element-copy-out-s c = omega arith
 
-mul-a : tie.Need-mul-a Inv-loop μ-loop
-mul-a c =
-    let l = c .before .before in
-    omega (arith, l .before .before .before .before .pre .0 (l .loop .i))
+mul-t22 : tie.Need-mul-t22 Inv-loop μ-loop
+mul-t22 c = omega (arith, seller (c .before .before .before .before))
 
-array-copy-out-a : tie.Need-array-copy-out-a Inv-loop μ-loop
-array-copy-out-a c =
-    let l = c .before .before in
-    omega (arith, l .before .before .before .before .pre .0 (l .loop .i))
+element-copy-out-t25 : tie.Need-element-copy-out-t25 Inv-loop μ-loop
+element-copy-out-t25 c = omega (arith, seller (c .before .before .before .before))
 
-mul-share : tie.Need-mul-share Inv-loop μ-loop
-mul-share c = omega arith
+mul-t28 : tie.Need-mul-t28 Inv-loop μ-loop
+mul-t28 c = omega (arith, seller (c .before .before .before .before .before))
 
-element-copy-out-share : tie.Need-element-copy-out-share Inv-loop μ-loop
-element-copy-out-share c = omega arith
+element-copy-out-t31 : tie.Need-element-copy-out-t31 Inv-loop μ-loop
+element-copy-out-t31 c = omega (arith, seller (c .before .before .before .before .before))
+
+mul-t32 : tie.Need-mul-t32 Inv-loop μ-loop
+mul-t32 c = omega (arith, seller (c .before .before .before .before .before .before))
+
+array-read-t35 : tie.Need-array-read-t35 Inv-loop μ-loop
+array-read-t35 c = omega (arith, seller (c .before .before .before .before .before .before))
+
+mul-t36 : tie.Need-mul-t36 Inv-loop μ-loop
+mul-t36 c = omega (arith, seller (c .before .before .before .before .before .before))
+
+array-read-t39 : tie.Need-array-read-t39 Inv-loop μ-loop
+array-read-t39 c = omega (arith, seller (c .before .before .before .before .before .before))
 
 share-requires : tie.Need-share-requires Inv-loop μ-loop
 share-requires c κs =
-    let l = c .before .before .before .before in
-    let p = l .before .before .before .before .pre in
-    let own = l .before .begin .ensures .each _ (p .0 (l .loop .i)) in
-    turn-asks (l .loop .inv) (p .0) (omega arith) (rw (own .amount) (p .1 .0 _)) (p .1 .1 .0)
-
-mul-shares : tie.Need-mul-shares Inv-loop μ-loop
-mul-shares c = omega arith
-
-array-write-shares : tie.Need-array-write-shares Inv-loop μ-loop
-array-write-shares c = omega arith
-
-mul-carried : tie.Need-mul-carried Inv-loop μ-loop
-mul-carried c =
     let l = c .before .before .before .before .before .before in
-    omega (arith, l .before .before .before .before .pre .0 (l .loop .i))
+    let p = l .before .pre in
+    turn-asks (l .loop .inv) (p .0) (c .before .before .before .before .before .loop-test .taken) (p .1 .0) (p .1 .1 .0)
 
-array-set-from-carried : tie.Need-array-set-from-carried Inv-loop μ-loop
-array-set-from-carried c =
-    let l = c .before .before .before .before .before .before in
-    omega (arith, l .before .before .before .before .pre .0 (l .loop .i))
+mul-shares-2 : tie.Need-mul-shares-2 Inv-loop μ-loop
+mul-shares-2 c = omega arith
+
+element-write-shares-2 : tie.Need-element-write-shares-2 Inv-loop μ-loop
+element-write-shares-2 c = omega arith
+
+mul-passed : tie.Need-mul-passed Inv-loop μ-loop
+mul-passed c = omega (arith, seller (c .before .before .before .before .before .before .before .before))
+
+array-write-passed : tie.Need-array-write-passed Inv-loop μ-loop
+array-write-passed c = omega (arith, seller (c .before .before .before .before .before .before .before .before))
+
+mul-quotients : tie.Need-mul-quotients Inv-loop μ-loop
+mul-quotients c = omega (arith, seller (c .before .before .before .before .before .before .before .before))
+
+array-write-quotients : tie.Need-array-write-quotients Inv-loop μ-loop
+array-write-quotients c = omega (arith, seller (c .before .before .before .before .before .before .before .before))
 
 add-i : tie.Need-add-i Inv-loop μ-loop
 add-i c = omega arith
@@ -71,13 +95,14 @@ loop-less c = omega arith
 
 loop-again : tie.Need-loop-again Inv-loop μ-loop
 loop-again c =
-    let l = c .before .before .before .before .before .before in
-    turn-again (l .loop .inv) (l .before .before .before .before .pre .0) (omega arith) (c .before .share .ensures)
+    let l = c .before .before .before in
+    let h = l .loop .inv in
+    let s = l .before .pre .0 in
+    let m = c .before .before .loop-test .taken in
+    ⊎-elim (λ w. rw (w .1, w .2, w .3) (turn-skip h s m (w .0 .taken))) (λ w. rw (w .6, w .7, w .8) (turn-again h s m (w .4 .ensures))) (c .if1 .came)
 
 returns : tie.Need-returns Inv-loop μ-loop
-returns c =
-    let l = c .before in
-    turn-last (l .loop .inv) (l .before .before .before .before .pre .0) _ (λ k m. l .before .begin .ensures .each k m .amount) (c .loop-test .left)
+returns c = filled-all (c .before .loop .inv .filled) (c .loop-test .left)
 
 pub allot-by-seller-spec : {M : Type 1} → statement M
 allot-by-seller-spec =
@@ -85,19 +110,28 @@ allot-by-seller-spec =
     (tie.spec
     Inv-loop
     μ-loop
-    begin-requires
     loop-holds
+    mul-weight
+    element-copy-out-weight
+    mul-shares
+    element-write-shares
     mul-s
     element-copy-out-s
-    mul-a
-    array-copy-out-a
-    mul-share
-    element-copy-out-share
+    mul-t22
+    element-copy-out-t25
+    mul-t28
+    element-copy-out-t31
+    mul-t32
+    array-read-t35
+    mul-t36
+    array-read-t39
     share-requires
-    mul-shares
-    array-write-shares
-    mul-carried
-    array-set-from-carried
+    mul-shares-2
+    element-write-shares-2
+    mul-passed
+    array-write-passed
+    mul-quotients
+    array-write-quotients
     add-i
     loop-less
     loop-again

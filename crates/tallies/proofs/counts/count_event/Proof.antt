@@ -8,19 +8,19 @@ use Rattle.tallies.proofs.counts.count_event.Statement.{statement}
 use Rattle.tallies.proofs.counts.count_event.Tie as tie
 
 abbrev Inv-loop : tie.InvT-loop
-Inv-loop c₀ listing on-peak i₀ c i = Counted c₀ listing on-peak c i
+Inv-loop called₀ counts₀ listing on-peak i₀ called counts i = Counted called₀ counts₀ listing on-peak called counts i
 
 abbrev μ-loop : tie.MeasureT-loop
-μ-loop c₀ listing on-peak i₀ c i = 64 - i
+μ-loop called₀ counts₀ listing on-peak i₀ called counts i = 64 - i
 
 loop-holds : tie.Need-loop-holds Inv-loop μ-loop
-loop-holds c = counted-none (c .before .before .pre)
+loop-holds c = let p = c .before .before .pre in counted-none (p .0) (p .1 .0)
 
 element-copy-out-if1 : tie.Need-element-copy-out-if1 Inv-loop μ-loop
 element-copy-out-if1 c = omega arith
 
-element-write-c : tie.Need-element-write-c Inv-loop μ-loop
-element-write-c c = omega arith
+element-write-called : tie.Need-element-write-called Inv-loop μ-loop
+element-write-called c = omega arith
 
 mul-n : tie.Need-mul-n Inv-loop μ-loop
 mul-n c = omega arith
@@ -28,16 +28,16 @@ mul-n c = omega arith
 element-copy-out-n : tie.Need-element-copy-out-n Inv-loop μ-loop
 element-copy-out-n c = omega arith
 
-add-c : tie.Need-add-c Inv-loop μ-loop
-add-c c =
+add-counts : tie.Need-add-counts Inv-loop μ-loop
+add-counts c =
     let l = c .before .before .before .before .before in
-    omega (arith, updated-next (l .loop .inv .counts), c .before .before .before .before .before .before .before .before .pre .fits (l .loop .i) (omega arith))
+    omega (arith, updated-next (l .loop .inv .counts), l .before .before .before .pre .1 .1 (l .loop .i) (omega arith))
 
-mul-c : tie.Need-mul-c Inv-loop μ-loop
-mul-c c = omega arith
+mul-counts : tie.Need-mul-counts Inv-loop μ-loop
+mul-counts c = omega arith
 
-element-write-c-2 : tie.Need-element-write-c-2 Inv-loop μ-loop
-element-write-c-2 c = omega arith
+element-write-counts : tie.Need-element-write-counts Inv-loop μ-loop
+element-write-counts c = omega arith
 
 add-i : tie.Need-add-i Inv-loop μ-loop
 add-i c = omega arith
@@ -49,8 +49,8 @@ loop-again : tie.Need-loop-again Inv-loop μ-loop
 loop-again c =
     let h = c .before .before .before .loop .inv in
     let l = c .before .before .loop-test .taken in
-    ⊎-elim (λ w. rw (w .3) (counted-on-peak h l (w .0 .taken) (w .1 .taken)))
-    (⊎-elim (λ w. rw (w .2) (counted-off-peak h l (w .0 .taken) (w .1 .left))) (λ w. rw (w .1) (counted-unlisted h l (w .0 .left))))
+    ⊎-elim (λ w. rw (w .3, w .4) (counted-on-peak h l (w .0 .taken) (w .1 .taken)))
+    (⊎-elim (λ w. rw (w .2, w .3) (counted-off-peak h l (w .0 .taken) (w .1 .left))) (λ w. rw (w .1, w .2) (counted-unlisted h l (w .0 .left))))
     (c .if1 .came)
 
 returns : tie.Need-returns Inv-loop μ-loop
@@ -64,12 +64,12 @@ count-event-spec =
     μ-loop
     loop-holds
     element-copy-out-if1
-    element-write-c
+    element-write-called
     mul-n
     element-copy-out-n
-    add-c
-    mul-c
-    element-write-c-2
+    add-counts
+    mul-counts
+    element-write-counts
     add-i
     loop-less
     loop-again

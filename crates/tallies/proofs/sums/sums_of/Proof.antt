@@ -1,5 +1,5 @@
 -- `tallies::sums::sums_of` meets its contract: the loop and its turns are those of `Summing`. Assumes nothing.
-use Prim.Native.Nat.{ℕ, _*_, _≤_, _-_}
+use Prim.Native.Nat.{ℕ, _≤_, _-_}
 use mathlib.Core.List.{List}
 use mathlib.Core.Path.{_≡_}
 use native.Mathlib.Omega.{arith}
@@ -11,16 +11,14 @@ use Rattle.tallies.specs.Summing.{Summing, summing-none, summing-skip, s
 use Rattle.tallies.proofs.sums.sums_of.Statement.{statement}
 use Rattle.tallies.proofs.sums.sums_of.Tie as tie
 
-abbrev sumsOf : List ℕ → List ℕ → List ℕ → List ℕ → List ℕ → Sums
-sumsOf committed reduction short over value =
-    record { committed = committed; reduction = reduction; short = short; over = over; value = value }
+abbrev sumsOf : List ℕ → List ℕ → List ℕ → Sums
+sumsOf committed reduction value = record { committed = committed; reduction = reduction; value = value }
 
 abbrev Inv-loop : tie.InvT-loop
-Inv-loop sellers committed rates picked reductions all-committed₀ all-reduced₀ short₀ over₀ value₀ i₀ all-committed all-reduced short over value i =
-    (i ≤ 64) × Summing sellers (holds picked) (at committed) (at rates) (at reductions) (sumsOf all-committed all-reduced short over value) i
+Inv-loop sellers committed rates picked reductions all-committed₀ all-reduced₀ value₀ i₀ all-committed all-reduced value i = (i ≤ 64) × Summing sellers (holds picked) (at committed) (at rates) (at reductions) (sumsOf all-committed all-reduced value) i
 
 abbrev μ-loop : tie.MeasureT-loop
-μ-loop sellers committed rates picked reductions all-committed₀ all-reduced₀ short₀ over₀ value₀ i₀ all-committed all-reduced short over value i = 64 - i
+μ-loop sellers committed rates picked reductions all-committed₀ all-reduced₀ value₀ i₀ all-committed all-reduced value i = 64 - i
 
 loop-holds : tie.Need-loop-holds Inv-loop μ-loop
 loop-holds c = (omega arith, summing-none)
@@ -69,35 +67,15 @@ add-at-requires-2 c κs =
     let i = l .loop .i in
     (pre .0 i, omega (arith, summing-room (l .loop .inv .1) (omega arith) (pre .1 .0) (pre .1 .1 .0) (pre .1 .1 .1) _ (pre .0 i) .reduction, pre .1 .1 .1 i, c .before .before .before .before .wide .ensures))
 
-less-requires : tie.Need-less-requires Inv-loop μ-loop
-less-requires c κs = tt
-
-add-at-requires-3 : tie.Need-add-at-requires-3 Inv-loop μ-loop
-add-at-requires-3 c κs =
-    let l = c .before .before .before .before .before .before .before .before .before .before .before .before .before .before in
-    let pre = l .before .pre in
-    let i = l .loop .i in
-    (pre .0 i, omega (arith, summing-room (l .loop .inv .1) (omega arith) (pre .1 .0) (pre .1 .1 .0) (pre .1 .1 .1) _ (pre .0 i) .short, pre .1 .0 i, c .less .ensures))
-
-less-requires-2 : tie.Need-less-requires-2 Inv-loop μ-loop
-less-requires-2 c κs = tt
-
-add-at-requires-4 : tie.Need-add-at-requires-4 Inv-loop μ-loop
-add-at-requires-4 c κs =
-    let l = c .before .before .before .before .before .before .before .before .before .before .before .before .before .before .before .before .before in
-    let pre = l .before .pre in
-    let i = l .loop .i in
-    (pre .0 i, omega (arith, summing-room (l .loop .inv .1) (omega arith) (pre .1 .0) (pre .1 .1 .0) (pre .1 .1 .1) _ (pre .0 i) .over, pre .1 .1 .1 i, c .before .before .before .before .before .before .before .before .before .before .wide .ensures, c .less2 .ensures))
-
 mul-add-at : tie.Need-mul-add-at Inv-loop μ-loop
 mul-add-at c =
-    let l = c .before .before .before .before .before .before .before .before .before .before .before .before .before .before .before .before .before .before .before in
+    let l = c .before .before .before .before .before .before .before .before .before .before .before .before .before in
     let pre = l .before .pre in
     omega (arith, mul-le-mul (pre .1 .0 (l .loop .i)) (pre .1 .1 .0 (l .loop .i)))
 
-add-at-requires-5 : tie.Need-add-at-requires-5 Inv-loop μ-loop
-add-at-requires-5 c κs =
-    let l = c .before .before .before .before .before .before .before .before .before .before .before .before .before .before .before .before .before .before .before in
+add-at-requires-3 : tie.Need-add-at-requires-3 Inv-loop μ-loop
+add-at-requires-3 c κs =
+    let l = c .before .before .before .before .before .before .before .before .before .before .before .before .before in
     let pre = l .before .pre in
     let i = l .loop .i in
     (pre .0 i, omega (arith, summing-room (l .loop .inv .1) (omega arith) (pre .1 .0) (pre .1 .1 .0) (pre .1 .1 .1) _ (pre .0 i) .value, mul-le-mul (pre .1 .0 i) (pre .1 .1 .0 i)))
@@ -113,8 +91,8 @@ loop-again c =
     let h = c .before .before .before .loop .inv .1 in (
       omega arith,
       ⊎-elim (λ w.
-          rw (w .18, w .19, w .20, w .21, w .22) (summing-add h (w .0 .taken) (c .before .before .before .before .pre .0 (c .before .before .before .loop .i))
-          (record { committed = w .7 .ensures; reduction = rw (w .4 .ensures) at (w .9 .ensures); short = rw (w .11 .ensures, w .4 .ensures) at (w .12 .ensures); over = rw (w .14 .ensures, w .4 .ensures) at (w .15 .ensures); value = w .17 .ensures }))) (λ w. rw (w .1, w .2, w .3, w .4, w .5) (summing-skip h (w .0 .left))) (c .if1 .came),
+          rw (w .12, w .13, w .14) (summing-add h (w .0 .taken) (c .before .before .before .before .pre .0 (c .before .before .before .loop .i))
+          (record { committed = w .7 .ensures; reduction = rw (w .4 .ensures) at (w .9 .ensures); value = w .11 .ensures }))) (λ w. rw (w .1, w .2, w .3) (summing-skip h (w .0 .left))) (c .if1 .came),
     )
 
 returns : tie.Need-returns Inv-loop μ-loop
@@ -141,12 +119,8 @@ sums-of-spec =
     element-copy-out-q
     add-at-requires
     add-at-requires-2
-    less-requires
-    add-at-requires-3
-    less-requires-2
-    add-at-requires-4
     mul-add-at
-    add-at-requires-5
+    add-at-requires-3
     add-i
     loop-less
     loop-again

@@ -1,0 +1,67 @@
+-- What shifts and masks of a word do to fields.
+use mathlib.Core.Path.{_≡_, sym, _∙_}
+use mathlib.Core.List.{List}
+use Prim.Native.Nat.{ℕ, _+_, _-_, _*_, _/_, _%_, _^_, _≤_, _<_}
+use native.Mathlib.Nat.{one-mul}
+use native.Mathlib.Omega.{arith}
+use lib.ListN.{getD}
+use lib.Pow.{shl-exact}
+use lib.Bits.{bitAnd, bitOr, and-mask, or-shifted}
+use Rattle.bits.specs.Bits.{number, fieldAt}
+use Rattle.bits.specs.BitLaws.{field-lt, field-split, field-mid, byte-field}
+
+-- a one shifted left
+pub one-shl : (w : ℕ) → w < 64 → (1 * 2 ^ w) % 2 ^ 64 ≡ 2 ^ w
+one-shl w h = shl-exact {a = 1} 1 w 64 (omega arith) (omega arith) ∙ one-mul (2 ^ w)
+
+-- a mask of w ones takes the remainder by 2 ^ w
+pub masked : (n w : ℕ) → w < 64 → bitAnd n ((1 * 2 ^ w) % 2 ^ 64 - 1) ≡ n % 2 ^ w
+masked n w h = rw (one-shl w h) (and-mask n w)
+
+-- a number of a bits, and one of b bits behind it
+pub behind : (u v a b : ℕ) → a + b ≤ 64 → u < 2 ^ a → v < 2 ^ b → bitOr ((u * 2 ^ b) % 2 ^ 64) v ≡ u * 2 ^ b + v
+behind u v a b l hu hv = rw (shl-exact {a = u} a b 64 hu l) (or-shifted u b v hv)
+
+-- two fields in a row are one
+pub in-a-row : (xs : List ℕ) (p a b u v : ℕ) → a + b ≤ 64 → u ≡ fieldAt xs p a → v ≡ fieldAt xs (p + a) b → bitOr ((u * 2 ^ b) % 2 ^ 64) v ≡ fieldAt xs p (a + b)
+in-a-row xs p a b u v l e f =
+    rw (e, f, field-split xs p a b) (behind (fieldAt xs p a) (fieldAt xs (p + a) b) a b l (field-lt xs p a) (field-lt xs (p + a) b))
+
+-- one more byte
+byte-more : (xs : List ℕ) (i n : ℕ) → getD xs (i + n) 0 < 2 ^ 8 → fieldAt xs (8 * i) (8 * n + 8) ≡ fieldAt xs (8 * i) (8 * n) * 2 ^ 8 + getD xs (i + n) 0
+byte-more xs i n b =
+    let at : 8 * i + 8 * n ≡ 8 * (i + n) = omega arith in
+    rw (field-split xs (8 * i) (8 * n) 8, at, byte-field xs (i + n) b)
+
+pub gather : (xs : List ℕ) (f i acc : ℕ) → f ≤ i → i - f ≤ 7 → getD xs i 0 < 2 ^ 8 → acc ≡ fieldAt xs (8 * f) (8 * (i - f))
+    → bitOr ((acc * 2 ^ 8) % 2 ^ 64) (getD xs i 0) ≡ fieldAt xs (8 * f) (8 * (i + 1 - f))
+gather xs f i acc l m b e =
+    let n : 8 * (i + 1 - f) ≡ 8 * (i - f) + 8 = omega arith in
+    let at : 8 * f + 8 * (i - f) ≡ 8 * i = omega arith in
+    rw n (in-a-row xs (8 * f) (8 * (i - f)) 8 acc (getD xs i 0) (omega arith) e (rw at (sym (byte-field xs i b))))
+
+-- four bytes
+module _ (a b c d : ℕ) (ha : a < 2 ^ 8) (hb : b < 2 ^ 8) (hc : c < 2 ^ 8) (hd : d < 2 ^ 8) where
+  pub quad : bitOr (bitOr (bitOr ((a * 2 ^ 24) % 2 ^ 64) ((b * 2 ^ 16) % 2 ^ 64)) ((c * 2 ^ 8) % 2 ^ 64)) d ≡ ((a * 2 ^ 8 + b) * 2 ^ 8 + c) * 2 ^ 8 + d
+  quad =
+      let two : bitOr (a * 2 ^ 24) (b * 2 ^ 16) ≡ (a * 2 ^ 8 + b) * 2 ^ 16 = or-shifted a 24 (b * 2 ^ 16) (omega arith) ∙ omega arith in
+      let three : bitOr ((a * 2 ^ 8 + b) * 2 ^ 16) (c * 2 ^ 8) ≡ ((a * 2 ^ 8 + b) * 2 ^ 8 + c) * 2 ^ 8 = or-shifted (a * 2 ^ 8 + b) 16 (c * 2 ^ 8) (omega arith) ∙ omega arith in
+      rw (
+        shl-exact {a = a} 8 24 64 ha (omega arith),
+        shl-exact {a = b} 8 16 64 hb (omega arith),
+        shl-exact {a = c} 8 8 64 hc (omega arith),
+        two,
+        three,
+      )
+      (or-shifted ((a * 2 ^ 8 + b) * 2 ^ 8 + c) 8 d hd)
+
+pub quad-field : (xs : List ℕ) (i : ℕ) → ((k : ℕ) → getD xs k 0 < 2 ^ 8)
+    → fieldAt xs (8 * i) 32 ≡ ((getD xs i 0 * 2 ^ 8 + getD xs (i + 1) 0) * 2 ^ 8 + getD xs (i + 2) 0) * 2 ^ 8 + getD xs (i + 3) 0
+quad-field xs i b =
+    rw (byte-more xs i 3 (b (i + 3)), byte-more xs i 2 (b (i + 2)), byte-more xs i 1 (b (i + 1)), byte-field xs i (b i))
+
+-- the w bits from p on, out of a word that has d bits behind them
+pub middle : (xs : List ℕ) (p w n d word : ℕ) → p % 8 + w + d ≡ n → word ≡ fieldAt xs (8 * (p / 8)) n → word / 2 ^ d % 2 ^ w ≡ fieldAt xs p w
+middle xs p w n d word e f =
+    let at : 8 * (p / 8) + p % 8 ≡ p = omega arith in
+    rw (f, ← e, field-mid xs (8 * (p / 8)) (p % 8) w d, at)

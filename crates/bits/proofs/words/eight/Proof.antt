@@ -1,0 +1,26 @@
+-- Two fields of four bytes in a row.
+use mathlib.Core.Path.{_≡_, _∙_}
+use Prim.Native.Nat.{_+_, _*_}
+use borrow.Author.Needs.{needs}
+use native.Mathlib.Omega.{arith}
+use Rattle.bits.proofs.Shifts.{in-a-row}
+use Rattle.bits.proofs.words.eight.Statement.{statement}
+use Rattle.bits.proofs.words.eight.Tie as tie
+
+four-requires : tie.Need-four-requires
+four-requires c κs = search needs
+
+add-four : tie.Need-add-four
+add-four c = search needs
+
+four-requires-2 : tie.Need-four-requires-2
+four-requires-2 c κs = search needs
+
+returns : tie.Need-returns
+returns c =
+    let a = c .before .before .before .args in
+    let at : 8 * (a .i + 4) ≡ 8 * a .i + 32 = omega arith in
+    in-a-row (a .bytes .now) (8 * a .i) 32 32 _ _ (omega arith) (c .before .four .ensures) (c .four2 .ensures ∙ rw at)
+
+pub eight-spec : {M : Type 1} → statement M
+eight-spec = tie.close (tie.spec four-requires add-four four-requires-2 returns)

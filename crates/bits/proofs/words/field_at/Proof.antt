@@ -1,0 +1,67 @@
+-- The bits of the field lie in the middle of the word.
+use mathlib.Core.Path.{_≡_, _∙_}
+use Prim.Native.Nat.{_%_}
+use borrow.Author.Needs.{needs}
+use native.Mathlib.Omega.{arith}
+use lib.Bits.{bitAnd, and-mask}
+use Rattle.bits.proofs.Shifts.{middle}
+use Rattle.bits.proofs.words.field_at.Statement.{statement}
+use Rattle.bits.proofs.words.field_at.Tie as tie
+
+add-if1 : tie.Need-add-if1
+add-if1 c = search needs
+
+eight-requires : tie.Need-eight-requires
+eight-requires c κs = search needs
+
+sub-cut : tie.Need-sub-cut
+sub-cut c = omega (arith, and-mask (c .before .before .before .args .at) 3)
+
+sub-cut-2 : tie.Need-sub-cut-2
+sub-cut-2 c = omega (arith, and-mask (c .before .before .before .args .at) 3)
+
+cut-requires : tie.Need-cut-requires
+cut-requires c κs = omega (arith, and-mask (c .before .before .before .args .at) 3)
+
+returns : tie.Need-returns
+returns c =
+    let a = c .before .before .before .before .args in
+    let m : bitAnd (a .at) 7 ≡ a .at % 8 = and-mask (a .at) 3 in
+    c .cut .ensures ∙ middle (a .bytes .now) (a .at) (a .width) 64 _ _ (omega arith) (c .before .eight .ensures)
+
+add-end : tie.Need-add-end
+add-end c = search needs
+
+add-last : tie.Need-add-last
+add-last c = search needs
+
+gathered-requires : tie.Need-gathered-requires
+gathered-requires c κs = search needs
+
+sub-cut-3 : tie.Need-sub-cut-3
+sub-cut-3 c = search needs
+
+cut-requires-2 : tie.Need-cut-requires-2
+cut-requires-2 c κs = search needs
+
+returns-2 : tie.Need-returns-2
+returns-2 c =
+    let a = c .before .before .before .before .args in
+    c .cut2 .ensures ∙ middle (a .bytes .now) (a .at) (a .width) _ _ _ (omega arith) (c .before .gathered .ensures)
+
+pub field-at-spec : {M : Type 1} → statement M
+field-at-spec =
+    tie.close
+    (tie.spec
+    add-if1
+    eight-requires
+    sub-cut
+    sub-cut-2
+    cut-requires
+    returns
+    add-end
+    add-last
+    gathered-requires
+    sub-cut-3
+    cut-requires-2
+    returns-2)

@@ -1,0 +1,147 @@
+-- Every field passed is permitted; the first that is not settles the question.
+use mathlib.Core.Bool.{true}
+use mathlib.Core.Path.{_≡_, refl, sym}
+use Prim.Native.Nat.{_-_, _≤_, _<_}
+use borrow.Author.Needs.{needs}
+use native.Mathlib.Omega.{arith}
+use lib.ListN.{length, getD}
+use Rattle.ids.specs.Ids.{at, allTo}
+use Rattle.records.specs.Layout.{noRule, head}
+use Rattle.records.specs.Questions.{permits, permitted}
+use Rattle.records.specs.QuestionLaws.{not-all, permits-yes, permits-below, permits-above}
+use Rattle.records.proofs.Tables.{head-ends, limit-is}
+use Rattle.records.proofs.Turns.{test-turn}
+use Rattle.records.proofs.checks.head_permitted.Statement.{statement}
+use Rattle.records.proofs.checks.head_permitted.Tie as tie
+
+abbrev Inv-loop : tie.InvT-loop
+Inv-loop kind values start n lows highs j₀ j = (j ≤ n) × (allTo j (λ i. permits (getD (head kind) i noRule) (at values i)) ≡ true)
+
+abbrev μ-loop : tie.MeasureT-loop
+μ-loop kind values start n lows highs j₀ j = n - j
+
+start-at-requires : tie.Need-start-at-requires Inv-loop μ-loop
+start-at-requires c κs = search needs
+
+count-at-requires : tie.Need-count-at-requires Inv-loop μ-loop
+count-at-requires c κs = search needs
+
+lows-of-heads-requires : tie.Need-lows-of-heads-requires Inv-loop μ-loop
+lows-of-heads-requires c κs = search needs
+
+highs-of-heads-requires : tie.Need-highs-of-heads-requires Inv-loop μ-loop
+highs-of-heads-requires c κs = search needs
+
+loop-holds : tie.Need-loop-holds Inv-loop μ-loop
+unfolding allTo
+loop-holds c = (omega arith, refl)
+
+add-i : tie.Need-add-i Inv-loop μ-loop
+add-i c =
+    let s = c .before .before .before .before .before .before .before in
+    omega (arith, head-ends (s .args .kind) (s .pre .0), c .before .before .before .before .before .start-at .ensures, c .before .before .before .before .count-at .ensures)
+
+mul-v : tie.Need-mul-v Inv-loop μ-loop
+mul-v c = omega arith
+
+shared-slice-read-v : tie.Need-shared-slice-read-v Inv-loop μ-loop
+shared-slice-read-v c = omega (arith, c .before .before .before .before .before .count-at .ensures)
+
+mul-wide : tie.Need-mul-wide Inv-loop μ-loop
+mul-wide c =
+    let s = c .before .before .before .before .before .before .before .before in
+    omega (arith, head-ends (s .args .kind) (s .pre .0), c .before .before .before .before .before .before .start-at .ensures, c .before .before .before .before .before .count-at .ensures)
+
+array-read-wide : tie.Need-array-read-wide Inv-loop μ-loop
+array-read-wide c =
+    let s = c .before .before .before .before .before .before .before .before in
+    omega (arith, head-ends (s .args .kind) (s .pre .0), c .before .before .before .before .before .before .start-at .ensures, c .before .before .before .before .before .count-at .ensures)
+
+wide-requires : tie.Need-wide-requires Inv-loop μ-loop
+wide-requires c κs = search needs
+
+returns : tie.Need-returns Inv-loop μ-loop
+unfolding permitted
+returns c =
+    let s = c .before .before .before .before .before .before .before .before .before .before in
+    let k = s .args .kind in
+    let vs = s .args .values .now in
+    let j = c .before .before .before .before .loop .j in
+    let h : j < length (head k) = omega (arith, c .before .before .before .before .before .before .before .count-at .ensures) in
+    let low = limit-is (λ r. r .low) refl k j (c .before .before .before .before .before .before .before .before .start-at .result) _ (c .before .before .before .before .before .before .lows-of-heads .result) (s .pre .0) h (c .before .before .before .before .before .before .before .before .start-at .ensures) (c .before .before .before .before .before .before .lows-of-heads .ensures) (c .before .wide .ensures) in
+    sym (not-all (length (head k)) (λ i. permits (getD (head k) i noRule) (at vs i)) j h (permits-below (getD (head k) j noRule) (at vs j) (omega arith)))
+
+mul-wide-2 : tie.Need-mul-wide-2 Inv-loop μ-loop
+mul-wide-2 c =
+    let s = c .before .before .before .before .before .before .before .before .before .before in
+    omega (arith, head-ends (s .args .kind) (s .pre .0), c .before .before .before .before .before .before .before .before .start-at .ensures, c .before .before .before .before .before .before .before .count-at .ensures)
+
+array-read-wide-2 : tie.Need-array-read-wide-2 Inv-loop μ-loop
+array-read-wide-2 c =
+    let s = c .before .before .before .before .before .before .before .before .before .before in
+    omega (arith, head-ends (s .args .kind) (s .pre .0), c .before .before .before .before .before .before .before .before .start-at .ensures, c .before .before .before .before .before .before .before .count-at .ensures)
+
+wide-requires-2 : tie.Need-wide-requires-2 Inv-loop μ-loop
+wide-requires-2 c κs = search needs
+
+returns-2 : tie.Need-returns-2 Inv-loop μ-loop
+unfolding permitted
+returns-2 c =
+    let s = c .before .before .before .before .before .before .before .before .before .before .before .before in
+    let k = s .args .kind in
+    let vs = s .args .values .now in
+    let j = c .before .before .before .before .before .before .loop .j in
+    let h : j < length (head k) = omega (arith, c .before .before .before .before .before .before .before .before .before .count-at .ensures) in
+    let high = limit-is (λ r. r .high) refl k j (c .before .before .before .before .before .before .before .before .before .before .start-at .result) _ (c .before .before .before .before .before .before .before .highs-of-heads .result) (s .pre .0) h (c .before .before .before .before .before .before .before .before .before .before .start-at .ensures) (c .before .before .before .before .before .before .before .highs-of-heads .ensures) (c .before .wide2 .ensures) in
+    sym (not-all (length (head k)) (λ i. permits (getD (head k) i noRule) (at vs i)) j h (permits-above (getD (head k) j noRule) (at vs j) (omega arith)))
+
+add-j : tie.Need-add-j Inv-loop μ-loop
+add-j c = omega arith
+
+loop-less : tie.Need-loop-less Inv-loop μ-loop
+loop-less c = omega arith
+
+loop-again : tie.Need-loop-again Inv-loop μ-loop
+loop-again c =
+    let s = c .before .before .before .before .before .before .before .before .before .before .before .before in
+    let k = s .args .kind in
+    let vs = s .args .values .now in
+    let l = c .before .before .before .before .before .before .loop in
+    let h : l .j < length (head k) = omega (arith, c .before .before .before .before .before .before .before .before .before .count-at .ensures) in
+    let low = limit-is (λ r. r .low) refl k (l .j) (c .before .before .before .before .before .before .before .before .before .before .start-at .result) _ (c .before .before .before .before .before .before .before .before .lows-of-heads .result) (s .pre .0) h (c .before .before .before .before .before .before .before .before .before .before .start-at .ensures) (c .before .before .before .before .before .before .before .before .lows-of-heads .ensures) (c .before .before .before .wide .ensures) in
+    let high = limit-is (λ r. r .high) refl k (l .j) (c .before .before .before .before .before .before .before .before .before .before .start-at .result) _ (c .before .before .before .before .before .before .before .highs-of-heads .result) (s .pre .0) h (c .before .before .before .before .before .before .before .before .before .before .start-at .ensures) (c .before .before .before .before .before .before .before .highs-of-heads .ensures) (c .before .wide2 .ensures) in
+    (omega arith, test-turn (λ i. permits (getD (head k) i noRule) (at vs i)) (l .j) (l .inv .1) (permits-yes (getD (head k) (l .j) noRule) (at vs (l .j)) (omega arith) (omega arith)))
+
+returns-3 : tie.Need-returns-3 Inv-loop μ-loop
+unfolding permitted
+returns-3 c =
+    let l = c .before .loop in
+    let n : l .j ≡ length (head (c .before .before .before .before .before .before .before .args .kind)) = omega (arith, c .before .before .before .before .count-at .ensures) in
+    sym (rw n at (l .inv .1))
+
+pub head-permitted-spec : {M : Type 1} → statement M
+head-permitted-spec =
+    tie.close
+    (tie.spec
+    Inv-loop
+    μ-loop
+    start-at-requires
+    count-at-requires
+    lows-of-heads-requires
+    highs-of-heads-requires
+    loop-holds
+    add-i
+    mul-v
+    shared-slice-read-v
+    mul-wide
+    array-read-wide
+    wide-requires
+    returns
+    mul-wide-2
+    array-read-wide-2
+    wide-requires-2
+    returns-2
+    add-j
+    loop-less
+    loop-again
+    returns-3)

@@ -1,0 +1,104 @@
+-- The head is read first, and says the shape of the whole.
+use mathlib.Core.Path.{sym, ap, _∙_}
+use borrow.Author.Needs.{needs}
+use borrow.Author.Tests.{not-true, not-false}
+use native.Mathlib.Omega.{arith}
+use Rattle.records.specs.Layout.{sizeOf}
+use Rattle.records.specs.Questions.{isKind}
+use Rattle.records.proofs.Reading.{kind-small, kind-byte, head-long, fails-1, fails-2, fails-3, refuses, Headed, headed, headed-rules, headed-sized, headed-short, headed-whole, headed-refused, headed-made}
+use Rattle.records.proofs.parse_into.Statement.{statement}
+use Rattle.records.proofs.parse_into.Tie as tie
+
+-- the shape that the head says
+headed-at : (c : tie.After-shape-of) → Headed (c .before .before .before .before .before .before .before .before .before .before .before .args .bytes .now) (c .before .before .before .before .take-head .last .1 .1 .0) (c .shape-of .result)
+headed-at c = headed _ _ _ (c .before .before .before .before .before .before .before .before .kind-of .result) (c .before .before .before .before .before .before .before .before .kind-of .ensures) (sym (c .before .before .before .before .before .before .before .is-kind .ensures) ∙ not-false _ (c .before .before .before .before .before .before .if1 .left)) (c .before .before .before .before .take-head .ensures) (c .shape-of .ensures)
+
+kind-of-requires : tie.Need-kind-of-requires
+kind-of-requires c κs = search needs
+
+is-kind-requires : tie.Need-is-kind-requires
+is-kind-requires c κs = search needs
+
+refused-requires : tie.Need-refused-requires
+refused-requires c κs = search needs
+
+returns : tie.Need-returns
+returns c =
+    let none = ap isKind (sym (c .before .before .before .kind-of .ensures)) ∙ sym (c .before .before .is-kind .ensures) ∙ not-true _ (c .before .if1 .taken) in
+    refuses (c .refused .ensures .0) (c .refused .ensures .2) (λ e. omega arith) (fails-1 _ none)
+
+take-head-requires : tie.Need-take-head-requires
+take-head-requires c κs =
+    let first = sym (c .before .before .is-kind .ensures) ∙ not-false _ (c .before .if1 .left) in
+    (kind-byte (c .before .before .before .before .before .before .args .bytes .now) (rw (← c .before .before .before .kind-of .ensures) first), (kind-small _ first, c .before .before .before .before .before .before .pre))
+
+shape-of-requires : tie.Need-shape-of-requires
+shape-of-requires c κs =
+    let first = sym (c .before .before .before .before .before .before .is-kind .ensures) ∙ not-false _ (c .before .before .before .before .before .if1 .left) in
+    (kind-small _ first, head-long (c .before .before .before .before .before .before .before .before .before .before .args .bytes .now) (c .before .before .before .before .before .before .before .kind-of .result) (c .before .before .before .take-head .ensures))
+
+size-of-requires : tie.Need-size-of-requires
+size-of-requires c κs = headed-sized (headed-at c)
+
+refused-requires-2 : tie.Need-refused-requires-2
+refused-requires-2 c κs = search needs
+
+same-length : tie.Need-same-length
+same-length c = search needs
+
+returns-2 : tie.Need-returns-2
+returns-2 c =
+    let h = headed-at (c .before .before .before) in
+    refuses (c .refused2 .ensures .0) (c .refused2 .ensures .2) (λ e. omega arith) (fails-2 _ (h .first) (headed-short h (rw (c .before .before .size-of .ensures) at (c .before .if2 .taken))))
+
+head-permitted-requires : tie.Need-head-permitted-requires
+head-permitted-requires c κs =
+    let first = sym (c .before .before .before .before .before .before .before .before .before .before .is-kind .ensures) ∙ not-false _ (c .before .before .before .before .before .before .before .before .before .if1 .left) in
+    (kind-small _ first, head-long (c .before .before .before .before .before .before .before .before .before .before .before .before .before .before .args .bytes .now) (c .before .before .before .before .before .before .before .before .before .before .before .kind-of .result) (c .before .before .before .before .before .before .before .take-head .ensures))
+
+refused-requires-3 : tie.Need-refused-requires-3
+refused-requires-3 c κs = search needs
+
+same-length-2 : tie.Need-same-length-2
+same-length-2 c = search needs
+
+returns-3 : tie.Need-returns-3
+returns-3 c =
+    let h = headed-at (c .before .before .before .before .before .before) in
+    let whole = headed-whole h (rw (c .before .before .before .before .before .size-of .ensures) at (c .before .before .before .before .if2 .left)) in
+    let no = rw (c .before .before .before .before .before .before .before .before .before .before .before .before .before .before .kind-of .ensures) at (sym (c .before .before .head-permitted .ensures)) ∙ not-true _ (c .before .if3 .taken) in
+    refuses (c .refused3 .ensures .0) (c .refused3 .ensures .2 ∙ c .before .before .before .before .before .size-of .ensures ∙ ap sizeOf (headed-rules h)) (λ e. omega arith) (fails-3 _ (h .first) whole (headed-refused h no))
+
+parse-whole-requires : tie.Need-parse-whole-requires
+parse-whole-requires c κs =
+    let h = headed-at (c .before .before .before .before .before .before) in
+    let yes = rw (c .before .before .before .before .before .before .before .before .before .before .before .before .before .before .kind-of .ensures) at (sym (c .before .before .head-permitted .ensures)) ∙ not-false _ (c .before .if3 .left) in
+    (headed-made h (rw (c .before .before .before .before .before .size-of .ensures) at (c .before .before .before .before .if2 .left)) yes, rw (c .before .before .before .before .before .before .shape-of .ensures .kind) (c .before .before .before .before .before .before .before .before .before .before .take-head .ensures))
+
+same-length-3 : tie.Need-same-length-3
+same-length-3 c = search needs
+
+returns-4 : tie.Need-returns-4
+returns-4 c = search needs
+
+pub parse-into-spec : {M : Type 1} → statement M
+parse-into-spec =
+    tie.close
+    (tie.spec
+    kind-of-requires
+    is-kind-requires
+    refused-requires
+    returns
+    take-head-requires
+    shape-of-requires
+    size-of-requires
+    refused-requires-2
+    same-length
+    returns-2
+    head-permitted-requires
+    refused-requires-3
+    same-length-2
+    returns-3
+    parse-whole-requires
+    same-length-3
+    returns-4)

@@ -1,0 +1,104 @@
+-- After each turn the digits of the bytes so far stand in the buffer.
+use mathlib.Core.Path.{_≡_}
+use Prim.Native.Nat.{_+_, _-_, _*_, _≤_}
+use native.Mathlib.Omega.{arith}
+use lib.ListN.{length, take}
+use lib.Seq.{take-length}
+use Rattle.report.specs.Text.{each, hexOf}
+use Rattle.report.specs.Pasted.{Pasted, pasted-length, none, then}
+use Rattle.report.specs.TextLaws.{each-step, no-bytes, some-bytes}
+use borrow.Author.Needs.{needs}
+use Rattle.report.proofs.put_bytes.Statement.{statement}
+use Rattle.report.proofs.put_bytes.Tie as tie
+
+abbrev Inv-loop : tie.InvT-loop
+Inv-loop bytes out₀ at p₀ i₀ out p i = (i ≤ length bytes) × Pasted out₀ out at (each hexOf (take i bytes)) p × (p ≤ at + 2 * i)
+
+abbrev μ-loop : tie.MeasureT-loop
+μ-loop bytes out₀ at p₀ i₀ out p i = length bytes - i
+
+put-byte-requires : tie.Need-put-byte-requires Inv-loop μ-loop
+put-byte-requires c κs = search needs
+
+same-length : tie.Need-same-length Inv-loop μ-loop
+same-length c = search needs
+
+returns : tie.Need-returns Inv-loop μ-loop
+returns c =
+    let put = c .before .before .put-byte .ensures in
+    (rw (no-bytes (c .before .before .before .before .before .before .before .args .bytes .now) (c .before .before .before .before .if1 .taken)) put, omega (arith, put .next))
+
+loop-holds : tie.Need-loop-holds Inv-loop μ-loop
+unfolding each
+loop-holds c =
+    let a = c .before .before .before .args in
+    (omega arith, none (a .out .now) (a .at) (omega arith), omega arith)
+
+shared-slice-read-hex-digits : tie.Need-shared-slice-read-hex-digits Inv-loop μ-loop
+shared-slice-read-hex-digits c = search needs
+
+hex-digits-requires : tie.Need-hex-digits-requires Inv-loop μ-loop
+hex-digits-requires c κs = search needs
+
+array-read-put-byte : tie.Need-array-read-put-byte Inv-loop μ-loop
+array-read-put-byte c = search needs
+
+put-byte-requires-2 : tie.Need-put-byte-requires-2 Inv-loop μ-loop
+put-byte-requires-2 c κs =
+    let same = pasted-length (c .before .before .before .before .loop .inv .1) in
+    omega arith
+
+array-read-put-byte-2 : tie.Need-array-read-put-byte-2 Inv-loop μ-loop
+array-read-put-byte-2 c = search needs
+
+put-byte-requires-3 : tie.Need-put-byte-requires-3 Inv-loop μ-loop
+put-byte-requires-3 c κs =
+    let same = pasted-length (c .before .before .before .before .before .before .before .before .loop .inv .1) in
+    omega (arith, c .before .before .before .put-byte2 .ensures .next)
+
+add-i : tie.Need-add-i Inv-loop μ-loop
+add-i c = search needs
+
+loop-less : tie.Need-loop-less Inv-loop μ-loop
+loop-less c = search needs
+
+loop-again : tie.Need-loop-again Inv-loop μ-loop
+loop-again c =
+    let bytes = c .before .before .before .before .before .before .before .before .before .before .before .before .before .before .before .args .bytes .now in
+    let l = c .before .before .before .before .before .before .before .before .before .before .before .loop in
+    let high = c .before .before .before .before .before .before .put-byte2 .ensures in
+    let low = c .before .before .put-byte3 .ensures in
+    let put = rw (c .before .before .before .before .before .before .before .before .hex-digits .ensures) at (then (l .inv .1) (then high low)) in
+    (omega arith, rw (each-step hexOf bytes (l .i) (omega arith)) put, omega (arith, high .next, low .next))
+
+same-length-2 : tie.Need-same-length-2 Inv-loop μ-loop
+same-length-2 c = pasted-length (c .before .loop .inv .1)
+
+returns-2 : tie.Need-returns-2 Inv-loop μ-loop
+returns-2 c =
+    let bytes = c .before .before .before .before .before .args .bytes .now in
+    let l = c .before .loop in
+    let all : l .i ≡ length bytes = omega arith in
+    (rw (some-bytes bytes (omega arith)) (rw (all, take-length bytes) at (l .inv .1)), omega arith)
+
+pub put-bytes-spec : {M : Type 1} → statement M
+put-bytes-spec =
+    tie.close
+    (tie.spec
+    Inv-loop
+    μ-loop
+    put-byte-requires
+    same-length
+    returns
+    loop-holds
+    shared-slice-read-hex-digits
+    hex-digits-requires
+    array-read-put-byte
+    put-byte-requires-2
+    array-read-put-byte-2
+    put-byte-requires-3
+    add-i
+    loop-less
+    loop-again
+    same-length-2
+    returns-2)
