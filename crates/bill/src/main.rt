@@ -5,7 +5,7 @@ ghost use Prim.Native.Nat.{_+_, _≤_, _<_};
 ghost use lib.ListN.{length};
 ghost use Rattle.year.specs.Sound.{Sound};
 ghost use Rattle.report.specs.Text.{room, statementRoom};
-ghost use Rattle.feed.specs.Records.{longestRecord};
+ghost use Rattle.records.specs.QuestionLaws.{longestRecord};
 
 // What taking one record leaves: the year after it, its number, the bytes consumed, and the place after what is printed of it.
 struct Taken {
@@ -60,7 +60,7 @@ fn bill(input: i32, buffer: &mut [u8], statement: &mut [u8], out: &mut [u8]) -> 
     let mut at: usize = 0;
     let mut position: u64 = 1;
     while position < u64::MAX {
-        window = feed::filled(input, buffer, window, feed::LONGEST_RECORD);
+        window = feed::filled(input, buffer, window, records::LONGEST);
         if window.failed {
             return false;
         }

@@ -11,6 +11,7 @@ ghost use Rattle.tallies.specs.Arrays.{Within};
 ghost use Rattle.charges.specs.Charging.{dailyOf, centsOf, Chargeable, Charged};
 use tallies::add_at;
 use tallies::less;
+use tallies::wide;
 use units::Nominated;
 
 // A seller's unforced shortfall: what it lacks, converted, less its deficit.
@@ -23,13 +24,6 @@ pub fn shortfall(factor: u64, requirement: u64, committed: u64, reduction: u64, 
     let net = Nominated::new(less(committed, reduction));
     let converted = net.unforced(factor, requirement);
     less(converted.0, deficit)
-}
-
-// A deficit in the width of the other kilowatts.
-pub fn wide(x: u32) -> u64
-    ensures { λ r. ⌜ r ≡ x ⌝ }
-{
-    x as u64
 }
 
 // The shortfall of each seller.

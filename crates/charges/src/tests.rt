@@ -6,8 +6,8 @@ ghost use Rattle.units.specs.Units.{convert};
 ghost use Rattle.owed.specs.Owed.{raised};
 ghost use Rattle.tallies.specs.Arrays.{Within, Rated};
 use crate::compliance::shortfall;
-use crate::compliance::wide;
 use tallies::Sums;
+use tallies::wide;
 
 // The rate of a test: the average by committed kilowatts, a fifth more and at least 2,000 more.
 fn test_rate(value: u64, committed: u64) -> u64

@@ -7,7 +7,7 @@ ghost use lib.ListN.{length};
 ghost use Rattle.records.specs.Questions.{recordNumber, consumed};
 ghost use Rattle.report.specs.Pasted.{Pasted};
 ghost use Rattle.report.specs.Text.{room};
-ghost use Rattle.feed.specs.Records.{longestRecord};
+ghost use Rattle.records.specs.QuestionLaws.{longestRecord};
 ghost use Rattle.dump.specs.Line.{recordLine};
 
 // What printing one record leaves: its number, its bytes, and the place after its line.
@@ -54,7 +54,7 @@ fn dump(input: i32, buffer: &mut [u8], out: &mut [u8]) -> bool
     let mut at: usize = 0;
     let mut position: u64 = 1;
     while position < u64::MAX {
-        window = feed::filled(input, buffer, window, feed::LONGEST_RECORD);
+        window = feed::filled(input, buffer, window, records::LONGEST);
         if window.failed {
             return false;
         }

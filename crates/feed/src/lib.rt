@@ -6,9 +6,6 @@ ghost use lib.ListN.{length, take, drop};
 ghost use lib.Seq.{paste};
 ghost use Rattle.feed.specs.Filled.{Filled};
 
-// The bytes of the longest record, by its counts as written: 25 bits, 31 deficits of 24 and 127 entries of 23.
-pub const LONGEST_RECORD: usize = 462;
-
 // The part of the input buffer that is still to be taken. Ended: no more comes; failed: a read failed.
 pub struct Window {
     pub start: usize,

@@ -16,7 +16,7 @@ use Rattle.year.specs.Sound.{Sound}
 use Rattle.statement.specs.Statement.{statementOf}
 use Rattle.book.specs.Outcome.{postNumber, yearAfter, Posts}
 use Rattle.piermint.specs.Billed.{nothing, ends, statementIn, billed, Bills}
-use Rattle.piermint.proofs.Consumed.{consumed-within}
+use Rattle.records.specs.QuestionLaws.{consumed-within}
 use Rattle.piermint.proofs.Closing.{statement-there, statement-none, buffer-over}
 use Rattle.piermint.proofs.Along.{Along, along-none, along-more, along-all, billed-first, billed-none}
 

@@ -19,7 +19,6 @@ use crate::registrations::any_registration;
 use crate::registrations::callable_in;
 use crate::registrations::in_area;
 use crate::registrations::in_group;
-use crate::registrations::uncalled;
 use year::Listing;
 use year::Terms;
 use year::Year;
@@ -114,8 +113,8 @@ fn lists_uncalled(year: Year, listing: Listing, group: [bool; 64]) -> bool
     let calls = tallies::calls_of(events, year.held);
     let called = calls.called;
     let listed = listing.listed;
-    let left = uncalled(group, called);
-    lists_exactly(listed, left)
+    let uncalled = tallies::left(&group, &called);
+    lists_exactly(listed, uncalled)
 }
 
 // Questions 10, 11, 13 and 14 of a test.

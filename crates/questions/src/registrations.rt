@@ -81,16 +81,3 @@ pub fn callable_in(terms: Terms, month: u64, period: u64) -> [bool; 64]
     }
     passes
 }
-
-// Those of a group that no event lists.
-pub fn uncalled(group: [bool; 64], called: [bool; 64]) -> [bool; 64]
-    ensures { λ r. ⌜ r ≡ tabulate 64 (λ i. holds group i && not (holds called i)) ⌝ }
-{
-    let mut passes = [false; 64];
-    let mut i: usize = 0;
-    while i < 64 {
-        passes[i] = group[i] && !called[i];
-        i += 1;
-    }
-    passes
-}

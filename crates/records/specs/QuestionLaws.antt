@@ -16,9 +16,9 @@ use Rattle.ids.specs.Tests.{all-same, all-at}
 use Rattle.bits.specs.BitLaws.{field-lt}
 use Rattle.bits.specs.Table.{total, fieldsAt}
 use Rattle.bits.specs.TableLaws.{fields-append, fields-at, length-fields}
-use Rattle.records.specs.Layout.{Rule, noRule, heads, head, hasLists, deficitsIn, entriesIn, times, deficit, entry, rulesFor, widths}
+use Rattle.records.specs.Layout.{Rule, noRule, heads, head, hasLists, deficitsIn, entriesIn, times, deficit, entry, rulesFor, widths, sizeOf}
 use Rattle.records.specs.LayoutLaws.{and-parts, every, every-in, head-small, widths-append, length-widths, length-rules, rule-head}
-use Rattle.records.specs.Questions.{kindOf, headOf, rulesOf, numbersOf, rulesBy, isKind, permits, permitted, rises, most, row}
+use Rattle.records.specs.Questions.{kindOf, headOf, rulesOf, numbersOf, rulesBy, isKind, isWhole, permits, permitted, rises, most, row, consumed}
 
 -- a test that fails at one id fails for all
 pub not-all : (n : ℕ) (p : ℕ → Bool) (i : ℕ) → i < n → p i ≡ false → allTo n p ≡ false
@@ -244,3 +244,17 @@ permitted-row rs vs = permitted-same rs (row vs) vs (λ j l. at-row vs j)
 
 pub rises-row : (vs : List ℕ) (p n : ℕ) → rises (row vs) p n ≡ rises vs p n
 rises-row vs p n = rises-same (row vs) vs p n (λ j l. at-row vs j)
+
+-- the bytes of the longest record by its counts as written: 25 bits, 31 deficits of 24 and 127 entries of 23
+abbrev pub longestRecord : ℕ
+longestRecord = 462
+
+-- a record consumes no more than the bytes that are there
+either : (kind whole : Bool) (size most : ℕ) → leb size most ≡ whole → cond (kind && whole) size 0 ≤ most
+either true true size most e = leb-true size most e
+either true false size most e = omega arith
+either false whole size most e = omega arith
+
+pub consumed-within : (bytes : List ℕ) → consumed bytes ≤ length bytes
+unfolding consumed isWhole
+consumed-within bytes = either (isKind (kindOf bytes)) (isWhole bytes) (sizeOf (rulesOf bytes)) (length bytes) refl

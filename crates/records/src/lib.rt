@@ -28,6 +28,9 @@ use crate::layout::widths_of_heads;
 mod checks;
 mod layout;
 
+// The bytes of the longest record, by its counts as written: 25 bits, 31 deficits of 24 and 127 entries of 23.
+pub const LONGEST: usize = 462;
+
 // A record's numbers, in a row with zeros behind them, or the number of the question that failed.
 pub struct Parsed {
     pub number: u64,

@@ -1,10 +1,8 @@
 // Takes records, one to a line, from one new book on, and prints what each call answers: number, bytes consumed, and a close's statement.
-use bits::Cursor;
 use libc::STDOUT_FILENO;
 use year::Year;
 ghost use Prim.Native.Nat.{_≤_};
 ghost use lib.ListN.{length};
-ghost use Rattle.bits.specs.Bits.{Room};
 ghost use Rattle.year.specs.Sound.{Sound};
 
 fn main() {
@@ -43,8 +41,10 @@ fn take(year: Year, bytes: &[u8], buffer: &mut [u8]) -> Year
     requires { ⌜ length (now buffer) ≤ 4096 ⌝ }
     ensures { λ r. ⌜ Sound r ⌝ }
 {
+    let closed = year.closed;
     let posted = book::post(year, bytes, buffer);
-    let size = stated(posted.number, posted.used, buffer);
+    let next = posted.year;
+    let size = text::least(stated(closed, next), buffer.len());
     let mut out = io::large_buffer();
     let end = report::call_line(
         posted.number,
@@ -54,33 +54,16 @@ fn take(year: Year, bytes: &[u8], buffer: &mut [u8]) -> Year
         0,
     );
     io::write_all(STDOUT_FILENO, &out[0..end]);
-    posted.year
+    next
 }
 
-// The bytes of the statement that an answer leaves at the front of the buffer.
-fn stated(number: u64, used: usize, buffer: &[u8]) -> usize
-    ensures { λ r. ⌜ r ≤ length (now (buffer .entry)) ⌝ }
+// The bytes of the statement that a call leaves at the front of its buffer: none, unless it closed a month.
+fn stated(closed: u64, year: Year) -> usize
+    requires { ⌜ Sound year ⌝ }
 {
-    // of the records, a close alone has one byte
-    if number != 0 || used != 1 || buffer.len() < 2 {
+    if closed == year.closed {
         return 0;
     }
-    text::least(statement_size(buffer), buffer.len())
-}
-
-// The bytes of a statement, from its counts of sellers and LSEs.
-fn statement_size(statement: &[u8]) -> usize
-    requires { ⌜ 2 ≤ length (now statement) ⌝ }
-{
-    let sellers = count(statement, 4);
-    let lses = count(statement, 9);
-    (14 + 130 * sellers + 46 * lses + 7) / 8
-}
-
-fn count(statement: &[u8], from: usize) -> usize
-    requires { ⌜ Room (now statement) from 5 ⌝ }
-    ensures { λ r. ⌜ r ≤ 31 ⌝ }
-{
-    let field = (Cursor { at: from }).take(statement, 5);
-    field.value as usize
+    let terms = year.terms;
+    statement::size_of(terms)
 }

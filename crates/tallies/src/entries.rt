@@ -11,7 +11,7 @@ pub fn less(a: u64, b: u64) -> u64
     if b < a { a - b } else { 0 }
 }
 
-// A reduction as a u64: as a function, the cast asks no bound of the element.
+// Kilowatts as a u64: as a function, the cast asks no bound of the element.
 pub fn wide(x: u32) -> u64
     ensures { λ r. ⌜ r ≡ x ⌝ }
 {

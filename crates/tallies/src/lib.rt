@@ -9,6 +9,7 @@ pub use counts::calls_of;
 pub use entries::any;
 pub use entries::left;
 pub use entries::less;
+pub use entries::wide;
 pub use sums::Sums;
 pub use sums::add_at;
 pub use sums::sum_of;

@@ -4,7 +4,7 @@ use Prim.Native.Nat.{_-_}
 use native.Mathlib.Omega.{arith}
 use lib.ListN.{length, take, drop, length-drop}
 use lib.Seq.{length-take-le}
-use Rattle.feed.specs.Records.{consumed-within}
+use Rattle.records.specs.QuestionLaws.{consumed-within}
 use borrow.Author.Needs.{needs}
 use Rattle.bill.proofs.step.Statement.{statement}
 use Rattle.bill.proofs.step.Tie as tie

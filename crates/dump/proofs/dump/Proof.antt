@@ -6,7 +6,7 @@ use lib.ListN.{length, take, drop, length-drop}
 use lib.Seq.{length-take-le}
 use borrow.Author.Needs.{needs}
 use Rattle.report.specs.Text.{room}
-use Rattle.feed.specs.Records.{consumed-within}
+use Rattle.records.specs.QuestionLaws.{consumed-within}
 use Rattle.dump.proofs.dump.Statement.{statement}
 use Rattle.dump.proofs.dump.Tie as tie
 

@@ -8,18 +8,18 @@ use Rattle.questions.proofs.lists_uncalled.Tie as tie
 calls-of-requires : tie.Need-calls-of-requires
 calls-of-requires c κs = search needs
 
-uncalled-requires : tie.Need-uncalled-requires
-uncalled-requires c κs = search needs
+left-requires : tie.Need-left-requires
+left-requires c κs = search needs
 
 lists-exactly-requires : tie.Need-lists-exactly-requires
 lists-exactly-requires c κs = search needs
 
 returns : tie.Need-returns
 returns c =
-    let a = c .before .before .before .before .before .before .args in
+    let a = c .before .before .before .before .before .before .before .before .args in
     c .lists-exactly .ensures
-    ∙ only-uncalled (a .listing .listed) (a .group) _ (c .before .before .before .before .calls-of .ensures .0) (c .before .uncalled .ensures)
+    ∙ only-uncalled (a .listing .listed) (a .t3) _ (c .before .before .before .before .before .before .calls-of .ensures .0) (c .before .left .ensures)
 
 pub lists-uncalled-spec : {M : Type 1} → statement M
 lists-uncalled-spec =
-    tie.close (tie.spec calls-of-requires uncalled-requires lists-exactly-requires returns)
+    tie.close (tie.spec calls-of-requires left-requires lists-exactly-requires returns)
