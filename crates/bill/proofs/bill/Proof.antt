@@ -30,54 +30,12 @@ lengths s =
     let a = l .before .before .before .before .before .before in
     (omega (arith, f .filled, l .loop, a), omega (arith, s .step, l .loop, a), omega (arith, s .step, l .loop, a))
 
-new-book-requires : tie.Need-new-book-requires Inv-loop μ-loop
-new-book-requires c κs = search needs
-
-new-window-requires : tie.Need-new-window-requires Inv-loop μ-loop
-new-window-requires c κs = search needs
-
-loop-holds : tie.Need-loop-holds Inv-loop μ-loop
-loop-holds c = search needs
-
-filled-requires : tie.Need-filled-requires Inv-loop μ-loop
-filled-requires c κs = search needs
-
-same-length : tie.Need-same-length Inv-loop μ-loop
-same-length c = search needs
-
-same-length-2 : tie.Need-same-length-2 Inv-loop μ-loop
-same-length-2 c = search needs
-
-same-length-3 : tie.Need-same-length-3 Inv-loop μ-loop
-same-length-3 c = search needs
-
-returns : tie.Need-returns Inv-loop μ-loop
-returns c = search needs
-
-with-room-requires : tie.Need-with-room-requires Inv-loop μ-loop
-with-room-requires c κs = search needs
-
-same-length-4 : tie.Need-same-length-4 Inv-loop μ-loop
-same-length-4 c = search needs
-
-same-length-5 : tie.Need-same-length-5 Inv-loop μ-loop
-same-length-5 c = search needs
-
-same-length-6 : tie.Need-same-length-6 Inv-loop μ-loop
-same-length-6 c = search needs
-
-returns-2 : tie.Need-returns-2 Inv-loop μ-loop
-returns-2 c = search needs
-
 step-requires : tie.Need-step-requires Inv-loop μ-loop
 step-requires c κs =
     let f = c .before .before .before .before .before .before .before in
     let l = f .before .before .before in
     let a = l .before .before .before .before .before .before in
     (l .loop .inv .1 .0, (omega (arith, c .before .before .before .if2, f .filled), (omega (arith, f .filled, l .loop, a), (omega (arith, f .filled, l .loop, a), omega (arith, f .filled, l .loop, a)))))
-
-with-room-requires-2 : tie.Need-with-room-requires-2 Inv-loop μ-loop
-with-room-requires-2 c κs = search needs
 
 same-length-7 : tie.Need-same-length-7 Inv-loop μ-loop
 same-length-7 c = lengths (c .before .before .before .before .before .before .before .before .before) .0
@@ -87,9 +45,6 @@ same-length-8 c = lengths (c .before .before .before .before .before .before .be
 
 same-length-9 : tie.Need-same-length-9 Inv-loop μ-loop
 same-length-9 c = lengths (c .before .before .before .before .before .before .before .before .before) .2
-
-returns-3 : tie.Need-returns-3 Inv-loop μ-loop
-returns-3 c = search needs
 
 with-room-requires-3 : tie.Need-with-room-requires-3 Inv-loop μ-loop
 with-room-requires-3 c κs =
@@ -107,9 +62,6 @@ same-length-11 c = lengths (c .before .before .before .before .before .before .b
 
 same-length-12 : tie.Need-same-length-12 Inv-loop μ-loop
 same-length-12 c = lengths (c .before .before .before .before .before .before .before .before .before .before) .2
-
-returns-4 : tie.Need-returns-4 Inv-loop μ-loop
-returns-4 c = search needs
 
 add-window : tie.Need-add-window Inv-loop μ-loop
 add-window c =
@@ -138,53 +90,41 @@ loop-again c =
     let a = l .before .before .before .before .before .before in
     ((omega (arith, s .step, f .filled, l .loop, a), omega (arith, s .step, f .filled, l .loop, a), omega (arith, s .step, f .filled, l .loop, a)), (s .step .ensures .0, omega (arith, s .step, f .filled, l .loop, a), omega (arith, s .step, f .filled, l .loop, a), omega (arith, w .with-room3, s .step, f .filled, l .loop, a)))
 
-same-length-13 : tie.Need-same-length-13 Inv-loop μ-loop
-same-length-13 c = search needs
-
-same-length-14 : tie.Need-same-length-14 Inv-loop μ-loop
-same-length-14 c = search needs
-
-same-length-15 : tie.Need-same-length-15 Inv-loop μ-loop
-same-length-15 c = search needs
-
-returns-5 : tie.Need-returns-5 Inv-loop μ-loop
-returns-5 c = search needs
-
 pub bill-spec : {M : Type 1} → statement M
 bill-spec =
     tie.close
     (tie.spec
     Inv-loop
     μ-loop
-    new-book-requires
-    new-window-requires
-    loop-holds
-    filled-requires
-    same-length
-    same-length-2
-    same-length-3
-    returns
-    with-room-requires
-    same-length-4
-    same-length-5
-    same-length-6
-    returns-2
+    (λ c κs. search needs)
+    (λ c κs. search needs)
+    (λ c. search needs)
+    (λ c κs. search needs)
+    (λ c. search needs)
+    (λ c. search needs)
+    (λ c. search needs)
+    (λ c. search needs)
+    (λ c κs. search needs)
+    (λ c. search needs)
+    (λ c. search needs)
+    (λ c. search needs)
+    (λ c. search needs)
     step-requires
-    with-room-requires-2
+    (λ c κs. search needs)
     same-length-7
     same-length-8
     same-length-9
-    returns-3
+    (λ c. search needs)
     with-room-requires-3
     same-length-10
     same-length-11
     same-length-12
-    returns-4
+    (λ c. search needs)
     add-window
     add-position
     loop-less
     loop-again
-    same-length-13
-    same-length-14
-    same-length-15
-    returns-5)
+    (λ c. search needs)
+    (λ c. search needs)
+    (λ c. search needs)
+    (λ c. search needs))

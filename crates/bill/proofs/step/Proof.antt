@@ -9,30 +9,6 @@ use borrow.Author.Needs.{needs}
 use Rattle.bill.proofs.step.Statement.{statement}
 use Rattle.bill.proofs.step.Tie as tie
 
-shared-slice-read-kind : tie.Need-shared-slice-read-kind
-shared-slice-read-kind c = search needs
-
-sub-post : tie.Need-sub-post
-sub-post c = search needs
-
-part-post-start : tie.Need-part-post-start
-part-post-start c = search needs
-
-part-post-end : tie.Need-part-post-end
-part-post-end c = search needs
-
-post-requires : tie.Need-post-requires
-post-requires c κs = search needs
-
-answer-lines-requires : tie.Need-answer-lines-requires
-answer-lines-requires c κs = search needs
-
-same-length : tie.Need-same-length
-same-length c = search needs
-
-same-length-2 : tie.Need-same-length-2
-same-length-2 c = search needs
-
 returns : tie.Need-returns
 returns c =
     let l = c .before .before .before in
@@ -46,12 +22,12 @@ pub step-spec : {M : Type 1} → statement M
 step-spec =
     tie.close
     (tie.spec
-    shared-slice-read-kind
-    sub-post
-    part-post-start
-    part-post-end
-    post-requires
-    answer-lines-requires
-    same-length
-    same-length-2
+    (λ c. search needs)
+    (λ c. search needs)
+    (λ c. search needs)
+    (λ c. search needs)
+    (λ c κs. search needs)
+    (λ c κs. search needs)
+    (λ c. search needs)
+    (λ c. search needs)
     returns)

@@ -6,21 +6,12 @@ use Rattle.bits.specs.WrittenLaws.{written-size, written-encodes}
 use Rattle.bits.proofs.put_all.Statement.{statement}
 use Rattle.bits.proofs.put_all.Tie as tie
 
-new-requires : tie.Need-new-requires
-new-requires c κs = search needs
-
 put-all-requires : tie.Need-put-all-requires
 put-all-requires c κs =
     let s = c .before .before .before .before .before in
     let e = c .before .new .ensures in
     let ready : Ready (c .before .new .result) = record { part = omega arith; small = rw (e .1, e .2) (omega arith) } in
     (ready, (s .pre .0, (s .pre .1 .0, (s .pre .1 .1 .0, omega arith))))
-
-finish-requires : tie.Need-finish-requires
-finish-requires c κs = search needs
-
-same-length : tie.Need-same-length
-same-length c = search needs
 
 returns : tie.Need-returns
 returns c =
@@ -36,4 +27,4 @@ returns c =
 
 pub put-all-spec : {M : Type 1} → statement M
 put-all-spec =
-    tie.close (tie.spec new-requires put-all-requires finish-requires same-length returns)
+    tie.close (tie.spec (λ c κs. search needs) put-all-requires (λ c κs. search needs) (λ c. search needs) returns)

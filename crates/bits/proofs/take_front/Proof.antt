@@ -20,14 +20,8 @@ Inv-loop bytes widths out₀ word c₀ i₀ out c i =
 abbrev μ-loop : tie.MeasureT-loop
 μ-loop bytes widths out₀ word c₀ i₀ out c i = length widths - i
 
-front-requires : tie.Need-front-requires Inv-loop μ-loop
-front-requires c κs = search needs
-
 loop-holds : tie.Need-loop-holds Inv-loop μ-loop
 loop-holds c = (omega arith, refl, refl, refl)
-
-shared-slice-read-w : tie.Need-shared-slice-read-w Inv-loop μ-loop
-shared-slice-read-w c = omega arith
 
 cast-w : tie.Need-cast-w Inv-loop μ-loop
 cast-w c = omega (arith, c .shared-slice-known3 .given (c .before .before .loop .i))
@@ -39,18 +33,6 @@ cut-requires c κs =
     let h = c .before .loop-test .taken in
     let w = width-in ws (l .i) (c .before .before .before .before .before .before .before .pre .1 .0) h in
     (w .0, (w .1, omega (arith, total-in ws (l .i) h, l .inv .1)))
-
-mul-out : tie.Need-mul-out Inv-loop μ-loop
-mul-out c = omega arith
-
-slice-write-out : tie.Need-slice-write-out Inv-loop μ-loop
-slice-write-out c = omega arith
-
-add-i : tie.Need-add-i Inv-loop μ-loop
-add-i c = omega arith
-
-loop-less : tie.Need-loop-less Inv-loop μ-loop
-loop-less c = omega arith
 
 loop-again : tie.Need-loop-again Inv-loop μ-loop
 loop-again c =
@@ -69,9 +51,6 @@ loop-again c =
       rw value (out-more xs 0 ws (l .out) (c .before .before .before .before .before .before .before .before .before .args .out .now) (l .i) h (omega arith) (l .inv .3)),
     )
 
-same-length : tie.Need-same-length Inv-loop μ-loop
-same-length c = omega arith
-
 returns : tie.Need-returns Inv-loop μ-loop
 returns c =
     let l = c .before .loop in
@@ -84,15 +63,15 @@ take-front-spec =
     (tie.spec
     Inv-loop
     μ-loop
-    front-requires
+    (λ c κs. search needs)
     loop-holds
-    shared-slice-read-w
+    (λ c. omega arith)
     cast-w
     cut-requires
-    mul-out
-    slice-write-out
-    add-i
-    loop-less
+    (λ c. omega arith)
+    (λ c. omega arith)
+    (λ c. omega arith)
+    (λ c. omega arith)
     loop-again
-    same-length
+    (λ c. omega arith)
     returns)

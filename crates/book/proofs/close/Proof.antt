@@ -9,9 +9,6 @@ use Rattle.book.proofs.close.Lts as lts
 use Rattle.statement.proofs.write_statement.Reads as write-statement-reads
 use Rattle.year.proofs.with_close.Reads as with-close-reads
 
-amounts-of-requires : tie.Need-amounts-of-requires
-amounts-of-requires c κs = search needs
-
 write-statement-requires : tie.Need-write-statement-requires
 write-statement-requires c κs =
     let start = c .before .before .before .before .before in
@@ -24,9 +21,6 @@ with-close-requires c κs =
     let s = start .pre .0 in
     (s, (start .pre .1 .0, rw (c .before .before .before .before .before .before .amounts-of .ensures) (sound-amounts (start .args .year) s (start .args .month))))
 
-same-length : tie.Need-same-length
-same-length c = search needs
-
 returns : tie.Need-returns
 returns c =
     let owed = c .before .before .before .before .before .before .before .amounts-of .ensures in
@@ -35,4 +29,4 @@ returns c =
 pub close-spec : {M : Type 1} → statement M
 close-spec =
     tie.close
-    (tie.spec amounts-of-requires write-statement-requires with-close-requires same-length returns)
+    (tie.spec (λ c κs. search needs) write-statement-requires with-close-requires (λ c. search needs) returns)

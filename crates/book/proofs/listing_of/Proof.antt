@@ -21,24 +21,12 @@ has-lists c =
     let kind = at (c .before .args .t1) 0 in
     ⊎-elim (λ w. rw (w .taken)) (λ w. rw (eqb-true kind 5 (w .1 .taken))) (c .if1 .came)
 
-array-read-kind : tie.Need-array-read-kind
-array-read-kind c = search needs
-
-array-read-listing-of : tie.Need-array-read-listing-of
-array-read-listing-of c = search needs
-
-array-read-listing-of-2 : tie.Need-array-read-listing-of-2
-array-read-listing-of-2 c = search needs
-
 listing-of-requires : tie.Need-listing-of-requires
 listing-of-requires c κs = listed-pairs (c .before .pre) (has-lists c)
 
 returns : tie.Need-returns
 unfolding listingIn deficitsIn entriesIn
 returns c = rw (has-lists (c .before)) (c .listing-of .ensures .0)
-
-listing-of-requires-2 : tie.Need-listing-of-requires-2
-listing-of-requires-2 c κs = search needs
 
 returns-2 : tie.Need-returns-2
 unfolding listingIn deficitsIn entriesIn hasLists
@@ -49,10 +37,10 @@ pub listing-of-spec : {M : Type 1} → statement M
 listing-of-spec =
     tie.close
     (tie.spec
-    array-read-kind
-    array-read-listing-of
-    array-read-listing-of-2
+    (λ c. search needs)
+    (λ c. search needs)
+    (λ c. search needs)
     listing-of-requires
     returns
-    listing-of-requires-2
+    (λ c κs. search needs)
     returns-2)

@@ -41,9 +41,6 @@ passes : (c : tie.Else2) → let a = c .before .before .before .before .before .
 passes c =
     passed-questions _ _ _ _ (sym (rw (c .before .before .listing-of .ensures) at (c .before .number-of .ensures)) ∙ c .if2 .left)
 
-parse-requires : tie.Need-parse-requires
-parse-requires c κs = search needs
-
 returns : tie.Need-returns
 returns c =
     let a = c .before .before .before .before .before .args in
@@ -64,20 +61,11 @@ returns-2 c =
     let posts = refuses (a .year) (a .bytes .now) (a .buffer .now) (answered (c .before)) (c .if2 .taken) (c .before .before .before .before .before .before .parse .ensures .uses) in
     (posts, sound-posted (a .year) (a .bytes .now) (a .buffer .now) (c .before .before .before .before .before .before .before .before .before .pre) posts)
 
-array-read-if3 : tie.Need-array-read-if3
-array-read-if3 c = search needs
-
-array-read-close : tie.Need-array-read-close
-array-read-close c = search needs
-
 close-requires : tie.Need-close-requires
 close-requires c κs =
     let p = passes (c .before .before) in
     let kind = c .before .if3 .taken in
     (c .before .before .before .before .before .before .before .before .before .before .before .pre, (not-finished p kind, (next-month p kind, room-to-close p kind)))
-
-same-length : tie.Need-same-length
-same-length c = search needs
 
 returns-3 : tie.Need-returns-3
 returns-3 c =
@@ -113,15 +101,15 @@ pub post-spec : {M : Type 1} → statement M
 post-spec =
     tie.close
     (tie.spec
-    parse-requires
+    (λ c κs. search needs)
     returns
     listing-of-requires
     number-of-requires
     returns-2
-    array-read-if3
-    array-read-close
+    (λ c. search needs)
+    (λ c. search needs)
     close-requires
-    same-length
+    (λ c. search needs)
     returns-3
     year-after-requires
     returns-4)

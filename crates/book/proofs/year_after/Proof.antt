@@ -22,18 +22,6 @@ is-test c =
     let start = c .before .before .before .before in
     omega (arith, start .pre .1 .0 .kind, start .pre .1 .1 .1, c .before .before .before .if1 .left, c .before .before .if2 .left, c .before .if3 .left, c .if4 .left)
 
-array-read-kind : tie.Need-array-read-kind
-array-read-kind c = search needs
-
-array-read-with-opening : tie.Need-array-read-with-opening
-array-read-with-opening c = search needs
-
-array-read-with-opening-2 : tie.Need-array-read-with-opening-2
-array-read-with-opening-2 c = search needs
-
-array-read-with-opening-3 : tie.Need-array-read-with-opening-3
-array-read-with-opening-3 c = search needs
-
 with-opening-requires : tie.Need-with-opening-requires
 with-opening-requires c κs = (c .before .pre .0, c .before .pre .1 .0 .factors (c .if1 .taken))
 
@@ -43,9 +31,6 @@ returns c = rw (c .before .if1 .taken) (c .with-opening .ensures .0)
 
 registration-of-requires : tie.Need-registration-of-requires
 registration-of-requires c κs = c .before .before .pre .1 .0 .registered (c .if2 .taken) .2 .committed
-
-array-read-with-registration : tie.Need-array-read-with-registration
-array-read-with-registration c = search needs
 
 with-registration-requires : tie.Need-with-registration-requires
 with-registration-requires c κs =
@@ -57,12 +42,6 @@ returns-2 : tie.Need-returns-2
 unfolding yearWith
 returns-2 c = rw (c .before .before .if2 .taken) (rw (c .before .registration-of .ensures) at (c .with-registration .ensures .0))
 
-array-read-with-lse : tie.Need-array-read-with-lse
-array-read-with-lse c = search needs
-
-array-read-with-lse-2 : tie.Need-array-read-with-lse-2
-array-read-with-lse-2 c = search needs
-
 with-lse-requires : tie.Need-with-lse-requires
 with-lse-requires c κs =
     let start = c .before .before .before in
@@ -72,15 +51,6 @@ with-lse-requires c κs =
 returns-3 : tie.Need-returns-3
 unfolding yearWith
 returns-3 c = rw (c .before .if3 .taken) (c .with-lse .ensures .0)
-
-array-read-t36 : tie.Need-array-read-t36
-array-read-t36 c = search needs
-
-array-read-t39 : tie.Need-array-read-t39
-array-read-t39 c = search needs
-
-array-read-t42 : tie.Need-array-read-t42
-array-read-t42 c = search needs
 
 with-event-requires : tie.Need-with-event-requires
 with-event-requires c κs =
@@ -92,17 +62,8 @@ returns-4 : tie.Need-returns-4
 unfolding yearWith
 returns-4 c = rw (c .before .if4 .taken) (rw (c .before .before .before .before .before .pre .1 .1 .0) at (c .with-event .ensures .0))
 
-array-read-with-test : tie.Need-array-read-with-test
-array-read-with-test c = search needs
-
-array-read-with-test-2 : tie.Need-array-read-with-test-2
-array-read-with-test-2 c = search needs
-
 mul-with-test : tie.Need-mul-with-test
 mul-with-test c = omega (arith, c .before .before .before .before .pre .1 .0 .tested (is-test c) .0)
-
-array-read-with-test-3 : tie.Need-array-read-with-test-3
-array-read-with-test-3 c = search needs
 
 add-with-test : tie.Need-add-with-test
 add-with-test c = omega (arith, c .before .before .before .before .pre .1 .0 .tested (is-test c) .0)
@@ -121,29 +82,29 @@ pub year-after-spec : {M : Type 1} → statement M
 year-after-spec =
     tie.close
     (tie.spec
-    array-read-kind
-    array-read-with-opening
-    array-read-with-opening-2
-    array-read-with-opening-3
+    (λ c. search needs)
+    (λ c. search needs)
+    (λ c. search needs)
+    (λ c. search needs)
     with-opening-requires
     returns
     registration-of-requires
-    array-read-with-registration
+    (λ c. search needs)
     with-registration-requires
     returns-2
-    array-read-with-lse
-    array-read-with-lse-2
+    (λ c. search needs)
+    (λ c. search needs)
     with-lse-requires
     returns-3
-    array-read-t36
-    array-read-t39
-    array-read-t42
+    (λ c. search needs)
+    (λ c. search needs)
+    (λ c. search needs)
     with-event-requires
     returns-4
-    array-read-with-test
-    array-read-with-test-2
+    (λ c. search needs)
+    (λ c. search needs)
     mul-with-test
-    array-read-with-test-3
+    (λ c. search needs)
     add-with-test
     with-test-requires
     returns-5)

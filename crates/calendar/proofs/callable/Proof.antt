@@ -7,9 +7,6 @@ use Rattle.calendar.specs.Calendar.{callable}
 use Rattle.calendar.proofs.callable.Statement.{statement}
 use Rattle.calendar.proofs.callable.Tie as tie
 
-between-requires : tie.Need-between-requires
-between-requires c κs = search needs
-
 returns : tie.Need-returns
 unfolding callable
 returns c = rw (eq-eqb _ _ (c .before .before .if1 .taken), sym (c .before .between .ensures), c .if2 .taken)
@@ -17,9 +14,6 @@ returns c = rw (eq-eqb _ _ (c .before .before .if1 .taken), sym (c .before .betw
 returns-2 : tie.Need-returns-2
 unfolding callable
 returns-2 c = rw (eq-eqb _ _ (c .before .before .if1 .taken), sym (c .before .between .ensures), c .if2 .left)
-
-summer-requires : tie.Need-summer-requires
-summer-requires c κs = search needs
 
 returns-3 : tie.Need-returns-3
 unfolding callable
@@ -31,4 +25,4 @@ returns-4 c = cond-false _ (ne-eqb _ _ (c .before .if1 .left)) (cond-false _ (ne
 
 pub callable-spec : {M : Type 1} → statement M
 callable-spec =
-    tie.close (tie.spec between-requires returns returns-2 summer-requires returns-3 returns-4)
+    tie.close (tie.spec (λ c κs. search needs) returns returns-2 (λ c κs. search needs) returns-3 returns-4)

@@ -23,15 +23,6 @@ row-right m l =
     eqb-true (getD rows (m - 1) 0) (getD monthEnds (min m 12 - 1) 0)
     (all-at 16 (λ m. eqb (getD rows (m - 1) 0) (getD monthEnds (min m 12 - 1) 0)) refl m l)
 
-sub-row : tie.Need-sub-row
-sub-row c = search needs
-
-mul-end : tie.Need-mul-end
-mul-end c = search needs
-
-array-read-end : tie.Need-array-read-end
-array-read-end c = search needs
-
 returns : tie.Need-returns
 unfolding days rows
 returns c = rw (lt-leb 9 (c .before .args .month) (omega arith)) (omega (arith, row-right (c .before .args .month) (search needs)))
@@ -45,4 +36,4 @@ unfolding rows
 add-result c = omega (arith, row-right (c .before .args .month) (search needs), month-end-le (c .before .args .month))
 
 pub days-spec : {M : Type 1} → statement M
-days-spec = tie.close (tie.spec sub-row mul-end array-read-end add-result returns returns-2)
+days-spec = tie.close (tie.spec (λ c. search needs) (λ c. search needs) (λ c. search needs) add-result returns returns-2)

@@ -5,18 +5,6 @@ use Rattle.calendar.specs.Calendar.{due}
 use Rattle.calendar.proofs.due_month.Statement.{statement}
 use Rattle.calendar.proofs.due_month.Tie as tie
 
-add-later : tie.Need-add-later
-add-later c = search needs
-
-later-requires : tie.Need-later-requires
-later-requires c κs = search needs
-
-add-later-2 : tie.Need-add-later-2
-add-later-2 c = search needs
-
-later-requires-2 : tie.Need-later-requires-2
-later-requires-2 c κs = search needs
-
 returns : tie.Need-returns
 unfolding due
 returns c = rw (eq-eqb _ _ (c .before .if1 .taken)) (c .later .ensures)
@@ -27,4 +15,4 @@ returns-2 c = rw (ne-eqb _ _ (c .before .if1 .left)) (c .later2 .ensures)
 
 pub due-month-spec : {M : Type 1} → statement M
 due-month-spec =
-    tie.close (tie.spec add-later later-requires add-later-2 later-requires-2 returns returns-2)
+    tie.close (tie.spec (λ c. search needs) (λ c κs. search needs) (λ c. search needs) (λ c κs. search needs) returns returns-2)

@@ -6,12 +6,6 @@ use Rattle.calendar.specs.Calendar.{testable}
 use Rattle.calendar.proofs.testable.Statement.{statement}
 use Rattle.calendar.proofs.testable.Tie as tie
 
-between-requires : tie.Need-between-requires
-between-requires c κs = search needs
-
-summer-requires : tie.Need-summer-requires
-summer-requires c κs = search needs
-
 returns : tie.Need-returns
 unfolding testable
 returns c = cond-true _ (eq-eqb _ _ (c .before .if1 .taken)) (c .between .ensures)
@@ -21,4 +15,4 @@ unfolding testable
 returns-2 c = cond-false _ (ne-eqb _ _ (c .before .if1 .left)) (c .summer .ensures)
 
 pub testable-spec : {M : Type 1} → statement M
-testable-spec = tie.close (tie.spec between-requires summer-requires returns returns-2)
+testable-spec = tie.close (tie.spec (λ c κs. search needs) (λ c κs. search needs) returns returns-2)

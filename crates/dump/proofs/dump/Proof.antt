@@ -27,94 +27,13 @@ used-within s =
     let long : length bytes ≡ w .end - w .start = length-take-le (w .end - w .start) rest (rw length-drop (omega arith)) in
     omega (arith, s .line .ensures .0 .1, consumed-within bytes)
 
-new-window-requires : tie.Need-new-window-requires Inv-loop μ-loop
-new-window-requires c κs = search needs
-
-loop-holds : tie.Need-loop-holds Inv-loop μ-loop
-loop-holds c = search needs
-
-filled-requires : tie.Need-filled-requires Inv-loop μ-loop
-filled-requires c κs = search needs
-
-same-length : tie.Need-same-length Inv-loop μ-loop
-same-length c = search needs
-
-same-length-2 : tie.Need-same-length-2 Inv-loop μ-loop
-same-length-2 c = search needs
-
-returns : tie.Need-returns Inv-loop μ-loop
-returns c = search needs
-
-with-room-requires : tie.Need-with-room-requires Inv-loop μ-loop
-with-room-requires c κs = search needs
-
-same-length-3 : tie.Need-same-length-3 Inv-loop μ-loop
-same-length-3 c = search needs
-
-same-length-4 : tie.Need-same-length-4 Inv-loop μ-loop
-same-length-4 c = search needs
-
-returns-2 : tie.Need-returns-2 Inv-loop μ-loop
-returns-2 c = search needs
-
-sub-line : tie.Need-sub-line Inv-loop μ-loop
-sub-line c = search needs
-
-part-line-start : tie.Need-part-line-start Inv-loop μ-loop
-part-line-start c = search needs
-
-part-line-end : tie.Need-part-line-end Inv-loop μ-loop
-part-line-end c = search needs
-
-line-requires : tie.Need-line-requires Inv-loop μ-loop
-line-requires c κs = search needs
-
-with-room-requires-2 : tie.Need-with-room-requires-2 Inv-loop μ-loop
-with-room-requires-2 c κs = search needs
-
-same-length-5 : tie.Need-same-length-5 Inv-loop μ-loop
-same-length-5 c = search needs
-
-same-length-6 : tie.Need-same-length-6 Inv-loop μ-loop
-same-length-6 c = search needs
-
-returns-3 : tie.Need-returns-3 Inv-loop μ-loop
-returns-3 c = search needs
-
-with-room-requires-3 : tie.Need-with-room-requires-3 Inv-loop μ-loop
-with-room-requires-3 c κs = search needs
-
-same-length-7 : tie.Need-same-length-7 Inv-loop μ-loop
-same-length-7 c = search needs
-
-same-length-8 : tie.Need-same-length-8 Inv-loop μ-loop
-same-length-8 c = search needs
-
-returns-4 : tie.Need-returns-4 Inv-loop μ-loop
-returns-4 c = search needs
-
 add-window : tie.Need-add-window Inv-loop μ-loop
 add-window c = omega (arith, used-within (c .before .before .before .before .before .before .before .before))
-
-add-position : tie.Need-add-position Inv-loop μ-loop
-add-position c = search needs
-
-loop-less : tie.Need-loop-less Inv-loop μ-loop
-loop-less c = search needs
 
 loop-again : tie.Need-loop-again Inv-loop μ-loop
 loop-again c =
     let within = used-within (c .before .before .before .before .before .before .before .before) in
     (omega arith, omega arith, omega arith, omega arith, omega arith)
-
-same-length-9 : tie.Need-same-length-9 Inv-loop μ-loop
-same-length-9 c = search needs
-
-same-length-10 : tie.Need-same-length-10 Inv-loop μ-loop
-same-length-10 c = search needs
-
-returns-5 : tie.Need-returns-5 Inv-loop μ-loop
-returns-5 c = search needs
 
 pub dump-spec : {M : Type 1} → statement M
 dump-spec =
@@ -122,32 +41,32 @@ dump-spec =
     (tie.spec
     Inv-loop
     μ-loop
-    new-window-requires
-    loop-holds
-    filled-requires
-    same-length
-    same-length-2
-    returns
-    with-room-requires
-    same-length-3
-    same-length-4
-    returns-2
-    sub-line
-    part-line-start
-    part-line-end
-    line-requires
-    with-room-requires-2
-    same-length-5
-    same-length-6
-    returns-3
-    with-room-requires-3
-    same-length-7
-    same-length-8
-    returns-4
+    (λ c κs. search needs)
+    (λ c. search needs)
+    (λ c κs. search needs)
+    (λ c. search needs)
+    (λ c. search needs)
+    (λ c. search needs)
+    (λ c κs. search needs)
+    (λ c. search needs)
+    (λ c. search needs)
+    (λ c. search needs)
+    (λ c. search needs)
+    (λ c. search needs)
+    (λ c. search needs)
+    (λ c κs. search needs)
+    (λ c κs. search needs)
+    (λ c. search needs)
+    (λ c. search needs)
+    (λ c. search needs)
+    (λ c κs. search needs)
+    (λ c. search needs)
+    (λ c. search needs)
+    (λ c. search needs)
     add-window
-    add-position
-    loop-less
+    (λ c. search needs)
+    (λ c. search needs)
     loop-again
-    same-length-9
-    same-length-10
-    returns-5)
+    (λ c. search needs)
+    (λ c. search needs)
+    (λ c. search needs))

@@ -8,15 +8,6 @@ use Rattle.dump.specs.Line.{recordLine, count-few, count-within, values-
 use Rattle.dump.proofs.line.Statement.{statement}
 use Rattle.dump.proofs.line.Tie as tie
 
-parse-requires : tie.Need-parse-requires
-parse-requires c κs = search needs
-
-refusal-line-requires : tie.Need-refusal-line-requires
-refusal-line-requires c κs = search needs
-
-same-length : tie.Need-same-length
-same-length c = search needs
-
 returns : tie.Need-returns
 unfolding recordLine
 returns c =
@@ -38,9 +29,6 @@ numbers-line-requires c κs =
     let zero = c .before .before .before .if1 .left in
     omega (arith, count-few bytes (p .ensures) zero, length-take-le (p .result .count) (p .result .values) (count-within bytes (p .ensures) zero))
 
-same-length-2 : tie.Need-same-length-2
-same-length-2 c = search needs
-
 returns-2 : tie.Need-returns-2
 unfolding recordLine
 returns-2 c =
@@ -52,12 +40,12 @@ pub line-spec : {M : Type 1} → statement M
 line-spec =
     tie.close
     (tie.spec
-    parse-requires
-    refusal-line-requires
-    same-length
+    (λ c κs. search needs)
+    (λ c κs. search needs)
+    (λ c. search needs)
     returns
     array-share-prefix-values
     slice-aggregate-numbers-line
     numbers-line-requires
-    same-length-2
+    (λ c. search needs)
     returns-2)

@@ -27,25 +27,10 @@ returns c =
       kept = refl;
     }
 
-sub-if2 : tie.Need-sub-if2 Inv-loop μ-loop
-sub-if2 c = search needs
-
 returns-2 : tie.Need-returns-2 Inv-loop μ-loop
 returns-2 c =
     let p = c .before .before .before .before .pre in
     record { ordered = p .0; within = p .1 .0; enough = λ e. c .if2 .taken; longer = omega arith; kept = refl }
-
-to-front-requires : tie.Need-to-front-requires Inv-loop μ-loop
-to-front-requires c κs = search needs
-
-loop-holds : tie.Need-loop-holds Inv-loop μ-loop
-loop-holds c = search needs
-
-read-more-requires : tie.Need-read-more-requires Inv-loop μ-loop
-read-more-requires c κs = search needs
-
-same-length : tie.Need-same-length Inv-loop μ-loop
-same-length c = search needs
 
 returns-3 : tie.Need-returns-3 Inv-loop μ-loop
 returns-3 c =
@@ -72,12 +57,6 @@ loop-again c =
     let front = c .before .before .before .before .before .before .before .before .before .to-front in
     (omega arith, omega arith, omega arith, front-within (front .result) (l .end) (more .last .1 .0) (l .buffer) (l .inv .0) (more .ensures .1 .1) ∙ l .inv .3)
 
-new-window-requires : tie.Need-new-window-requires Inv-loop μ-loop
-new-window-requires c κs = search needs
-
-same-length-2 : tie.Need-same-length-2 Inv-loop μ-loop
-same-length-2 c = search needs
-
 returns-4 : tie.Need-returns-4 Inv-loop μ-loop
 returns-4 c =
     let l = c .before .before .loop in
@@ -98,15 +77,15 @@ filled-spec =
     Inv-loop
     μ-loop
     returns
-    sub-if2
+    (λ c. search needs)
     returns-2
-    to-front-requires
-    loop-holds
-    read-more-requires
-    same-length
+    (λ c κs. search needs)
+    (λ c. search needs)
+    (λ c κs. search needs)
+    (λ c. search needs)
     returns-3
     loop-less
     loop-again
-    new-window-requires
-    same-length-2
+    (λ c κs. search needs)
+    (λ c. search needs)
     returns-4)

@@ -14,15 +14,6 @@ Inv-loop buffer₀ start end left i₀ buffer i = (i ≤ left) × (left ≡ end 
 abbrev μ-loop : tie.MeasureT-loop
 μ-loop buffer₀ start end left i₀ buffer i = left - i
 
-sub-left : tie.Need-sub-left Inv-loop μ-loop
-sub-left c = search needs
-
-loop-holds : tie.Need-loop-holds Inv-loop μ-loop
-loop-holds c = search needs
-
-add-buffer : tie.Need-add-buffer Inv-loop μ-loop
-add-buffer c = search needs
-
 slice-read-buffer : tie.Need-slice-read-buffer Inv-loop μ-loop
 slice-read-buffer c =
     let a = c .before .before .before .args in
@@ -34,12 +25,6 @@ slice-write-buffer c =
     let a = c .before .before .before .args in
     let l = c .before .before .loop in
     omega (arith, ap length (l .inv .2) ∙ moved-length (a .buffer .now) (a .start) (l .i) (omega arith))
-
-add-i : tie.Need-add-i Inv-loop μ-loop
-add-i c = search needs
-
-loop-less : tie.Need-loop-less Inv-loop μ-loop
-loop-less c = search needs
 
 loop-again : tie.Need-loop-again Inv-loop μ-loop
 loop-again c =
@@ -65,13 +50,13 @@ to-front-spec =
     (tie.spec
     Inv-loop
     μ-loop
-    sub-left
-    loop-holds
-    add-buffer
+    (λ c. search needs)
+    (λ c. search needs)
+    (λ c. search needs)
     slice-read-buffer
     slice-write-buffer
-    add-i
-    loop-less
+    (λ c. search needs)
+    (λ c. search needs)
     loop-again
     same-length
     returns)

@@ -43,37 +43,13 @@ returns c =
       written = λ e. absurd (true≢false (sym (c .if1 .taken) ∙ e));
     }
 
-slice-aggregate-decimals : tie.Need-slice-aggregate-decimals
-slice-aggregate-decimals c = search needs
-
-decimals-requires : tie.Need-decimals-requires
-decimals-requires c κs = search needs
-
-array-share-prefix-numbers : tie.Need-array-share-prefix-numbers
-array-share-prefix-numbers c = search needs
-
 slice-aggregate-write : tie.Need-slice-aggregate-write
 slice-aggregate-write c =
     let d = c .before .before .decimals in
     sym (length-take-le (d .result) (d .last .1 .0) (omega (arith, d .kept .1 .0, d .ensures .0)))
 
-sub-write : tie.Need-sub-write
-sub-write c = search needs
-
-part-write-start : tie.Need-part-write-start
-part-write-start c = search needs
-
-part-write-end : tie.Need-part-write-end
-part-write-end c = search needs
-
-write-requires : tie.Need-write-requires
-write-requires c κs = search needs
-
 add-t14 : tie.Need-add-t14
 add-t14 c = omega (arith, packed c .within)
-
-same-length : tie.Need-same-length
-same-length c = search needs
 
 returns-2 : tie.Need-returns-2
 returns-2 c = packed c
@@ -83,14 +59,14 @@ pack-line-spec =
     tie.close
     (tie.spec
     returns
-    slice-aggregate-decimals
-    decimals-requires
-    array-share-prefix-numbers
+    (λ c. search needs)
+    (λ c κs. search needs)
+    (λ c. search needs)
     slice-aggregate-write
-    sub-write
-    part-write-start
-    part-write-end
-    write-requires
+    (λ c. search needs)
+    (λ c. search needs)
+    (λ c. search needs)
+    (λ c κs. search needs)
     add-t14
-    same-length
+    (λ c. search needs)
     returns-2)

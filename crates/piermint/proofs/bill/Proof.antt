@@ -69,47 +69,14 @@ stepped c =
     rw (wrote c, put-back (l .written) (l .statements) (m .before .post .last .1 .1 .0))
     (turned (l .inv) (posts m) (turn m .loop-test .taken) (omega (arith, l .inv .within, m .before .before .before .before .if1 .left)) (same m))
 
-new-book-requires : tie.Need-new-book-requires Inv-loop μ-loop
-new-book-requires c κs = search needs
-
 loop-holds : tie.Need-loop-holds Inv-loop μ-loop
 loop-holds c = let b = c .new-book .ensures in rw (b .0) (going-none _ _ _ (rw (b .0) at (b .1)))
-
-same-length : tie.Need-same-length Inv-loop μ-loop
-same-length c = search needs
-
-same-length-2 : tie.Need-same-length-2 Inv-loop μ-loop
-same-length-2 c = search needs
 
 returns : tie.Need-returns Inv-loop μ-loop
 returns c = going-ends (c .before .before .loop .inv) (c .if1 .taken)
 
-sub-post : tie.Need-sub-post Inv-loop μ-loop
-sub-post c = search needs
-
-part-post-start : tie.Need-part-post-start Inv-loop μ-loop
-part-post-start c = search needs
-
-part-post-end : tie.Need-part-post-end Inv-loop μ-loop
-part-post-end c = search needs
-
-sub-post-2 : tie.Need-sub-post-2 Inv-loop μ-loop
-sub-post-2 c = search needs
-
-part-post-start-2 : tie.Need-part-post-start-2 Inv-loop μ-loop
-part-post-start-2 c = search needs
-
-part-post-end-2 : tie.Need-part-post-end-2 Inv-loop μ-loop
-part-post-end-2 c = search needs
-
-post-requires : tie.Need-post-requires Inv-loop μ-loop
-post-requires c κs = search needs
-
 mul-numbers : tie.Need-mul-numbers Inv-loop μ-loop
 mul-numbers c = omega (arith, turn (c .before .before))
-
-slice-write-numbers : tie.Need-slice-write-numbers Inv-loop μ-loop
-slice-write-numbers c = search needs
 
 add-answered : tie.Need-add-answered Inv-loop μ-loop
 add-answered c = omega (arith, turn (c .before .before))
@@ -119,17 +86,11 @@ add-used c =
     let m = c .before .before .before in
     omega (arith, turn m, next-within (turn m .before .loop .inv) (posts m))
 
-size-of-requires : tie.Need-size-of-requires Inv-loop μ-loop
-size-of-requires c κs = search needs
-
 add-written : tie.Need-add-written Inv-loop μ-loop
 add-written c =
     let m = c .before .before .before .before .before .before .before in
     let g = turn m .before .loop .inv in
     omega (arith, turn m, statement-within g (posts m) (same m), size-closed g (posts m) (c .before .before .if2 .taken) (c .size-of .ensures))
-
-ends-requires : tie.Need-ends-requires Inv-loop μ-loop
-ends-requires c κs = search needs
 
 same-length-3 : tie.Need-same-length-3 Inv-loop μ-loop
 same-length-3 c = rw length-set (omega (arith, turn (c .before .before .before .before .before .before .before)))
@@ -153,12 +114,6 @@ loop-again c =
       along = rw (sym (c .before .ends .ensures) ∙ c .if3 .left) at (stepped (c .before .before));
     }
 
-same-length-5 : tie.Need-same-length-5 Inv-loop μ-loop
-same-length-5 c = search needs
-
-same-length-6 : tie.Need-same-length-6 Inv-loop μ-loop
-same-length-6 c = search needs
-
 returns-3 : tie.Need-returns-3 Inv-loop μ-loop
 returns-3 c = going-full (c .before .loop .inv) (c .loop-test .left)
 
@@ -168,30 +123,30 @@ bill-spec =
     (tie.spec
     Inv-loop
     μ-loop
-    new-book-requires
+    (λ c κs. search needs)
     loop-holds
-    same-length
-    same-length-2
+    (λ c. search needs)
+    (λ c. search needs)
     returns
-    sub-post
-    part-post-start
-    part-post-end
-    sub-post-2
-    part-post-start-2
-    part-post-end-2
-    post-requires
+    (λ c. search needs)
+    (λ c. search needs)
+    (λ c. search needs)
+    (λ c. search needs)
+    (λ c. search needs)
+    (λ c. search needs)
+    (λ c κs. search needs)
     mul-numbers
-    slice-write-numbers
+    (λ c. search needs)
     add-answered
     add-used
-    size-of-requires
+    (λ c κs. search needs)
     add-written
-    ends-requires
+    (λ c κs. search needs)
     same-length-3
     same-length-4
     returns-2
     loop-less
     loop-again
-    same-length-5
-    same-length-6
+    (λ c. search needs)
+    (λ c. search needs)
     returns-3)

@@ -6,12 +6,6 @@ use borrow.Author.Needs.{needs}
 use Rattle.questions.proofs.close_number.Statement.{statement}
 use Rattle.questions.proofs.close_number.Tie as tie
 
-array-read-if1 : tie.Need-array-read-if1
-array-read-if1 c = search needs
-
-add-if1 : tie.Need-add-if1
-add-if1 c = search needs
-
 returns : tie.Need-returns
 unfolding q15
 returns c = λ l. fails 15 _ (rw (c .before .before .pre .1, ne-eqb _ _ (c .if1 .taken)))
@@ -29,4 +23,4 @@ returns-3 c =
     λ l. passes 15 _ (rw (kind, eq-eqb _ _ (c .before .if1 .left))) (passes 16 _ (rw (kind, le-leb _ _ (c .if2 .left))) all-pass)
 
 pub close-number-spec : {M : Type 1} → statement M
-close-number-spec = tie.close (tie.spec array-read-if1 add-if1 returns returns-2 returns-3)
+close-number-spec = tie.close (tie.spec (λ c. search needs) (λ c. search needs) returns returns-2 returns-3)

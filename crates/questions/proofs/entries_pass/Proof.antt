@@ -4,12 +4,6 @@ use borrow.Author.Needs.{needs}
 use Rattle.questions.proofs.entries_pass.Statement.{statement}
 use Rattle.questions.proofs.entries_pass.Tie as tie
 
-every-listed-requires : tie.Need-every-listed-requires
-every-listed-requires c κs = search needs
-
-deficits-listed-requires : tie.Need-deficits-listed-requires
-deficits-listed-requires c κs = search needs
-
 returns : tie.Need-returns
 returns c = rw (sym (c .before .before .every-listed .ensures), c .before .if1 .taken) (c .deficits-listed .ensures)
 
@@ -18,4 +12,4 @@ returns-2 c = rw (sym (c .before .every-listed .ensures), c .if1 .left)
 
 pub entries-pass-spec : {M : Type 1} → statement M
 entries-pass-spec =
-    tie.close (tie.spec every-listed-requires deficits-listed-requires returns returns-2)
+    tie.close (tie.spec (λ c κs. search needs) (λ c κs. search needs) returns returns-2)

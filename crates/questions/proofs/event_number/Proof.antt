@@ -27,23 +27,8 @@ eleven c =
     ∙ event-products (start .args .year) (start .pre .0 .terms) (start .args .t2) (start .args .listing) (start .pre .1 .0)
     (sym (time .in-time .ensures) ∙ not-false (time .in-time .result) (c .before .before .before .if2 .left)) (c .before .callable-in .ensures)
 
-array-read-in-area : tie.Need-array-read-in-area
-array-read-in-area c = search needs
-
-in-area-requires : tie.Need-in-area-requires
-in-area-requires c κs = search needs
-
-entries-pass-requires : tie.Need-entries-pass-requires
-entries-pass-requires c κs = search needs
-
 returns : tie.Need-returns
 returns c = fails 10 _ (sym (ten (c .before)) ∙ not-true (c .before .entries-pass .result) (c .if1 .taken))
-
-array-read-in-time : tie.Need-array-read-in-time
-array-read-in-time c = search needs
-
-in-time-requires : tie.Need-in-time-requires
-in-time-requires c κs = search needs
 
 returns-2 : tie.Need-returns-2
 returns-2 c =
@@ -51,18 +36,6 @@ returns-2 c =
     passes 10 _ (ten-passes (c .before .before))
     (fails 11 _ (event-late (start .args .year) (start .pre .0 .terms) (start .args .t2) (start .args .listing) (start .pre .1 .0)
     (sym (c .before .in-time .ensures) ∙ not-true (c .before .in-time .result) (c .if2 .taken))))
-
-array-read-callable-in : tie.Need-array-read-callable-in
-array-read-callable-in c = search needs
-
-array-read-callable-in-2 : tie.Need-array-read-callable-in-2
-array-read-callable-in-2 c = search needs
-
-callable-in-requires : tie.Need-callable-in-requires
-callable-in-requires c κs = search needs
-
-every-listed-requires : tie.Need-every-listed-requires
-every-listed-requires c κs = search needs
 
 returns-3 : tie.Need-returns-3
 returns-3 c =
@@ -87,17 +60,17 @@ pub event-number-spec : {M : Type 1} → statement M
 event-number-spec =
     tie.close
     (tie.spec
-    array-read-in-area
-    in-area-requires
-    entries-pass-requires
+    (λ c. search needs)
+    (λ c κs. search needs)
+    (λ c κs. search needs)
     returns
-    array-read-in-time
-    in-time-requires
+    (λ c. search needs)
+    (λ c κs. search needs)
     returns-2
-    array-read-callable-in
-    array-read-callable-in-2
-    callable-in-requires
-    every-listed-requires
+    (λ c. search needs)
+    (λ c. search needs)
+    (λ c κs. search needs)
+    (λ c κs. search needs)
     returns-3
     returns-4
     returns-5)

@@ -6,12 +6,6 @@ use borrow.Author.Needs.{needs}
 use Rattle.questions.proofs.in_time.Statement.{statement}
 use Rattle.questions.proofs.in_time.Tie as tie
 
-add-if1 : tie.Need-add-if1
-add-if1 c = search needs
-
-event-end-requires : tie.Need-event-end-requires
-event-end-requires c κs = search needs
-
 returns : tie.Need-returns
 unfolding inTime
 returns c = rw (le-leb _ _ (c .before .if1 .taken), sym (c .event-end .ensures))
@@ -21,4 +15,4 @@ unfolding inTime
 returns-2 c = rw (lt-leb _ _ (c .if1 .left))
 
 pub in-time-spec : {M : Type 1} → statement M
-in-time-spec = tie.close (tie.spec add-if1 event-end-requires returns returns-2)
+in-time-spec = tie.close (tie.spec (λ c. search needs) (λ c κs. search needs) returns returns-2)

@@ -5,15 +5,6 @@ use borrow.Author.Needs.{needs}
 use Rattle.questions.proofs.lists_uncalled.Statement.{statement}
 use Rattle.questions.proofs.lists_uncalled.Tie as tie
 
-calls-of-requires : tie.Need-calls-of-requires
-calls-of-requires c κs = search needs
-
-left-requires : tie.Need-left-requires
-left-requires c κs = search needs
-
-lists-exactly-requires : tie.Need-lists-exactly-requires
-lists-exactly-requires c κs = search needs
-
 returns : tie.Need-returns
 returns c =
     let a = c .before .before .before .before .before .before .before .before .args in
@@ -22,4 +13,4 @@ returns c =
 
 pub lists-uncalled-spec : {M : Type 1} → statement M
 lists-uncalled-spec =
-    tie.close (tie.spec calls-of-requires left-requires lists-exactly-requires returns)
+    tie.close (tie.spec (λ c κs. search needs) (λ c κs. search needs) (λ c κs. search needs) returns)

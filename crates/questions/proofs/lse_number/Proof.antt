@@ -11,15 +11,6 @@ returns : tie.Need-returns
 unfolding q7
 returns c = λ l. fails 7 _ (rw (c .before .pre .0, c .if1 .taken))
 
-array-read-id : tie.Need-array-read-id
-array-read-id c = search needs
-
-mul-if2 : tie.Need-mul-if2
-mul-if2 c = search needs
-
-element-copy-out-if2 : tie.Need-element-copy-out-if2
-element-copy-out-if2 c = search needs
-
 returns-2 : tie.Need-returns-2
 unfolding q7 q9 obligation
 returns-2 c =
@@ -32,4 +23,4 @@ returns-3 c =
 
 pub lse-number-spec : {M : Type 1} → statement M
 lse-number-spec =
-    tie.close (tie.spec returns array-read-id mul-if2 element-copy-out-if2 returns-2 returns-3)
+    tie.close (tie.spec returns (λ c. search needs) (λ c. search needs) (λ c. search needs) returns-2 returns-3)

@@ -23,9 +23,6 @@ parties c =
     let other = c .before .any-lse in
     rw (sym (one .ensures), not-false (one .result) (c .before .before .if7 .left), sym (other .ensures), not-false (other .result) (c .if8 .left))
 
-array-read-kind : tie.Need-array-read-kind
-array-read-kind c = search needs
-
 returns : tie.Need-returns
 returns c =
     let a = c .before .before .args in
@@ -62,12 +59,6 @@ returns-5 c =
     to-lse (a .year) (a .t2) (a .listing) (a .room) (c .before .if6 .taken)
     (passes 6 _ (is-open (c .before .before .before)) (c .lse-number .ensures (a .listing)))
 
-any-registration-requires : tie.Need-any-registration-requires
-any-registration-requires c κs = search needs
-
-any-lse-requires : tie.Need-any-lse-requires
-any-lse-requires c κs = search needs
-
 returns-6 : tie.Need-returns-6
 returns-6 c =
     let start = c .before .before .before .before .before .before .before .before .before .before in
@@ -99,9 +90,6 @@ returns-8 c =
     to-test (a .year) (a .t2) (a .listing) (a .room) (c .before .if10 .taken)
     (passes 6 _ (is-open (c .before .before .before .before .before .before .before .before .before .before)) (passes 8 _ (parties (c .before .before .before)) (c .test-number .ensures)))
 
-close-number-requires : tie.Need-close-number-requires
-close-number-requires c κs = search needs
-
 returns-9 : tie.Need-returns-9
 returns-9 c =
     let start = c .before .before .before .before .before .before .before .before .before .before .before .before .before .before .before in
@@ -113,7 +101,7 @@ pub number-of-spec : {M : Type 1} → statement M
 number-of-spec =
     tie.close
     (tie.spec
-    array-read-kind
+    (λ c. search needs)
     returns
     returns-2
     returns-3
@@ -121,12 +109,12 @@ number-of-spec =
     returns-4
     lse-number-requires
     returns-5
-    any-registration-requires
-    any-lse-requires
+    (λ c κs. search needs)
+    (λ c κs. search needs)
     returns-6
     event-number-requires
     returns-7
     test-number-requires
     returns-8
-    close-number-requires
+    (λ c κs. search needs)
     returns-9)

@@ -10,15 +10,6 @@ returns : tie.Need-returns
 unfolding q7
 returns c = λ l. fails 7 _ (rw (c .before .pre .0, c .if1 .taken))
 
-array-read-id : tie.Need-array-read-id
-array-read-id c = search needs
-
-mul-r : tie.Need-mul-r
-mul-r c = search needs
-
-element-copy-out-r : tie.Need-element-copy-out-r
-element-copy-out-r c = search needs
-
 returns-2 : tie.Need-returns-2
 unfolding q7 q9 known
 returns-2 c =
@@ -31,4 +22,4 @@ returns-3 c =
 
 pub registration-number-spec : {M : Type 1} → statement M
 registration-number-spec =
-    tie.close (tie.spec returns array-read-id mul-r element-copy-out-r returns-2 returns-3)
+    tie.close (tie.spec returns (λ c. search needs) (λ c. search needs) (λ c. search needs) returns-2 returns-3)

@@ -34,26 +34,8 @@ fourteen c =
     let group = c .before .before .before .before .before .before .before .before .in-group .ensures in
     c .lists-uncalled .ensures ∙ test-uncalled (start .args .t1) (start .pre .0 .terms) (start .args .t2) (start .args .listing) (start .pre .1 .0) group
 
-array-read-in-group : tie.Need-array-read-in-group
-array-read-in-group c = search needs
-
-array-read-in-group-2 : tie.Need-array-read-in-group-2
-array-read-in-group-2 c = search needs
-
-in-group-requires : tie.Need-in-group-requires
-in-group-requires c κs = search needs
-
-entries-pass-requires : tie.Need-entries-pass-requires
-entries-pass-requires c κs = search needs
-
 returns : tie.Need-returns
 returns c = fails 10 _ (sym (ten (c .before)) ∙ not-true (c .before .entries-pass .result) (c .if1 .taken))
-
-add-if2 : tie.Need-add-if2
-add-if2 c = search needs
-
-array-read-if2 : tie.Need-array-read-if2
-array-read-if2 c = search needs
 
 returns-2 : tie.Need-returns-2
 returns-2 c =
@@ -61,44 +43,14 @@ returns-2 c =
     passes 10 _ (ten-passes (c .before))
     (fails 11 _ (test-early (start .args .t1) (start .pre .0 .terms) (start .args .t2) (start .args .listing) (start .pre .1 .0) (c .if2 .taken)))
 
-array-read-testable : tie.Need-array-read-testable
-array-read-testable c = search needs
-
-array-read-testable-2 : tie.Need-array-read-testable-2
-array-read-testable-2 c = search needs
-
-testable-requires : tie.Need-testable-requires
-testable-requires c κs = search needs
-
 returns-3 : tie.Need-returns-3
 returns-3 c =
     passes 10 _ (ten-passes (c .before .before .before)) (fails 11 _ (sym (eleven (c .before)) ∙ not-true (c .before .testable .result) (c .if3 .taken)))
-
-array-read-place : tie.Need-array-read-place
-array-read-place c = search needs
-
-mul-place : tie.Need-mul-place
-mul-place c = search needs
-
-array-read-place-2 : tie.Need-array-read-place-2
-array-read-place-2 c = search needs
-
-add-place : tie.Need-add-place
-add-place c = search needs
-
-mul-test : tie.Need-mul-test
-mul-test c = search needs
-
-element-copy-out-test : tie.Need-element-copy-out-test
-element-copy-out-test c = search needs
 
 returns-4 : tie.Need-returns-4
 unfolding q13
 returns-4 c =
     passes 10 _ (ten-passes (c .before .before .before .before .before)) (passes 11 _ (eleven-passes (c .before .before)) (fails 13 _ (rw (c .before .before .before .before .before .before .before .before .before .pre .1 .0, c .if4 .taken))))
-
-lists-uncalled-requires : tie.Need-lists-uncalled-requires
-lists-uncalled-requires c κs = search needs
 
 returns-5 : tie.Need-returns-5
 unfolding q13
@@ -116,25 +68,25 @@ pub test-number-spec : {M : Type 1} → statement M
 test-number-spec =
     tie.close
     (tie.spec
-    array-read-in-group
-    array-read-in-group-2
-    in-group-requires
-    entries-pass-requires
+    (λ c. search needs)
+    (λ c. search needs)
+    (λ c κs. search needs)
+    (λ c κs. search needs)
     returns
-    add-if2
-    array-read-if2
+    (λ c. search needs)
+    (λ c. search needs)
     returns-2
-    array-read-testable
-    array-read-testable-2
-    testable-requires
+    (λ c. search needs)
+    (λ c. search needs)
+    (λ c κs. search needs)
     returns-3
-    array-read-place
-    mul-place
-    array-read-place-2
-    add-place
-    mul-test
-    element-copy-out-test
+    (λ c. search needs)
+    (λ c. search needs)
+    (λ c. search needs)
+    (λ c. search needs)
+    (λ c. search needs)
+    (λ c. search needs)
     returns-4
-    lists-uncalled-requires
+    (λ c κs. search needs)
     returns-5
     returns-6)

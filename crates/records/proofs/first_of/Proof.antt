@@ -9,11 +9,5 @@ use Rattle.records.proofs.first_of.Tie as tie
 returns : tie.Need-returns
 returns c = sym (List·getD-eq-default (c .before .args .numbers .now) 0 {n = 0} (omega arith))
 
-shared-slice-read-result : tie.Need-shared-slice-read-result
-shared-slice-read-result c = search needs
-
-returns-2 : tie.Need-returns-2
-returns-2 c = search needs
-
 pub first-of-spec : {M : Type 1} → statement M
-first-of-spec = tie.close (tie.spec shared-slice-read-result returns returns-2)
+first-of-spec = tie.close (tie.spec (λ c. search needs) returns (λ c. search needs))

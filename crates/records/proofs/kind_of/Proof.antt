@@ -11,12 +11,9 @@ returns : tie.Need-returns
 unfolding kindOf
 returns c = sym (field-past (c .before .before .args .bytes .now) 0 4 (omega arith))
 
-take-requires : tie.Need-take-requires
-take-requires c κs = search needs
-
 returns-2 : tie.Need-returns-2
 unfolding kindOf
 returns-2 c = c .take .ensures .value
 
 pub kind-of-spec : {M : Type 1} → statement M
-kind-of-spec = tie.close (tie.spec returns take-requires returns-2)
+kind-of-spec = tie.close (tie.spec returns (λ c κs. search needs) returns-2)

@@ -13,15 +13,6 @@ use Rattle.records.proofs.parse_into.Tie as tie
 headed-at : (c : tie.After-shape-of) → Headed (c .before .before .before .before .before .before .before .before .before .before .before .args .bytes .now) (c .before .before .before .before .take-head .last .1 .1 .0) (c .shape-of .result)
 headed-at c = headed _ _ _ (c .before .before .before .before .before .before .before .before .kind-of .result) (c .before .before .before .before .before .before .before .before .kind-of .ensures) (sym (c .before .before .before .before .before .before .before .is-kind .ensures) ∙ not-false _ (c .before .before .before .before .before .before .if1 .left)) (c .before .before .before .before .take-head .ensures) (c .shape-of .ensures)
 
-kind-of-requires : tie.Need-kind-of-requires
-kind-of-requires c κs = search needs
-
-is-kind-requires : tie.Need-is-kind-requires
-is-kind-requires c κs = search needs
-
-refused-requires : tie.Need-refused-requires
-refused-requires c κs = search needs
-
 returns : tie.Need-returns
 returns c =
     let none = ap isKind (sym (c .before .before .before .kind-of .ensures)) ∙ sym (c .before .before .is-kind .ensures) ∙ not-true _ (c .before .if1 .taken) in
@@ -40,12 +31,6 @@ shape-of-requires c κs =
 size-of-requires : tie.Need-size-of-requires
 size-of-requires c κs = headed-sized (headed-at c)
 
-refused-requires-2 : tie.Need-refused-requires-2
-refused-requires-2 c κs = search needs
-
-same-length : tie.Need-same-length
-same-length c = search needs
-
 returns-2 : tie.Need-returns-2
 returns-2 c =
     let h = headed-at (c .before .before .before) in
@@ -55,12 +40,6 @@ head-permitted-requires : tie.Need-head-permitted-requires
 head-permitted-requires c κs =
     let first = sym (c .before .before .before .before .before .before .before .before .before .before .is-kind .ensures) ∙ not-false _ (c .before .before .before .before .before .before .before .before .before .if1 .left) in
     (kind-small _ first, head-long (c .before .before .before .before .before .before .before .before .before .before .before .before .before .before .args .bytes .now) (c .before .before .before .before .before .before .before .before .before .before .before .kind-of .result) (c .before .before .before .before .before .before .before .take-head .ensures))
-
-refused-requires-3 : tie.Need-refused-requires-3
-refused-requires-3 c κs = search needs
-
-same-length-2 : tie.Need-same-length-2
-same-length-2 c = search needs
 
 returns-3 : tie.Need-returns-3
 returns-3 c =
@@ -75,30 +54,24 @@ parse-whole-requires c κs =
     let yes = rw (c .before .before .before .before .before .before .before .before .before .before .before .before .before .before .kind-of .ensures) at (sym (c .before .before .head-permitted .ensures)) ∙ not-false _ (c .before .if3 .left) in
     (headed-made h (rw (c .before .before .before .before .before .size-of .ensures) at (c .before .before .before .before .if2 .left)) yes, rw (c .before .before .before .before .before .before .shape-of .ensures .kind) (c .before .before .before .before .before .before .before .before .before .before .take-head .ensures))
 
-same-length-3 : tie.Need-same-length-3
-same-length-3 c = search needs
-
-returns-4 : tie.Need-returns-4
-returns-4 c = search needs
-
 pub parse-into-spec : {M : Type 1} → statement M
 parse-into-spec =
     tie.close
     (tie.spec
-    kind-of-requires
-    is-kind-requires
-    refused-requires
+    (λ c κs. search needs)
+    (λ c κs. search needs)
+    (λ c κs. search needs)
     returns
     take-head-requires
     shape-of-requires
     size-of-requires
-    refused-requires-2
-    same-length
+    (λ c κs. search needs)
+    (λ c. search needs)
     returns-2
     head-permitted-requires
-    refused-requires-3
-    same-length-2
+    (λ c κs. search needs)
+    (λ c. search needs)
     returns-3
     parse-whole-requires
-    same-length-3
-    returns-4)
+    (λ c. search needs)
+    (λ c. search needs))

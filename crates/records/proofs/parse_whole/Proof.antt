@@ -18,12 +18,6 @@ take-lists-requires c κs = let w = c .before .before .before .before .pre .0 in
 lists-permitted-requires : tie.Need-lists-permitted-requires
 lists-permitted-requires c κs = let w = c .before .before .before .before .before .before .before .before .pre .0 in (w .sized, whole-long w (c .before .before .before .take-lists .ensures ∙ whole-values w))
 
-refused-requires : tie.Need-refused-requires
-refused-requires c κs = search needs
-
-same-length : tie.Need-same-length
-same-length c = search needs
-
 returns : tie.Need-returns
 returns c =
     let w = c .before .before .before .before .before .before .before .before .before .before .before .pre .0 in
@@ -43,12 +37,6 @@ is-filled-requires c κs =
     let e = c .bits-of .ensures in
     (rw e (whole-bytes w), omega (arith, total-rules (s .kind) (s .deficits) (s .entries), head-small (s .kind)))
 
-refused-requires-2 : tie.Need-refused-requires-2
-refused-requires-2 c κs = search needs
-
-same-length-2 : tie.Need-same-length-2
-same-length-2 c = search needs
-
 returns-2 : tie.Need-returns-2
 returns-2 c =
     let w = c .before .before .before .before .before .before .before .before .before .before .before .before .before .before .pre .0 in
@@ -60,12 +48,6 @@ returns-2 c =
 
 lists-rise-requires : tie.Need-lists-rise-requires
 lists-rise-requires c κs = let w = c .before .before .before .before .before .before .before .before .before .before .before .before .before .before .pre .0 in (w .sized, whole-long w (c .before .before .before .before .before .before .before .before .before .take-lists .ensures ∙ whole-values w))
-
-refused-requires-3 : tie.Need-refused-requires-3
-refused-requires-3 c κs = search needs
-
-same-length-3 : tie.Need-same-length-3
-same-length-3 c = search needs
 
 returns-3 : tie.Need-returns-3
 returns-3 c =
@@ -79,9 +61,6 @@ returns-3 c =
 
 count-of-requires : tie.Need-count-of-requires
 count-of-requires c κs = c .before .before .before .before .before .before .before .before .before .before .before .before .before .before .before .before .pre .0 .sized
-
-same-length-4 : tie.Need-same-length-4
-same-length-4 c = search needs
 
 returns-4 : tie.Need-returns-4
 returns-4 c =
@@ -101,18 +80,18 @@ parse-whole-spec =
     size-of-requires
     take-lists-requires
     lists-permitted-requires
-    refused-requires
-    same-length
+    (λ c κs. search needs)
+    (λ c. search needs)
     returns
     bits-of-requires
     is-filled-requires
-    refused-requires-2
-    same-length-2
+    (λ c κs. search needs)
+    (λ c. search needs)
     returns-2
     lists-rise-requires
-    refused-requires-3
-    same-length-3
+    (λ c κs. search needs)
+    (λ c. search needs)
     returns-3
     count-of-requires
-    same-length-4
+    (λ c. search needs)
     returns-4)

@@ -14,35 +14,17 @@ use Rattle.records.proofs.Laying.{laid-places, laid-lengths, laid-valid
 use Rattle.records.proofs.put_record.Statement.{statement}
 use Rattle.records.proofs.put_record.Tie as tie
 
-start-at-requires : tie.Need-start-at-requires
-start-at-requires c κs = search needs
-
 add-end : tie.Need-add-end
 add-end c =
     let s = c .before .before .before .before .args .s in
     let w = c .before .before .before .before .pre .0 in
     omega (arith, head-ends (s .kind) (w .sized .kind), c .before .start-at .ensures, w .sized .count)
 
-widths-of-heads-requires : tie.Need-widths-of-heads-requires
-widths-of-heads-requires c κs = search needs
-
-mul-second : tie.Need-mul-second
-mul-second c = search needs
-
 add-second : tie.Need-add-second
 add-second c =
     let s = c .before .before .before .before .before .before .args .s in
     let w = c .before .before .before .before .before .before .pre .0 in
     omega (arith, head-small (s .kind), w .sized .count)
-
-new-requires : tie.Need-new-requires
-new-requires c κs = search needs
-
-sub-put-all : tie.Need-sub-put-all
-sub-put-all c = search needs
-
-part-put-all-start : tie.Need-part-put-all-start
-part-put-all-start c = search needs
 
 part-put-all-end : tie.Need-part-put-all-end
 part-put-all-end c =
@@ -72,12 +54,6 @@ mul-put-pairs c =
     let s = c .before .before .before .before .before .before .before .before .before .before .before .before .before .before .before .args .s in
     let w = c .before .before .before .before .before .before .before .before .before .before .before .before .before .before .before .pre .0 in
     omega (arith, head-small (s .kind), w .sized .count)
-
-sub-put-pairs : tie.Need-sub-put-pairs
-sub-put-pairs c = search needs
-
-part-put-pairs-start : tie.Need-part-put-pairs-start
-part-put-pairs-start c = search needs
 
 part-put-pairs-end : tie.Need-part-put-pairs-end
 part-put-pairs-end c =
@@ -112,9 +88,6 @@ part-put-pairs-start-2 c =
     let s = c .before .before .before .before .before .before .before .before .before .before .before .before .before .before .before .before .before .before .before .before .args .s in
     let w = c .before .before .before .before .before .before .before .before .before .before .before .before .before .before .before .before .before .before .before .before .pre .0 in
     omega (arith, laid-places w)
-
-part-put-pairs-end-2 : tie.Need-part-put-pairs-end-2
-part-put-pairs-end-2 c = search needs
 
 put-pairs-requires-2 : tie.Need-put-pairs-requires-2
 put-pairs-requires-2 c κs =
@@ -153,9 +126,6 @@ finish-requires c κs =
     let enough : writtenBits (c .before .before .before .put-pairs2 .result) ≤ 8 * length (c .before .before .before .put-pairs2 .last .1 .0) = omega arith in
     (h .ready, enough)
 
-same-length : tie.Need-same-length
-same-length c = search needs
-
 returns : tie.Need-returns
 returns c =
     let s = c .before .before .before .before .before .before .before .before .before .before .before .before .before .before .before .before .before .before .before .before .before .before .before .before .before .before .before .before .args .s in
@@ -168,27 +138,27 @@ pub put-record-spec : {M : Type 1} → statement M
 put-record-spec =
     tie.close
     (tie.spec
-    start-at-requires
+    (λ c κs. search needs)
     add-end
-    widths-of-heads-requires
-    mul-second
+    (λ c κs. search needs)
+    (λ c. search needs)
     add-second
-    new-requires
-    sub-put-all
-    part-put-all-start
+    (λ c κs. search needs)
+    (λ c. search needs)
+    (λ c. search needs)
     part-put-all-end
     slice-aggregate-put-all
     put-all-requires
     mul-put-pairs
-    sub-put-pairs
-    part-put-pairs-start
+    (λ c. search needs)
+    (λ c. search needs)
     part-put-pairs-end
     put-pairs-requires
     mul-put-pairs-2
     sub-put-pairs-2
     part-put-pairs-start-2
-    part-put-pairs-end-2
+    (λ c. search needs)
     put-pairs-requires-2
     finish-requires
-    same-length
+    (λ c. search needs)
     returns)

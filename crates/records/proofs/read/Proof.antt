@@ -9,14 +9,8 @@ use Rattle.records.proofs.Reading.{read-fails, read-short, read-full, r
 use Rattle.records.proofs.read.Statement.{statement}
 use Rattle.records.proofs.read.Tie as tie
 
-slice-aggregate-parse-into : tie.Need-slice-aggregate-parse-into
-slice-aggregate-parse-into c = search needs
-
 parse-into-requires : tie.Need-parse-into-requires
 parse-into-requires c κs = refl
-
-refused-requires : tie.Need-refused-requires
-refused-requires c κs = search needs
 
 returns : tie.Need-returns
 returns c =
@@ -25,17 +19,11 @@ returns c =
     let u = c .refused .ensures in
     rejects _ (u .0 ∙ p .numbers) (u .1) (u .2) refl (λ e. some (p .numbers ∙ e)) (read-fails _ _ (λ e. some (p .numbers ∙ e)))
 
-refused-requires-2 : tie.Need-refused-requires-2
-refused-requires-2 c κs = search needs
-
 returns-2 : tie.Need-returns-2
 returns-2 c =
     let p = c .before .before .before .before .before .parse-into .ensures in
     let u = c .refused2 .ensures in
     rejects 16 (u .0) (u .1) (u .2) refl (λ e. omega arith) (read-short _ _ (sym (p .numbers) ∙ c .before .before .if1 .left) (c .before .if2 .taken))
-
-slice-aggregate-copy-front : tie.Need-slice-aggregate-copy-front
-slice-aggregate-copy-front c = search needs
 
 copy-front-requires : tie.Need-copy-front-requires
 copy-front-requires c κs =
@@ -45,9 +33,6 @@ copy-front-requires c κs =
     let few = numbers-few bytes (accepted bytes (sym (p .numbers) ∙ none)) in
     let n = p .counts none in
     (omega (arith, row-long (numbersOf bytes), ap length (p .rows none)), omega arith)
-
-same-length : tie.Need-same-length
-same-length c = search needs
 
 returns-3 : tie.Need-returns-3
 returns-3 c =
@@ -62,13 +47,13 @@ pub read-spec : {M : Type 1} → statement M
 read-spec =
     tie.close
     (tie.spec
-    slice-aggregate-parse-into
+    (λ c. search needs)
     parse-into-requires
-    refused-requires
+    (λ c κs. search needs)
     returns
-    refused-requires-2
+    (λ c κs. search needs)
     returns-2
-    slice-aggregate-copy-front
+    (λ c. search needs)
     copy-front-requires
-    same-length
+    (λ c. search needs)
     returns-3)

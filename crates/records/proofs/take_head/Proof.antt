@@ -12,23 +12,8 @@ use Rattle.records.proofs.Tables.{head-ends, part-is}
 use Rattle.records.proofs.take_head.Statement.{statement}
 use Rattle.records.proofs.take_head.Tie as tie
 
-start-at-requires : tie.Need-start-at-requires
-start-at-requires c κs = search needs
-
-count-at-requires : tie.Need-count-at-requires
-count-at-requires c κs = search needs
-
 add-end : tie.Need-add-end
 add-end c = omega (arith, head-ends (c .before .before .before .before .args .kind) (c .before .before .before .before .pre .1 .0), c .before .start-at .ensures, c .count-at .ensures)
-
-widths-of-heads-requires : tie.Need-widths-of-heads-requires
-widths-of-heads-requires c κs = search needs
-
-sub-take-front : tie.Need-sub-take-front
-sub-take-front c = search needs
-
-part-take-front-start : tie.Need-part-take-front-start
-part-take-front-start c = search needs
 
 part-take-front-end : tie.Need-part-take-front-end
 part-take-front-end c = omega (arith, head-ends (c .before .before .before .before .before .before .args .kind) (c .before .before .before .before .before .before .pre .1 .0), c .before .before .before .start-at .ensures, c .before .before .count-at .ensures, ap length (c .before .widths-of-heads .ensures))
@@ -40,9 +25,6 @@ take-front-requires c κs =
     let small = head-small k in
     rw part (c .before .before .before .before .before .before .before .before .pre .0, (narrow-sound (head k) (sound-heads k), (omega arith, omega (arith, length-widths (head k), ap length (c .before .before .before .before .before .before .before .before .pre .1 .1), length-replicate {A = ℕ} most 0))))
 
-same-length : tie.Need-same-length
-same-length c = search needs
-
 returns : tie.Need-returns
 returns c =
     let k = c .before .before .before .before .before .before .before .before .before .before .before .args .kind in
@@ -53,13 +35,13 @@ pub take-head-spec : {M : Type 1} → statement M
 take-head-spec =
     tie.close
     (tie.spec
-    start-at-requires
-    count-at-requires
+    (λ c κs. search needs)
+    (λ c κs. search needs)
     add-end
-    widths-of-heads-requires
-    sub-take-front
-    part-take-front-start
+    (λ c κs. search needs)
+    (λ c. search needs)
+    (λ c. search needs)
     part-take-front-end
     take-front-requires
-    same-length
+    (λ c. search needs)
     returns)

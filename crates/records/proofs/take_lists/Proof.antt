@@ -30,9 +30,6 @@ take-pairs-requires c κs =
     let fit : Fit bytes (s .bits) (pairs 4 20 (s .deficits)) = record { narrows = narrow-lists (s .deficits) .0; within = omega (arith, total-pairs 4 20 (s .deficits)); small = omega (arith, total-pairs 4 20 (s .deficits)) } in
     (fit, (omega arith, omega (arith, ap length (p .1 .1 .1))))
 
-mul-take-pairs : tie.Need-mul-take-pairs
-mul-take-pairs c = search needs
-
 add-take-pairs : tie.Need-add-take-pairs
 add-take-pairs c =
     let s = c .before .before .before .before .before .before .before .before .before .args .s in
@@ -62,9 +59,6 @@ take-pairs-requires-2 c κs =
     let fit : Fit bytes (c .before .before .before .before .before .take-pairs .result .at) (pairs 6 17 (s .entries)) = record { narrows = narrow-lists (s .entries) .1; within = omega (arith, total-pairs 6 17 (s .entries)); small = omega (arith, total-pairs 6 17 (s .entries)) } in
     (fit, (omega arith, omega (arith, ap length values)))
 
-same-length : tie.Need-same-length
-same-length c = search needs
-
 returns : tie.Need-returns
 returns c =
     let s = c .before .before .before .before .before .before .before .before .before .before .before .before .args .s in
@@ -91,8 +85,8 @@ take-lists-spec =
     tie.close
     (tie.spec
     take-pairs-requires
-    mul-take-pairs
+    (λ c. search needs)
     add-take-pairs
     take-pairs-requires-2
-    same-length
+    (λ c. search needs)
     returns)

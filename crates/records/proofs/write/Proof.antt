@@ -23,15 +23,6 @@ numbered-at c =
       shaped = rw k at (c .shape-of .ensures);
     }
 
-first-of-requires : tie.Need-first-of-requires
-first-of-requires c κs = search needs
-
-is-kind-requires : tie.Need-is-kind-requires
-is-kind-requires c κs = search needs
-
-unwritten-requires : tie.Need-unwritten-requires
-unwritten-requires c κs = search needs
-
 returns : tie.Need-returns
 returns c =
     let none = rw (c .before .before .before .first-of .ensures) at (sym (c .before .before .is-kind .ensures)) ∙ not-true _ (c .before .if1 .taken) in
@@ -41,9 +32,6 @@ returns c =
 count-at-requires : tie.Need-count-at-requires
 count-at-requires c κs = kind-small _ (sym (c .before .is-kind .ensures) ∙ not-false _ (c .if1 .left))
 
-unwritten-requires-2 : tie.Need-unwritten-requires-2
-unwritten-requires-2 c κs = search needs
-
 returns-2 : tie.Need-returns-2
 returns-2 c =
     let u = c .unwritten2 .ensures in
@@ -52,9 +40,6 @@ returns-2 c =
 
 head-permitted-requires : tie.Need-head-permitted-requires
 head-permitted-requires c κs = (kind-small _ (sym (c .before .before .before .is-kind .ensures) ∙ not-false _ (c .before .before .if1 .left)), rw (← c .before .count-at .ensures) (c .if2 .left))
-
-unwritten-requires-3 : tie.Need-unwritten-requires-3
-unwritten-requires-3 c κs = search needs
 
 returns-3 : tie.Need-returns-3
 returns-3 c =
@@ -68,9 +53,6 @@ shape-of-requires c κs = (kind-small _ (sym (c .before .before .before .before 
 count-of-requires : tie.Need-count-of-requires
 count-of-requires c κs = numbered-sized (numbered-at c)
 
-unwritten-requires-4 : tie.Need-unwritten-requires-4
-unwritten-requires-4 c κs = search needs
-
 returns-4 : tie.Need-returns-4
 returns-4 c =
     let h = numbered-at (c .before .before .before) in
@@ -83,9 +65,6 @@ returns-4 c =
 lists-permitted-requires : tie.Need-lists-permitted-requires
 lists-permitted-requires c κs = (numbered-sized (numbered-at (c .before .before)), omega (arith, c .if4 .left, c .before .count-of .ensures))
 
-unwritten-requires-5 : tie.Need-unwritten-requires-5
-unwritten-requires-5 c κs = search needs
-
 returns-5 : tie.Need-returns-5
 returns-5 c =
     let h = numbered-at (c .before .before .before .before .before) in
@@ -95,9 +74,6 @@ returns-5 c =
 
 lists-rise-requires : tie.Need-lists-rise-requires
 lists-rise-requires c κs = (numbered-sized (numbered-at (c .before .before .before .before)), omega (arith, c .before .before .if4 .left, c .before .before .before .count-of .ensures))
-
-unwritten-requires-6 : tie.Need-unwritten-requires-6
-unwritten-requires-6 c κs = search needs
 
 returns-6 : tie.Need-returns-6
 returns-6 c =
@@ -110,9 +86,6 @@ returns-6 c =
 
 size-of-requires : tie.Need-size-of-requires
 size-of-requires c κs = numbered-sized (numbered-at (c .before .before .before .before .before .before))
-
-unwritten-requires-7 : tie.Need-unwritten-requires-7
-unwritten-requires-7 c κs = search needs
 
 returns-7 : tie.Need-returns-7
 returns-7 c =
@@ -133,9 +106,6 @@ put-record-requires c κs =
     let passed : Passed (c .before .before .before .before .before .before .before .before .before .before .before .before .before .before .before .before .before .before .before .args .numbers .now) (c .before .before .before .before .before .before .before .before .before .shape-of .result) = record { sized = numbered-sized h; rules = numbered-rules h; first = h .first; counted = count; permits = permits; rising = rising } in
     (passed, rw (← c .before .before .size-of .ensures) (c .before .if7 .left))
 
-same-length : tie.Need-same-length
-same-length c = search needs
-
 returns-8 : tie.Need-returns-8
 returns-8 c =
     let h = numbered-at (c .before .before .before .before .before .before .before .before .before .before .before .before) in
@@ -150,29 +120,29 @@ pub write-spec : {M : Type 1} → statement M
 write-spec =
     tie.close
     (tie.spec
-    first-of-requires
-    is-kind-requires
-    unwritten-requires
+    (λ c κs. search needs)
+    (λ c κs. search needs)
+    (λ c κs. search needs)
     returns
     count-at-requires
-    unwritten-requires-2
+    (λ c κs. search needs)
     returns-2
     head-permitted-requires
-    unwritten-requires-3
+    (λ c κs. search needs)
     returns-3
     shape-of-requires
     count-of-requires
-    unwritten-requires-4
+    (λ c κs. search needs)
     returns-4
     lists-permitted-requires
-    unwritten-requires-5
+    (λ c κs. search needs)
     returns-5
     lists-rise-requires
-    unwritten-requires-6
+    (λ c κs. search needs)
     returns-6
     size-of-requires
-    unwritten-requires-7
+    (λ c κs. search needs)
     returns-7
     put-record-requires
-    same-length
+    (λ c. search needs)
     returns-8)

@@ -7,23 +7,11 @@ use Rattle.report.specs.Pasted.{none}
 use Rattle.report.proofs.answer_lines.Statement.{statement}
 use Rattle.report.proofs.answer_lines.Tie as tie
 
-refusal-line-requires : tie.Need-refusal-line-requires
-refusal-line-requires c κs = search needs
-
-same-length : tie.Need-same-length
-same-length c = search needs
-
 returns : tie.Need-returns
 unfolding answerLines
 returns c =
     let a = c .before .before .before .before .before .before .before .args in
     rw (ne-eqb (a .number) 0 (c .before .before .before .before .if1 .taken)) (c .before .before .refusal-line .ensures)
-
-statement-lines-requires : tie.Need-statement-lines-requires
-statement-lines-requires c κs = search needs
-
-same-length-2 : tie.Need-same-length-2
-same-length-2 c = search needs
 
 returns-2 : tie.Need-returns-2
 unfolding answerLines
@@ -41,10 +29,10 @@ pub answer-lines-spec : {M : Type 1} → statement M
 answer-lines-spec =
     tie.close
     (tie.spec
-    refusal-line-requires
-    same-length
+    (λ c κs. search needs)
+    (λ c. search needs)
     returns
-    statement-lines-requires
-    same-length-2
+    (λ c κs. search needs)
+    (λ c. search needs)
     returns-2
     returns-3)

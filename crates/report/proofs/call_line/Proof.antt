@@ -7,9 +7,6 @@ use Rattle.report.specs.TextLaws.{decimal-length}
 use Rattle.report.proofs.call_line.Statement.{statement}
 use Rattle.report.proofs.call_line.Tie as tie
 
-put-decimal-requires : tie.Need-put-decimal-requires
-put-decimal-requires c κs = search needs
-
 put-number-requires : tie.Need-put-number-requires
 put-number-requires c κs =
     omega (arith, decimal-length (c .before .before .before .before .before .before .before .args .number))
@@ -26,9 +23,6 @@ put-byte-requires-2 : tie.Need-put-byte-requires-2
 put-byte-requires-2 c κs =
     omega (arith, decimal-length (c .before .before .before .before .before .before .before .before .before .before .before .before .before .before .before .before .before .before .before .args .number))
 
-same-length : tie.Need-same-length
-same-length c = search needs
-
 returns : tie.Need-returns
 unfolding callLine
 returns c =
@@ -43,10 +37,10 @@ pub call-line-spec : {M : Type 1} → statement M
 call-line-spec =
     tie.close
     (tie.spec
-    put-decimal-requires
+    (λ c κs. search needs)
     put-number-requires
     put-byte-requires
     put-bytes-requires
     put-byte-requires-2
-    same-length
+    (λ c. search needs)
     returns)

@@ -5,9 +5,6 @@ use Rattle.bits.specs.BitLaws.{field-lt}
 use Rattle.report.proofs.count.Statement.{statement}
 use Rattle.report.proofs.count.Tie as tie
 
-take-requires : tie.Need-take-requires
-take-requires c κs = search needs
-
 returns : tie.Need-returns
 returns c =
     let a = c .before .before .args in
@@ -15,4 +12,4 @@ returns c =
     (v, omega (arith, field-lt (a .statement .now) (a .from) 5))
 
 pub count-spec : {M : Type 1} → statement M
-count-spec = tie.close (tie.spec take-requires returns)
+count-spec = tie.close (tie.spec (λ c κs. search needs) returns)

@@ -18,22 +18,10 @@ Inv-loop numbers out₀ at p₀ i₀ out p i =
 abbrev μ-loop : tie.MeasureT-loop
 μ-loop numbers out₀ at p₀ i₀ out p i = length numbers - i
 
-put-byte-requires : tie.Need-put-byte-requires Inv-loop μ-loop
-put-byte-requires c κs = search needs
-
-same-length : tie.Need-same-length Inv-loop μ-loop
-same-length c = search needs
-
 returns : tie.Need-returns Inv-loop μ-loop
 returns c =
     let empty = c .before .before .before .before .if1 .taken in
     rw (no-numbers _ empty) (c .before .before .put-byte .ensures)
-
-shared-slice-read-put-decimal : tie.Need-shared-slice-read-put-decimal Inv-loop μ-loop
-shared-slice-read-put-decimal c = search needs
-
-put-decimal-requires : tie.Need-put-decimal-requires Inv-loop μ-loop
-put-decimal-requires c κs = search needs
 
 loop-holds : tie.Need-loop-holds Inv-loop μ-loop
 unfolding each
@@ -41,22 +29,10 @@ loop-holds c =
     let put = c .before .before .put-decimal in
     (omega arith, omega arith, none (put .last .0) (put .result) (omega (arith, put .kept .0, put .ensures .within)), omega (arith, put .ensures .next, decimal-length (getD (c .before .before .before .before .before .before .before .before .args .numbers .now) 0 0)))
 
-mul-put-number : tie.Need-mul-put-number Inv-loop μ-loop
-mul-put-number c = search needs
-
-shared-slice-read-put-number : tie.Need-shared-slice-read-put-number Inv-loop μ-loop
-shared-slice-read-put-number c = search needs
-
 put-number-requires : tie.Need-put-number-requires Inv-loop μ-loop
 put-number-requires c κs =
     let same = pasted-length (c .before .before .before .loop .inv .2) in
     omega arith
-
-add-i : tie.Need-add-i Inv-loop μ-loop
-add-i c = search needs
-
-loop-less : tie.Need-loop-less Inv-loop μ-loop
-loop-less c = search needs
 
 loop-again : tie.Need-loop-again Inv-loop μ-loop
 loop-again c =
@@ -91,17 +67,17 @@ numbers-line-spec =
     (tie.spec
     Inv-loop
     μ-loop
-    put-byte-requires
-    same-length
+    (λ c κs. search needs)
+    (λ c. search needs)
     returns
-    shared-slice-read-put-decimal
-    put-decimal-requires
+    (λ c. search needs)
+    (λ c κs. search needs)
     loop-holds
-    mul-put-number
-    shared-slice-read-put-number
+    (λ c. search needs)
+    (λ c. search needs)
     put-number-requires
-    add-i
-    loop-less
+    (λ c. search needs)
+    (λ c. search needs)
     loop-again
     put-byte-requires-2
     same-length-2

@@ -8,38 +8,17 @@ use Rattle.report.specs.TextLaws.{cents-low, cents-high, decimal-length}
 use Rattle.report.proofs.put_amount.Statement.{statement}
 use Rattle.report.proofs.put_amount.Tie as tie
 
-take-requires : tie.Need-take-requires
-take-requires c κs = search needs
-
-put-byte-requires : tie.Need-put-byte-requires
-put-byte-requires c κs = search needs
-
-put-decimal-requires : tie.Need-put-decimal-requires
-put-decimal-requires c κs = search needs
-
-same-length : tie.Need-same-length
-same-length c = search needs
-
 returns : tie.Need-returns
 returns c =
     let took = c .before .before .before .before .before .before .before .before .before .take in
     let e = then (c .before .before .before .before .before .before .before .put-byte .ensures) (c .before .before .put-decimal .ensures) in
     (rw (← took .ensures .value, cents-low _ (c .before .before .before .before .if1 .taken)) e, omega (arith, e .next, decimal-length (took .result .value)))
 
-put-byte-requires-2 : tie.Need-put-byte-requires-2
-put-byte-requires-2 c κs = search needs
-
 sub-put-decimal : tie.Need-sub-put-decimal
 sub-put-decimal c =
     let took = c .before .before .before .before .before .before .before .before .before .before .take in
     let a = c .before .before .before .before .before .before .before .before .before .before .before .before .before .args in
     omega (arith, took .ensures .value, field-lt (a .statement .now) (a .from) 42)
-
-put-decimal-requires-2 : tie.Need-put-decimal-requires-2
-put-decimal-requires-2 c κs = search needs
-
-same-length-2 : tie.Need-same-length-2
-same-length-2 c = search needs
 
 returns-2 : tie.Need-returns-2
 returns-2 c =
@@ -54,13 +33,13 @@ pub put-amount-spec : {M : Type 1} → statement M
 put-amount-spec =
     tie.close
     (tie.spec
-    take-requires
-    put-byte-requires
-    put-decimal-requires
-    same-length
+    (λ c κs. search needs)
+    (λ c κs. search needs)
+    (λ c κs. search needs)
+    (λ c. search needs)
     returns
-    put-byte-requires-2
+    (λ c κs. search needs)
     sub-put-decimal
-    put-decimal-requires-2
-    same-length-2
+    (λ c κs. search needs)
+    (λ c. search needs)
     returns-2)

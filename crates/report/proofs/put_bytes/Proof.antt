@@ -17,12 +17,6 @@ Inv-loop bytes out₀ at p₀ i₀ out p i = (i ≤ length bytes) × Pasted out�
 abbrev μ-loop : tie.MeasureT-loop
 μ-loop bytes out₀ at p₀ i₀ out p i = length bytes - i
 
-put-byte-requires : tie.Need-put-byte-requires Inv-loop μ-loop
-put-byte-requires c κs = search needs
-
-same-length : tie.Need-same-length Inv-loop μ-loop
-same-length c = search needs
-
 returns : tie.Need-returns Inv-loop μ-loop
 returns c =
     let put = c .before .before .put-byte .ensures in
@@ -34,33 +28,15 @@ loop-holds c =
     let a = c .before .before .before .args in
     (omega arith, none (a .out .now) (a .at) (omega arith), omega arith)
 
-shared-slice-read-hex-digits : tie.Need-shared-slice-read-hex-digits Inv-loop μ-loop
-shared-slice-read-hex-digits c = search needs
-
-hex-digits-requires : tie.Need-hex-digits-requires Inv-loop μ-loop
-hex-digits-requires c κs = search needs
-
-array-read-put-byte : tie.Need-array-read-put-byte Inv-loop μ-loop
-array-read-put-byte c = search needs
-
 put-byte-requires-2 : tie.Need-put-byte-requires-2 Inv-loop μ-loop
 put-byte-requires-2 c κs =
     let same = pasted-length (c .before .before .before .before .loop .inv .1) in
     omega arith
 
-array-read-put-byte-2 : tie.Need-array-read-put-byte-2 Inv-loop μ-loop
-array-read-put-byte-2 c = search needs
-
 put-byte-requires-3 : tie.Need-put-byte-requires-3 Inv-loop μ-loop
 put-byte-requires-3 c κs =
     let same = pasted-length (c .before .before .before .before .before .before .before .before .loop .inv .1) in
     omega (arith, c .before .before .before .put-byte2 .ensures .next)
-
-add-i : tie.Need-add-i Inv-loop μ-loop
-add-i c = search needs
-
-loop-less : tie.Need-loop-less Inv-loop μ-loop
-loop-less c = search needs
 
 loop-again : tie.Need-loop-again Inv-loop μ-loop
 loop-again c =
@@ -87,18 +63,18 @@ put-bytes-spec =
     (tie.spec
     Inv-loop
     μ-loop
-    put-byte-requires
-    same-length
+    (λ c κs. search needs)
+    (λ c. search needs)
     returns
     loop-holds
-    shared-slice-read-hex-digits
-    hex-digits-requires
-    array-read-put-byte
+    (λ c. search needs)
+    (λ c κs. search needs)
+    (λ c. search needs)
     put-byte-requires-2
-    array-read-put-byte-2
+    (λ c. search needs)
     put-byte-requires-3
-    add-i
-    loop-less
+    (λ c. search needs)
+    (λ c. search needs)
     loop-again
     same-length-2
     returns-2)

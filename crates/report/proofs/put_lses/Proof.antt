@@ -21,23 +21,11 @@ loop-holds c =
     let a = c .before .before .args in
     (omega arith, lines-none (lseLine (a .statement .now)) 46 (a .from) (a .out .now) (a .at) (omega arith), omega arith)
 
-mul-put-lse : tie.Need-mul-put-lse Inv-loop μ-loop
-mul-put-lse c = search needs
-
-add-put-lse : tie.Need-add-put-lse Inv-loop μ-loop
-add-put-lse c = search needs
-
 put-lse-requires : tie.Need-put-lse-requires Inv-loop μ-loop
 put-lse-requires c κs =
     let l = c .before .before .loop in
     let same = pasted-length (l .inv .1) in
     (record { within = omega arith; small = omega arith }, omega arith)
-
-add-j : tie.Need-add-j Inv-loop μ-loop
-add-j c = search needs
-
-loop-less : tie.Need-loop-less Inv-loop μ-loop
-loop-less c = search needs
 
 loop-again : tie.Need-loop-again Inv-loop μ-loop
 loop-again c =
@@ -62,11 +50,11 @@ put-lses-spec =
     Inv-loop
     μ-loop
     loop-holds
-    mul-put-lse
-    add-put-lse
+    (λ c. search needs)
+    (λ c. search needs)
     put-lse-requires
-    add-j
-    loop-less
+    (λ c. search needs)
+    (λ c. search needs)
     loop-again
     same-length
     returns)

@@ -6,39 +6,6 @@ use Rattle.report.specs.Pasted.{then}
 use Rattle.report.proofs.put_seller.Statement.{statement}
 use Rattle.report.proofs.put_seller.Tie as tie
 
-take-requires : tie.Need-take-requires
-take-requires c κs = search needs
-
-put-byte-requires : tie.Need-put-byte-requires
-put-byte-requires c κs = search needs
-
-put-number-requires : tie.Need-put-number-requires
-put-number-requires c κs = search needs
-
-add-put-amount : tie.Need-add-put-amount
-add-put-amount c = search needs
-
-put-amount-requires : tie.Need-put-amount-requires
-put-amount-requires c κs = search needs
-
-add-put-amount-2 : tie.Need-add-put-amount-2
-add-put-amount-2 c = search needs
-
-put-amount-requires-2 : tie.Need-put-amount-requires-2
-put-amount-requires-2 c κs = search needs
-
-add-put-amount-3 : tie.Need-add-put-amount-3
-add-put-amount-3 c = search needs
-
-put-amount-requires-3 : tie.Need-put-amount-requires-3
-put-amount-requires-3 c κs = search needs
-
-put-byte-requires-2 : tie.Need-put-byte-requires-2
-put-byte-requires-2 c κs = search needs
-
-same-length : tie.Need-same-length
-same-length c = search needs
-
 returns : tie.Need-returns
 unfolding sellerLine
 returns c =
@@ -55,15 +22,15 @@ pub put-seller-spec : {M : Type 1} → statement M
 put-seller-spec =
     tie.close
     (tie.spec
-    take-requires
-    put-byte-requires
-    put-number-requires
-    add-put-amount
-    put-amount-requires
-    add-put-amount-2
-    put-amount-requires-2
-    add-put-amount-3
-    put-amount-requires-3
-    put-byte-requires-2
-    same-length
+    (λ c κs. search needs)
+    (λ c κs. search needs)
+    (λ c κs. search needs)
+    (λ c. search needs)
+    (λ c κs. search needs)
+    (λ c. search needs)
+    (λ c κs. search needs)
+    (λ c. search needs)
+    (λ c κs. search needs)
+    (λ c κs. search needs)
+    (λ c. search needs)
     returns)

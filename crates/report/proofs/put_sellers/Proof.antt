@@ -21,23 +21,11 @@ loop-holds c =
     let a = c .before .before .args in
     (omega arith, lines-none (sellerLine (a .statement .now)) 130 14 (a .out .now) (a .at) (omega arith), omega arith)
 
-mul-put-seller : tie.Need-mul-put-seller Inv-loop μ-loop
-mul-put-seller c = search needs
-
-add-put-seller : tie.Need-add-put-seller Inv-loop μ-loop
-add-put-seller c = search needs
-
 put-seller-requires : tie.Need-put-seller-requires Inv-loop μ-loop
 put-seller-requires c κs =
     let l = c .before .before .loop in
     let same = pasted-length (l .inv .1) in
     (record { within = omega arith; small = omega arith }, omega arith)
-
-add-s : tie.Need-add-s Inv-loop μ-loop
-add-s c = search needs
-
-loop-less : tie.Need-loop-less Inv-loop μ-loop
-loop-less c = search needs
 
 loop-again : tie.Need-loop-again Inv-loop μ-loop
 loop-again c =
@@ -62,11 +50,11 @@ put-sellers-spec =
     Inv-loop
     μ-loop
     loop-holds
-    mul-put-seller
-    add-put-seller
+    (λ c. search needs)
+    (λ c. search needs)
     put-seller-requires
-    add-s
-    loop-less
+    (λ c. search needs)
+    (λ c. search needs)
     loop-again
     same-length
     returns)

@@ -18,12 +18,6 @@ days c = c .before .before .before .before .before .before .before
 abbrev summed : tie.After-over-tests → tie.After-over-events
 summed c = c .before .before .before .before .before .before .before
 
-read-columns-requires : tie.Need-read-columns-requires
-read-columns-requires c κs = search needs
-
-calls-of-requires : tie.Need-calls-of-requires
-calls-of-requires c κs = search needs
-
 caps-of-requires : tie.Need-caps-of-requires
 caps-of-requires c κs =
     let x = c .before .before .before .before .before in
@@ -31,9 +25,6 @@ caps-of-requires c κs =
     let r = x .read-columns .ensures in
     let C = is-columns S (r .0) (r .1 .1 .0) (r .1 .1 .1) in
     (S .factors .factor, (S .factors .requirement, (committed-fit S C, rates-fit S C)))
-
-days-requires : tie.Need-days-requires
-days-requires c κs = search needs
 
 over-events-requires : tie.Need-over-events-requires
 over-events-requires c κs =
@@ -104,10 +95,10 @@ pub amounts-with-spec : {M : Type 1} → statement M
 amounts-with-spec =
     tie.close
     (tie.spec
-    read-columns-requires
-    calls-of-requires
+    (λ c κs. search needs)
+    (λ c κs. search needs)
     caps-of-requires
-    days-requires
+    (λ c κs. search needs)
     over-events-requires
     over-tests-requires
     lses-of-requires

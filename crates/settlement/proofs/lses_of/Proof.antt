@@ -13,24 +13,6 @@ entry c = c .before .before .before .before .before .before .before
 net : (c : tie.After-less) → c .less .result ≡ sumOf (entry c .args .compliance .now) + sumOf (entry c .args .tests .now) - sumOf (entry c .args .credit .now)
 net c = omega arith
 
-sum-of-requires : tie.Need-sum-of-requires
-sum-of-requires c κs = omega arith
-
-sum-of-requires-2 : tie.Need-sum-of-requires-2
-sum-of-requires-2 c κs = omega arith
-
-add-less : tie.Need-add-less
-add-less c = omega arith
-
-sum-of-requires-3 : tie.Need-sum-of-requires-3
-sum-of-requires-3 c κs = omega arith
-
-less-requires : tie.Need-less-requires
-less-requires c κs = tt
-
-slice-aggregate-allot : tie.Need-slice-aggregate-allot
-slice-aggregate-allot c = search needs
-
 allot-requires : tie.Need-allot-requires
 allot-requires c κs =
     let l = c .before .before in
@@ -46,11 +28,11 @@ pub lses-of-spec : {M : Type 1} → statement M
 lses-of-spec =
     tie.close
     (tie.spec
-    sum-of-requires
-    sum-of-requires-2
-    add-less
-    sum-of-requires-3
-    less-requires
-    slice-aggregate-allot
+    (λ c κs. omega arith)
+    (λ c κs. omega arith)
+    (λ c. omega arith)
+    (λ c κs. omega arith)
+    (λ c κs. tt)
+    (λ c. search needs)
     allot-requires
     returns)

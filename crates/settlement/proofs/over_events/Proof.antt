@@ -18,23 +18,11 @@ abbrev μ-loop : tie.MeasureT-loop
 loop-holds : tie.Need-loop-holds Inv-loop μ-loop
 loop-holds c = (omega arith, along-none _)
 
-mul-event : tie.Need-mul-event Inv-loop μ-loop
-mul-event c = omega arith
-
-array-copy-out-event : tie.Need-array-copy-out-event Inv-loop μ-loop
-array-copy-out-event c = omega arith
-
 add-event-requires : tie.Need-add-event-requires Inv-loop μ-loop
 add-event-requires c κs =
     let l = c .before .before .before .before .before in
     let q = c .before .before .before .before .before .before .pre in
     along-turn (q .0) (l .loop .inv .1) (q .1 .0 .at (l .loop .j) (omega arith))
-
-add-j : tie.Need-add-j Inv-loop μ-loop
-add-j c = omega arith
-
-loop-less : tie.Need-loop-less Inv-loop μ-loop
-loop-less c = omega arith
 
 loop-again : tie.Need-loop-again Inv-loop μ-loop
 loop-again c =
@@ -57,10 +45,10 @@ over-events-spec =
     Inv-loop
     μ-loop
     loop-holds
-    mul-event
-    array-copy-out-event
+    (λ c. omega arith)
+    (λ c. omega arith)
     add-event-requires
-    add-j
-    loop-less
+    (λ c. omega arith)
+    (λ c. omega arith)
     loop-again
     returns)

@@ -27,15 +27,6 @@ loop-holds c =
     let s = c .before in
     (omega arith, tests-none (s .args .terms) (s .args .called .now) (s .args .k))
 
-mul-test : tie.Need-mul-test Inv-loop μ-loop
-mul-test c = omega arith
-
-array-copy-out-test : tie.Need-array-copy-out-test Inv-loop μ-loop
-array-copy-out-test c = omega arith
-
-any-requires : tie.Need-any-requires Inv-loop μ-loop
-any-requires c κs = tt
-
 with-test-requires : tie.Need-with-test-requires Inv-loop μ-loop
 with-test-requires c κs =
     let l = c .before .before .before .before .before .before .before in
@@ -53,12 +44,6 @@ with-test-requires c κs =
         ),
       ),
     )
-
-add-t : tie.Need-add-t Inv-loop μ-loop
-add-t c = omega arith
-
-loop-less : tie.Need-loop-less Inv-loop μ-loop
-loop-less c = omega arith
 
 loop-again : tie.Need-loop-again Inv-loop μ-loop
 loop-again c =
@@ -90,11 +75,11 @@ over-tests-spec =
     μ-loop
     days-requires
     loop-holds
-    mul-test
-    array-copy-out-test
-    any-requires
+    (λ c. omega arith)
+    (λ c. omega arith)
+    (λ c κs. tt)
     with-test-requires
-    add-t
-    loop-less
+    (λ c. omega arith)
+    (λ c. omega arith)
     loop-again
     returns)

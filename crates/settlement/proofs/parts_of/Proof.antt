@@ -43,9 +43,6 @@ allot-by-seller-requires c κs =
     let Y = w .1 .1 .1 in
     (sellers-fit S C, (shortfalls-fit S C E X Y (w .0) (f .shortfalls .ensures), (short-fits S C E X Y (w .0), (short-totals S C E X Y (w .0), s .pre .1 .1 .1 .0))))
 
-excesses-requires : tie.Need-excesses-requires
-excesses-requires c κs = tt
-
 allot-by-seller-requires-2 : tie.Need-allot-by-seller-requires-2
 allot-by-seller-requires-2 c κs =
     let g = c .before .before .before .before in
@@ -83,6 +80,6 @@ parts-of-spec =
     weigh-requires
     shortfalls-requires
     allot-by-seller-requires
-    excesses-requires
+    (λ c κs. tt)
     allot-by-seller-requires-2
     returns)

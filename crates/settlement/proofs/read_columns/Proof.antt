@@ -23,42 +23,6 @@ loop-holds c =
     let p = c .pre in
     (filled-none (p .0), filled-none (p .1 .0), filled-none (p .1 .1 .0), filled-none (p .1 .1 .1))
 
-mul-r : tie.Need-mul-r Inv-loop μ-loop
-mul-r c = omega arith
-
-array-copy-out-r : tie.Need-array-copy-out-r Inv-loop μ-loop
-array-copy-out-r c = omega arith
-
-mul-sellers : tie.Need-mul-sellers Inv-loop μ-loop
-mul-sellers c = omega arith
-
-element-write-sellers : tie.Need-element-write-sellers Inv-loop μ-loop
-element-write-sellers c = omega arith
-
-mul-products : tie.Need-mul-products Inv-loop μ-loop
-mul-products c = omega arith
-
-element-write-products : tie.Need-element-write-products Inv-loop μ-loop
-element-write-products c = omega arith
-
-mul-committed : tie.Need-mul-committed Inv-loop μ-loop
-mul-committed c = omega arith
-
-element-write-committed : tie.Need-element-write-committed Inv-loop μ-loop
-element-write-committed c = omega arith
-
-mul-rates : tie.Need-mul-rates Inv-loop μ-loop
-mul-rates c = omega arith
-
-element-write-rates : tie.Need-element-write-rates Inv-loop μ-loop
-element-write-rates c = omega arith
-
-add-i : tie.Need-add-i Inv-loop μ-loop
-add-i c = omega arith
-
-loop-less : tie.Need-loop-less Inv-loop μ-loop
-loop-less c = omega arith
-
 loop-again : tie.Need-loop-again Inv-loop μ-loop
 loop-again c =
     let l = c .before .before in
@@ -79,17 +43,17 @@ read-columns-spec =
     Inv-loop
     μ-loop
     loop-holds
-    mul-r
-    array-copy-out-r
-    mul-sellers
-    element-write-sellers
-    mul-products
-    element-write-products
-    mul-committed
-    element-write-committed
-    mul-rates
-    element-write-rates
-    add-i
-    loop-less
+    (λ c. omega arith)
+    (λ c. omega arith)
+    (λ c. omega arith)
+    (λ c. omega arith)
+    (λ c. omega arith)
+    (λ c. omega arith)
+    (λ c. omega arith)
+    (λ c. omega arith)
+    (λ c. omega arith)
+    (λ c. omega arith)
+    (λ c. omega arith)
+    (λ c. omega arith)
     loop-again
     returns)

@@ -5,9 +5,6 @@ use borrow.Author.Needs.{needs}
 use Rattle.settlement.proofs.with_test.Statement.{statement}
 use Rattle.settlement.proofs.with_test.Tie as tie
 
-left-requires : tie.Need-left-requires
-left-requires c κs = search needs
-
 sums-of-requires : tie.Need-sums-of-requires
 sums-of-requires c κs =
     let q = c .before .before .before .before .before .before .before .before .pre in
@@ -43,4 +40,4 @@ returns c =
     is-test (q .0) (q .1 .1 .0) (s .args .called .now) (s .args .test) (c .before .before .before .before .left .ensures) (c .before .sums-of .ensures) (s .args .charges) (s .args .days) (c .add-test .ensures)
 
 pub with-test-spec : {M : Type 1} → statement M
-with-test-spec = tie.close (tie.spec left-requires sums-of-requires add-test-requires returns)
+with-test-spec = tie.close (tie.spec (λ c κs. search needs) sums-of-requires add-test-requires returns)

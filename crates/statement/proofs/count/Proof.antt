@@ -21,17 +21,8 @@ loop-holds : tie.Need-loop-holds Inv-loop μ-loop
 unfolding countTo sumTo
 loop-holds c = (omega arith, refl)
 
-array-read-if1 : tie.Need-array-read-if1 Inv-loop μ-loop
-array-read-if1 c = omega arith
-
 add-n : tie.Need-add-n Inv-loop μ-loop
 add-n c = omega (arith, count-most (c .before .before .loop .i) (holds (c .before .before .before .args .t1)))
-
-add-i : tie.Need-add-i Inv-loop μ-loop
-add-i c = omega arith
-
-loop-less : tie.Need-loop-less Inv-loop μ-loop
-loop-less c = omega arith
 
 loop-again : tie.Need-loop-again Inv-loop μ-loop
 unfolding countTo
@@ -49,4 +40,4 @@ returns c = let all : c .before .loop .i ≡ 16 = omega arith in rw all at (c .b
 pub count-spec : {M : Type 1} → statement M
 count-spec =
     tie.close
-    (tie.spec Inv-loop μ-loop loop-holds array-read-if1 add-n add-i loop-less loop-again returns)
+    (tie.spec Inv-loop μ-loop loop-holds (λ c. omega arith) add-n (λ c. omega arith) (λ c. omega arith) loop-again returns)

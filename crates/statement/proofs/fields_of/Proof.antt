@@ -14,30 +14,6 @@ use Rattle.statement.specs.Turns.{extended-more}
 use Rattle.statement.proofs.fields_of.Statement.{statement}
 use Rattle.statement.proofs.fields_of.Tie as tie
 
-present-requires : tie.Need-present-requires
-present-requires c κs = search needs
-
-obliged-requires : tie.Need-obliged-requires
-obliged-requires c κs = search needs
-
-with-field-requires : tie.Need-with-field-requires
-with-field-requires c κs = search needs
-
-count-requires : tie.Need-count-requires
-count-requires c κs = search needs
-
-with-field-requires-2 : tie.Need-with-field-requires-2
-with-field-requires-2 c κs = search needs
-
-count-requires-2 : tie.Need-count-requires-2
-count-requires-2 c κs = search needs
-
-with-field-requires-3 : tie.Need-with-field-requires-3
-with-field-requires-3 c κs = search needs
-
-with-sellers-requires : tie.Need-with-sellers-requires
-with-sellers-requires c κs = search needs
-
 with-lses-requires : tie.Need-with-lses-requires
 with-lses-requires c κs =
     let s = c .before .before .before .before .before .before .before .before in
@@ -76,13 +52,13 @@ pub fields-of-spec : {M : Type 1} → statement M
 fields-of-spec =
     tie.close
     (tie.spec
-    present-requires
-    obliged-requires
-    with-field-requires
-    count-requires
-    with-field-requires-2
-    count-requires-2
-    with-field-requires-3
-    with-sellers-requires
+    (λ c κs. search needs)
+    (λ c κs. search needs)
+    (λ c κs. search needs)
+    (λ c κs. search needs)
+    (λ c κs. search needs)
+    (λ c κs. search needs)
+    (λ c κs. search needs)
+    (λ c κs. search needs)
     with-lses-requires
     returns)

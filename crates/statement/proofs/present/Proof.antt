@@ -20,21 +20,9 @@ abbrev μ-loop : tie.MeasureT-loop
 loop-holds : tie.Need-loop-holds Inv-loop μ-loop
 loop-holds c = (omega arith, marks-none _)
 
-mul-g : tie.Need-mul-g Inv-loop μ-loop
-mul-g c = omega arith
-
-element-copy-out-g : tie.Need-element-copy-out-g Inv-loop μ-loop
-element-copy-out-g c = omega arith
-
 array-write-sellers : tie.Need-array-write-sellers Inv-loop μ-loop
 unfolding seller
 array-write-sellers c = seller-below (c .before .before .before .before .pre) (c .before .before .before .loop .i)
-
-add-i : tie.Need-add-i Inv-loop μ-loop
-add-i c = omega arith
-
-loop-less : tie.Need-loop-less Inv-loop μ-loop
-loop-less c = omega arith
 
 loop-again : tie.Need-loop-again Inv-loop μ-loop
 unfolding known seller
@@ -60,10 +48,10 @@ present-spec =
     Inv-loop
     μ-loop
     loop-holds
-    mul-g
-    element-copy-out-g
+    (λ c. omega arith)
+    (λ c. omega arith)
     array-write-sellers
-    add-i
-    loop-less
+    (λ c. omega arith)
+    (λ c. omega arith)
     loop-again
     returns)

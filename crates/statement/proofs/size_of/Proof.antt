@@ -19,18 +19,6 @@ counted c =
     let q = hasObligation (c .before .before .before .before .args .terms) in
     ((c .before .before .count .ensures ∙ count-same 16 (c .before .before .before .present .ensures .done), count-most 16 p), (c .count2 .ensures ∙ count-same 16 (c .before .obliged .ensures .done), count-most 16 q))
 
-present-requires : tie.Need-present-requires
-present-requires c κs = search needs
-
-count-requires : tie.Need-count-requires
-count-requires c κs = search needs
-
-obliged-requires : tie.Need-obliged-requires
-obliged-requires c κs = search needs
-
-count-requires-2 : tie.Need-count-requires-2
-count-requires-2 c κs = search needs
-
 mul-result : tie.Need-mul-result
 mul-result c = omega (arith, counted c)
 
@@ -57,10 +45,10 @@ pub size-of-spec : {M : Type 1} → statement M
 size-of-spec =
     tie.close
     (tie.spec
-    present-requires
-    count-requires
-    obliged-requires
-    count-requires-2
+    (λ c κs. search needs)
+    (λ c κs. search needs)
+    (λ c κs. search needs)
+    (λ c κs. search needs)
     mul-result
     add-result
     mul-result-2

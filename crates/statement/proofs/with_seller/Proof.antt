@@ -14,68 +14,20 @@ use Rattle.statement.proofs.with_seller.Tie as tie
 below : {a : Amounts} {s : ℕ} → SoundAmounts a → s < 16 → (at (a .compliance) s < 2 ^ 41) × (at (a .test) s < 2 ^ 41) × (at (a .credit) s < 2 ^ 41)
 below {s = s} h l = (h .compliance .at s l, h .test .at s l, h .credit .at s l)
 
-with-field-requires : tie.Need-with-field-requires
-with-field-requires c κs = search needs
-
-mul-difference : tie.Need-mul-difference
-mul-difference c = search needs
-
-element-copy-out-difference : tie.Need-element-copy-out-difference
-element-copy-out-difference c = search needs
-
-mul-difference-2 : tie.Need-mul-difference-2
-mul-difference-2 c = search needs
-
-element-copy-out-difference-2 : tie.Need-element-copy-out-difference-2
-element-copy-out-difference-2 c = search needs
-
 difference-requires : tie.Need-difference-requires
 difference-requires c κs =
     let s = c .before .before .before in
     omega (arith, below (s .pre .1 .1 .0) (s .pre .1 .0), below (s .pre .1 .1 .1) (s .pre .1 .0))
-
-with-field-requires-2 : tie.Need-with-field-requires-2
-with-field-requires-2 c κs = search needs
-
-mul-difference-3 : tie.Need-mul-difference-3
-mul-difference-3 c = search needs
-
-element-copy-out-difference-3 : tie.Need-element-copy-out-difference-3
-element-copy-out-difference-3 c = search needs
-
-mul-difference-4 : tie.Need-mul-difference-4
-mul-difference-4 c = search needs
-
-element-copy-out-difference-4 : tie.Need-element-copy-out-difference-4
-element-copy-out-difference-4 c = search needs
 
 difference-requires-2 : tie.Need-difference-requires-2
 difference-requires-2 c κs =
     let s = c .before .before .before .before .before .before .before in
     omega (arith, below (s .pre .1 .1 .0) (s .pre .1 .0), below (s .pre .1 .1 .1) (s .pre .1 .0))
 
-with-field-requires-3 : tie.Need-with-field-requires-3
-with-field-requires-3 c κs = search needs
-
-mul-difference-5 : tie.Need-mul-difference-5
-mul-difference-5 c = search needs
-
-element-copy-out-difference-5 : tie.Need-element-copy-out-difference-5
-element-copy-out-difference-5 c = search needs
-
-mul-difference-6 : tie.Need-mul-difference-6
-mul-difference-6 c = search needs
-
-element-copy-out-difference-6 : tie.Need-element-copy-out-difference-6
-element-copy-out-difference-6 c = search needs
-
 difference-requires-3 : tie.Need-difference-requires-3
 difference-requires-3 c κs =
     let s = c .before .before .before .before .before .before .before .before .before .before .before in
     omega (arith, below (s .pre .1 .1 .0) (s .pre .1 .0), below (s .pre .1 .1 .1) (s .pre .1 .0))
-
-with-field-requires-4 : tie.Need-with-field-requires-4
-with-field-requires-4 c κs = search needs
 
 returns : tie.Need-returns
 unfolding sellerFields
@@ -91,23 +43,23 @@ pub with-seller-spec : {M : Type 1} → statement M
 with-seller-spec =
     tie.close
     (tie.spec
-    with-field-requires
-    mul-difference
-    element-copy-out-difference
-    mul-difference-2
-    element-copy-out-difference-2
+    (λ c κs. search needs)
+    (λ c. search needs)
+    (λ c. search needs)
+    (λ c. search needs)
+    (λ c. search needs)
     difference-requires
-    with-field-requires-2
-    mul-difference-3
-    element-copy-out-difference-3
-    mul-difference-4
-    element-copy-out-difference-4
+    (λ c κs. search needs)
+    (λ c. search needs)
+    (λ c. search needs)
+    (λ c. search needs)
+    (λ c. search needs)
     difference-requires-2
-    with-field-requires-3
-    mul-difference-5
-    element-copy-out-difference-5
-    mul-difference-6
-    element-copy-out-difference-6
+    (λ c κs. search needs)
+    (λ c. search needs)
+    (λ c. search needs)
+    (λ c. search needs)
+    (λ c. search needs)
     difference-requires-3
-    with-field-requires-4
+    (λ c κs. search needs)
     returns)

@@ -23,9 +23,6 @@ loop-holds : tie.Need-loop-holds Inv-loop μ-loop
 unfolding linesTo
 loop-holds c = (omega arith, extended-none _)
 
-array-read-if1 : tie.Need-array-read-if1 Inv-loop μ-loop
-array-read-if1 c = omega arith
-
 with-seller-requires : tie.Need-with-seller-requires Inv-loop μ-loop
 with-seller-requires c κs =
     let s = c .before .before .before in
@@ -34,12 +31,6 @@ with-seller-requires c κs =
     let n = seller-lines-length (s .args .owed) (s .args .billed) marked (l .s) in
     let m = count-most (l .s) marked in
     (record { free = omega arith; widths = omega arith; values = omega arith }, (omega arith, s .pre .1))
-
-add-s : tie.Need-add-s Inv-loop μ-loop
-add-s c = omega arith
-
-loop-less : tie.Need-loop-less Inv-loop μ-loop
-loop-less c = omega arith
 
 loop-again : tie.Need-loop-again Inv-loop μ-loop
 loop-again c =
@@ -62,9 +53,9 @@ with-sellers-spec =
     Inv-loop
     μ-loop
     loop-holds
-    array-read-if1
+    (λ c. omega arith)
     with-seller-requires
-    add-s
-    loop-less
+    (λ c. omega arith)
+    (λ c. omega arith)
     loop-again
     returns)

@@ -9,19 +9,10 @@ use Rattle.statement.specs.Turns.{widths-listed, values-listed}
 use Rattle.statement.proofs.write_statement.Statement.{statement}
 use Rattle.statement.proofs.write_statement.Tie as tie
 
-fields-of-requires : tie.Need-fields-of-requires
-fields-of-requires c κs = search needs
-
-array-share-prefix-widths : tie.Need-array-share-prefix-widths
-array-share-prefix-widths c = search needs
-
 slice-aggregate-put-all : tie.Need-slice-aggregate-put-all
 slice-aggregate-put-all c =
     let f = c .before .before .before .before .fields-of in
     sym (length-take-le (f .result .count) (f .result .widths) (omega arith))
-
-array-share-prefix-values : tie.Need-array-share-prefix-values
-array-share-prefix-values c = search needs
 
 slice-aggregate-put-all-2 : tie.Need-slice-aggregate-put-all-2
 slice-aggregate-put-all-2 c =
@@ -38,9 +29,6 @@ put-all-requires c κs =
     rw (widths-listed (f .result) (omega arith), values-listed (f .result) (omega arith), f .ensures .1)
     (proper-narrow fs proper, (same-length fs, (proper-valid fs proper, (omega arith, omega arith))))
 
-keeps-length : tie.Need-same-length
-keeps-length c = search needs
-
 returns : tie.Need-returns
 unfolding statementOf
 returns c =
@@ -53,11 +41,11 @@ pub write-statement-spec : {M : Type 1} → statement M
 write-statement-spec =
     tie.close
     (tie.spec
-    fields-of-requires
-    array-share-prefix-widths
+    (λ c κs. search needs)
+    (λ c. search needs)
     slice-aggregate-put-all
-    array-share-prefix-values
+    (λ c. search needs)
     slice-aggregate-put-all-2
     put-all-requires
-    keeps-length
+    (λ c. search needs)
     returns)

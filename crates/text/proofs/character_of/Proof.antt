@@ -5,12 +5,6 @@ use borrow.Author.Needs.{needs}
 use Rattle.text.proofs.character_of.Statement.{statement}
 use Rattle.text.proofs.character_of.Tie as tie
 
-add-result : tie.Need-add-result
-add-result c = search needs
-
-add-result-2 : tie.Need-add-result-2
-add-result-2 c = search needs
-
 returns : tie.Need-returns
 unfolding character
 returns c = rw (lt-ltb (c .before .args .n) 10 (c .if1 .taken))
@@ -20,4 +14,4 @@ unfolding character
 returns-2 c = rw (le-ltb (c .before .args .n) 10 (c .if1 .left))
 
 pub character-of-spec : {M : Type 1} → statement M
-character-of-spec = tie.close (tie.spec add-result add-result-2 returns returns-2)
+character-of-spec = tie.close (tie.spec (λ c. search needs) (λ c. search needs) returns returns-2)

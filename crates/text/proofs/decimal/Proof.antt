@@ -20,18 +20,6 @@ loop-holds : tie.Need-loop-holds Inv-loop μ-loop
 unfolding spelled
 loop-holds c = (omega arith, refl)
 
-shared-slice-read-then : tie.Need-shared-slice-read-then Inv-loop μ-loop
-shared-slice-read-then c = omega arith
-
-then-requires : tie.Need-then-requires Inv-loop μ-loop
-then-requires c κs = search needs
-
-add-i : tie.Need-add-i Inv-loop μ-loop
-add-i c = omega arith
-
-loop-less : tie.Need-loop-less Inv-loop μ-loop
-loop-less c = omega arith
-
 loop-again : tie.Need-loop-again Inv-loop μ-loop
 loop-again c =
     let l = c .before .before .before .loop in
@@ -52,9 +40,9 @@ decimal-spec =
     Inv-loop
     μ-loop
     loop-holds
-    shared-slice-read-then
-    then-requires
-    add-i
-    loop-less
+    (λ c. omega arith)
+    (λ c κs. search needs)
+    (λ c. omega arith)
+    (λ c. omega arith)
     loop-again
     returns)

@@ -23,17 +23,11 @@ Inv-loop line out₀ at₀ n₀ out at n =
 abbrev μ-loop : tie.MeasureT-loop
 μ-loop line out₀ at₀ n₀ out at n = length out₀ - n
 
-word-start-requires : tie.Need-word-start-requires Inv-loop μ-loop
-word-start-requires c κs = search needs
-
 loop-holds : tie.Need-loop-holds Inv-loop μ-loop
 unfolding numbers
 loop-holds c =
     let w = c .word-start .ensures in
     ((omega arith, refl, w .within), (w .starts, omega arith), (ap (map spelled) (w .passes), refl))
-
-same-length : tie.Need-same-length Inv-loop μ-loop
-same-length c = search needs
 
 returns : tie.Need-returns Inv-loop μ-loop
 unfolding numbers wordsFrom closed
@@ -48,33 +42,6 @@ word-end-requires c κs =
     let l = c .before .before .loop in
     (omega arith, l .inv .1 .0 (omega arith))
 
-sub-decimal : tie.Need-sub-decimal Inv-loop μ-loop
-sub-decimal c = search needs
-
-part-decimal-start : tie.Need-part-decimal-start Inv-loop μ-loop
-part-decimal-start c = search needs
-
-part-decimal-end : tie.Need-part-decimal-end Inv-loop μ-loop
-part-decimal-end c = search needs
-
-decimal-requires : tie.Need-decimal-requires Inv-loop μ-loop
-decimal-requires c κs = search needs
-
-mul-out : tie.Need-mul-out Inv-loop μ-loop
-mul-out c = search needs
-
-slice-write-out : tie.Need-slice-write-out Inv-loop μ-loop
-slice-write-out c = search needs
-
-add-n : tie.Need-add-n Inv-loop μ-loop
-add-n c = search needs
-
-word-start-requires-2 : tie.Need-word-start-requires-2 Inv-loop μ-loop
-word-start-requires-2 c κs = search needs
-
-loop-less : tie.Need-loop-less Inv-loop μ-loop
-loop-less c = search needs
-
 loop-again : tie.Need-loop-again Inv-loop μ-loop
 loop-again c =
     let l = c .before .before .before .before .before .before .loop in
@@ -87,9 +54,6 @@ loop-again c =
       (next .2, rw (l .inv .2 .1, next .1, add-one) (front-more (take (l .n) (numbers (a .line .now))) (a .out .now) (l .n) v (length-take-le (l .n) (numbers (a .line .now)) (omega arith)) (omega arith))),
     )
 
-same-length-2 : tie.Need-same-length-2 Inv-loop μ-loop
-same-length-2 c = search needs
-
 returns-2 : tie.Need-returns-2 Inv-loop μ-loop
 returns-2 c =
     let l = c .before .loop in
@@ -101,20 +65,20 @@ decimals-spec =
     (tie.spec
     Inv-loop
     μ-loop
-    word-start-requires
+    (λ c κs. search needs)
     loop-holds
-    same-length
+    (λ c. search needs)
     returns
     word-end-requires
-    sub-decimal
-    part-decimal-start
-    part-decimal-end
-    decimal-requires
-    mul-out
-    slice-write-out
-    add-n
-    word-start-requires-2
-    loop-less
+    (λ c. search needs)
+    (λ c. search needs)
+    (λ c. search needs)
+    (λ c κs. search needs)
+    (λ c. search needs)
+    (λ c. search needs)
+    (λ c. search needs)
+    (λ c κs. search needs)
+    (λ c. search needs)
     loop-again
-    same-length-2
+    (λ c. search needs)
     returns-2)

@@ -17,9 +17,6 @@ returns-3 : tie.Need-returns-3
 unfolding digit
 returns-3 c = let b = c .before .before .before .args .b in rw (le-ltb b 48 (c .before .before .if1 .left), le-ltb b 58 (c .before .if2 .left), lt-ltb b 97 (c .if3 .taken))
 
-sub-result : tie.Need-sub-result
-sub-result c = search needs
-
 returns-4 : tie.Need-returns-4
 unfolding digit
 returns-4 c = let b = c .before .before .before .before .args .b in rw (le-ltb b 48 (c .before .before .before .if1 .left), le-ltb b 58 (c .before .before .if2 .left), le-ltb b 97 (c .before .if3 .left), lt-ltb b 103 (c .if4 .taken))
@@ -29,4 +26,4 @@ unfolding digit
 returns-5 c = let b = c .before .before .before .before .args .b in rw (le-ltb b 48 (c .before .before .before .if1 .left), le-ltb b 58 (c .before .before .if2 .left), le-ltb b 97 (c .before .if3 .left), le-ltb b 103 (c .if4 .left))
 
 pub digit-of-spec : {M : Type 1} → statement M
-digit-of-spec = tie.close (tie.spec returns returns-2 returns-3 sub-result returns-4 returns-5)
+digit-of-spec = tie.close (tie.spec returns returns-2 returns-3 (λ c. search needs) returns-4 returns-5)

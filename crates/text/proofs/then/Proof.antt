@@ -22,23 +22,11 @@ returns-3 c =
     let b = c .before .before .before .args .b in
     rw (le-leb 48 b (c .before .before .if1 .left), le-leb b 57 (c .before .if2 .left)) (omega arith)
 
-mul-t : tie.Need-mul-t
-mul-t c = search needs
-
-cast-low : tie.Need-cast-low
-cast-low c = search needs
-
-sub-if4 : tie.Need-sub-if4
-sub-if4 c = search needs
-
 returns-4 : tie.Need-returns-4
 unfolding further
 returns-4 c =
     let b = c .before .before .before .before .args .b in
     rw (le-leb 48 b (c .before .before .before .if1 .left), le-leb b 57 (c .before .before .if2 .left)) (omega arith)
-
-add-result : tie.Need-add-result
-add-result c = search needs
 
 returns-5 : tie.Need-returns-5
 unfolding further
@@ -49,4 +37,4 @@ returns-5 c =
 pub then-spec : {M : Type 1} → statement M
 then-spec =
     tie.close
-    (tie.spec returns returns-2 returns-3 mul-t cast-low sub-if4 returns-4 add-result returns-5)
+    (tie.spec returns returns-2 returns-3 (λ c. search needs) (λ c. search needs) (λ c. search needs) returns-4 (λ c. search needs) returns-5)

@@ -15,20 +15,11 @@ Inv-loop line at i₀ i = (at < i) × (i ≤ length line) × (words (drop at lin
 abbrev μ-loop : tie.MeasureT-loop
 μ-loop line at i₀ i = length line - i
 
-add-i : tie.Need-add-i Inv-loop μ-loop
-add-i c = search needs
-
 loop-holds : tie.Need-loop-holds Inv-loop μ-loop
 loop-holds c =
     let a = c .before in
     let e : a .args .at - a .args .at ≡ 0 = omega arith in
     (omega arith, omega arith, rw e at (character-joined (a .args .line .now) (a .args .at) (omega arith) (a .args .at) (omega arith) (a .pre .1)))
-
-shared-slice-read-is-separator : tie.Need-shared-slice-read-is-separator Inv-loop μ-loop
-shared-slice-read-is-separator c = search needs
-
-is-separator-requires : tie.Need-is-separator-requires Inv-loop μ-loop
-is-separator-requires c κs = search needs
 
 returns : tie.Need-returns Inv-loop μ-loop
 returns c =
@@ -40,12 +31,6 @@ returns c =
       within = l .inv .1;
       word = l .inv .2 ∙ word-closed (a .line .now) (a .at) (l .i) (l .inv .0) (l .inv .1) (λ m. e);
     }
-
-add-i-2 : tie.Need-add-i-2 Inv-loop μ-loop
-add-i-2 c = search needs
-
-loop-less : tie.Need-loop-less Inv-loop μ-loop
-loop-less c = search needs
 
 loop-again : tie.Need-loop-again Inv-loop μ-loop
 loop-again c =
@@ -70,12 +55,12 @@ word-end-spec =
     (tie.spec
     Inv-loop
     μ-loop
-    add-i
+    (λ c. search needs)
     loop-holds
-    shared-slice-read-is-separator
-    is-separator-requires
+    (λ c. search needs)
+    (λ c κs. search needs)
     returns
-    add-i-2
-    loop-less
+    (λ c. search needs)
+    (λ c. search needs)
     loop-again
     returns-2)

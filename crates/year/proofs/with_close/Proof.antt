@@ -5,11 +5,8 @@ use Rattle.year.specs.Kept.{sound-close}
 use Rattle.year.proofs.with_close.Statement.{statement}
 use Rattle.year.proofs.with_close.Tie as tie
 
-add-y : tie.Need-add-y
-add-y c = search needs
-
 returns : tie.Need-returns
 returns c = (refl, sound-close (c .before .pre .0) (c .before .pre .1 .0) (c .before .pre .1 .1))
 
 pub with-close-spec : {M : Type 1} → statement M
-with-close-spec = tie.close (tie.spec add-y returns)
+with-close-spec = tie.close (tie.spec (λ c. search needs) returns)

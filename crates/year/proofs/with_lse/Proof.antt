@@ -5,14 +5,8 @@ use Rattle.year.specs.Kept.{sound-lse}
 use Rattle.year.proofs.with_lse.Statement.{statement}
 use Rattle.year.proofs.with_lse.Tie as tie
 
-mul-terms : tie.Need-mul-terms
-mul-terms c = search needs
-
-element-write-terms : tie.Need-element-write-terms
-element-write-terms c = search needs
-
 returns : tie.Need-returns
 returns c = (refl, sound-lse (c .before .pre .0) (c .before .args .id) (c .before .pre .1 .1))
 
 pub with-lse-spec : {M : Type 1} → statement M
-with-lse-spec = tie.close (tie.spec mul-terms element-write-terms returns)
+with-lse-spec = tie.close (tie.spec (λ c. search needs) (λ c. search needs) returns)

@@ -5,14 +5,8 @@ use Rattle.year.specs.Kept.{sound-registration}
 use Rattle.year.proofs.with_registration.Statement.{statement}
 use Rattle.year.proofs.with_registration.Tie as tie
 
-mul-r : tie.Need-mul-r
-mul-r c = search needs
-
-element-set-from-r : tie.Need-element-set-from-r
-element-set-from-r c = search needs
-
 returns : tie.Need-returns
 returns c = (refl, sound-registration (c .before .pre .0) (c .before .pre .1 .0) (c .before .args .id) (c .before .pre .1 .1 .1))
 
 pub with-registration-spec : {M : Type 1} → statement M
-with-registration-spec = tie.close (tie.spec mul-r element-set-from-r returns)
+with-registration-spec = tie.close (tie.spec (λ c. search needs) (λ c. search needs) returns)

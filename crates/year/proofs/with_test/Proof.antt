@@ -5,14 +5,8 @@ use Rattle.year.specs.Kept.{sound-test}
 use Rattle.year.proofs.with_test.Statement.{statement}
 use Rattle.year.proofs.with_test.Tie as tie
 
-mul-t : tie.Need-mul-t
-mul-t c = search needs
-
-element-set-from-t : tie.Need-element-set-from-t
-element-set-from-t c = search needs
-
 returns : tie.Need-returns
 returns c = (refl, sound-test (c .pre .0) (c .args .place) (c .pre .1 .1))
 
 pub with-test-spec : {M : Type 1} → statement M
-with-test-spec = tie.close (tie.spec mul-t element-set-from-t returns)
+with-test-spec = tie.close (tie.spec (λ c. search needs) (λ c. search needs) returns)

@@ -21,22 +21,13 @@ none {s} {x} k z =
 returns : tie.Need-returns
 returns c = none (c .before .before .pre) (c .if1 .taken)
 
-add-passed : tie.Need-add-passed
-add-passed c = search needs
-
 mul-quotient : tie.Need-mul-quotient
 mul-quotient c = record { fits = lt-of-le-of-lt (mul-le-mul-left _ (c .before .before .before .before .pre .within)) (c .before .before .before .before .pre .fits) }
-
-div-quotient : tie.Need-div-quotient
-div-quotient c = search needs
 
 sub-t6 : tie.Need-sub-t6
 sub-t6 c =
     let k = c .before .before .before .before .before .before .pre in
     rw (k .carried) (div-mono _ _ _ (mul-le-mul-left _ (omega arith)))
 
-returns-2 : tie.Need-returns-2
-returns-2 c = search needs
-
 pub share-spec : {M : Type 1} → statement M
-share-spec = tie.close (tie.spec returns add-passed mul-quotient div-quotient sub-t6 returns-2)
+share-spec = tie.close (tie.spec returns (λ c. search needs) mul-quotient (λ c. search needs) sub-t6 (λ c. search needs))

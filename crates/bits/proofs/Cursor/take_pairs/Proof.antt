@@ -25,9 +25,6 @@ Inv-loop bytes a b n out₀ to width c₀ k₀ out c k =
 abbrev μ-loop : tie.MeasureT-loop
 μ-loop bytes a b n out₀ to width c₀ k₀ out c k = n - k
 
-add-width : tie.Need-add-width Inv-loop μ-loop
-add-width c = omega arith
-
 loop-holds : tie.Need-loop-holds Inv-loop μ-loop
 loop-holds c =
     let a = c .before .before .args in
@@ -36,41 +33,11 @@ loop-holds c =
 take-requires : tie.Need-take-requires Inv-loop μ-loop
 take-requires c κs = pair-room (c .before .before .before .before .args .a) (c .before .before .before .before .args .b) (c .before .before .before .before .args .n) (c .before .loop .k) (c .loop-test .taken) (c .before .loop .c .at) (c .before .before .before .before .pre .0) (c .before .before .before .before .pre .1 .0) (c .before .loop .inv .1)
 
-mul-i : tie.Need-mul-i Inv-loop μ-loop
-mul-i c = omega arith
-
-add-i : tie.Need-add-i Inv-loop μ-loop
-add-i c = omega arith
-
-shr-out : tie.Need-shr-out Inv-loop μ-loop
-shr-out c = omega arith
-
-mul-out : tie.Need-mul-out Inv-loop μ-loop
-mul-out c = omega arith
-
-slice-write-out : tie.Need-slice-write-out Inv-loop μ-loop
-slice-write-out c = omega arith
-
-shl-out : tie.Need-shl-out Inv-loop μ-loop
-shl-out c = omega arith
-
 sub-out : tie.Need-sub-out Inv-loop μ-loop
 sub-out c = rw (one-shl (c .before .before .before .before .before .args .b) (omega arith)) (pow-pos (c .before .before .before .before .before .args .b))
 
-add-out : tie.Need-add-out Inv-loop μ-loop
-add-out c = omega arith
-
-mul-out-2 : tie.Need-mul-out-2 Inv-loop μ-loop
-mul-out-2 c = omega arith
-
 slice-write-out-2 : tie.Need-slice-write-out-2 Inv-loop μ-loop
 slice-write-out-2 c = rw length-set (omega arith)
-
-add-k : tie.Need-add-k Inv-loop μ-loop
-add-k c = omega arith
-
-loop-less : tie.Need-loop-less Inv-loop μ-loop
-loop-less c = omega arith
 
 loop-again : tie.Need-loop-again Inv-loop μ-loop
 loop-again c =
@@ -92,9 +59,6 @@ loop-again c =
       rw (masked (c .before .take .result .value) b (omega arith), first, second) (out-pair a b n (l .k) h xs (c .before .before .before .before .before .before .args .self .at) (take (c .before .before .before .before .before .before .args .to) (c .before .before .before .before .before .before .args .out .now)) (l .out) (c .before .before .before .before .before .before .args .out .now) (c .before .before .before .before .before .before .args .to) front (c .before .before .before .before .before .before .pre .1 .1) (l .inv .3)),
     )
 
-same-length : tie.Need-same-length Inv-loop μ-loop
-same-length c = omega arith
-
 returns : tie.Need-returns Inv-loop μ-loop
 returns c =
     let l = c .before .loop in
@@ -110,21 +74,21 @@ take-pairs-spec =
     (tie.spec
     Inv-loop
     μ-loop
-    add-width
+    (λ c. omega arith)
     loop-holds
     take-requires
-    mul-i
-    add-i
-    shr-out
-    mul-out
-    slice-write-out
-    shl-out
+    (λ c. omega arith)
+    (λ c. omega arith)
+    (λ c. omega arith)
+    (λ c. omega arith)
+    (λ c. omega arith)
+    (λ c. omega arith)
     sub-out
-    add-out
-    mul-out-2
+    (λ c. omega arith)
+    (λ c. omega arith)
     slice-write-out-2
-    add-k
-    loop-less
+    (λ c. omega arith)
+    (λ c. omega arith)
     loop-again
-    same-length
+    (λ c. omega arith)
     returns)

@@ -6,12 +6,6 @@ use Rattle.bits.proofs.Shifts.{one-shl, masked}
 use Rattle.bits.proofs.words.cut.Statement.{statement}
 use Rattle.bits.proofs.words.cut.Tie as tie
 
-shr-result : tie.Need-shr-result
-shr-result c = search needs
-
-shl-result : tie.Need-shl-result
-shl-result c = search needs
-
 sub-result : tie.Need-sub-result
 sub-result c = rw (one-shl (c .args .width) (omega arith)) (pow-pos (c .args .width))
 
@@ -19,4 +13,4 @@ returns : tie.Need-returns
 returns c = masked _ (c .args .width) (omega arith)
 
 pub cut-spec : {M : Type 1} → statement M
-cut-spec = tie.close (tie.spec shr-result shl-result sub-result returns)
+cut-spec = tie.close (tie.spec (λ c. search needs) (λ c. search needs) sub-result returns)

@@ -7,15 +7,6 @@ use Rattle.bits.proofs.Shifts.{in-a-row}
 use Rattle.bits.proofs.words.eight.Statement.{statement}
 use Rattle.bits.proofs.words.eight.Tie as tie
 
-four-requires : tie.Need-four-requires
-four-requires c κs = search needs
-
-add-four : tie.Need-add-four
-add-four c = search needs
-
-four-requires-2 : tie.Need-four-requires-2
-four-requires-2 c κs = search needs
-
 returns : tie.Need-returns
 returns c =
     let a = c .before .before .before .args in
@@ -23,4 +14,4 @@ returns c =
     in-a-row (a .bytes .now) (8 * a .i) 32 32 _ _ (omega arith) (c .before .four .ensures) (c .four2 .ensures ∙ rw at)
 
 pub eight-spec : {M : Type 1} → statement M
-eight-spec = tie.close (tie.spec four-requires add-four four-requires-2 returns)
+eight-spec = tie.close (tie.spec (λ c κs. search needs) (λ c. search needs) (λ c κs. search needs) returns)

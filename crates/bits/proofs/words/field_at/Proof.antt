@@ -8,12 +8,6 @@ use Rattle.bits.proofs.Shifts.{middle}
 use Rattle.bits.proofs.words.field_at.Statement.{statement}
 use Rattle.bits.proofs.words.field_at.Tie as tie
 
-add-if1 : tie.Need-add-if1
-add-if1 c = search needs
-
-eight-requires : tie.Need-eight-requires
-eight-requires c κs = search needs
-
 sub-cut : tie.Need-sub-cut
 sub-cut c = omega (arith, and-mask (c .before .before .before .args .at) 3)
 
@@ -29,21 +23,6 @@ returns c =
     let m : bitAnd (a .at) 7 ≡ a .at % 8 = and-mask (a .at) 3 in
     c .cut .ensures ∙ middle (a .bytes .now) (a .at) (a .width) 64 _ _ (omega arith) (c .before .eight .ensures)
 
-add-end : tie.Need-add-end
-add-end c = search needs
-
-add-last : tie.Need-add-last
-add-last c = search needs
-
-gathered-requires : tie.Need-gathered-requires
-gathered-requires c κs = search needs
-
-sub-cut-3 : tie.Need-sub-cut-3
-sub-cut-3 c = search needs
-
-cut-requires-2 : tie.Need-cut-requires-2
-cut-requires-2 c κs = search needs
-
 returns-2 : tie.Need-returns-2
 returns-2 c =
     let a = c .before .before .before .before .args in
@@ -53,15 +32,15 @@ pub field-at-spec : {M : Type 1} → statement M
 field-at-spec =
     tie.close
     (tie.spec
-    add-if1
-    eight-requires
+    (λ c. search needs)
+    (λ c κs. search needs)
     sub-cut
     sub-cut-2
     cut-requires
     returns
-    add-end
-    add-last
-    gathered-requires
-    sub-cut-3
-    cut-requires-2
+    (λ c. search needs)
+    (λ c. search needs)
+    (λ c κs. search needs)
+    (λ c. search needs)
+    (λ c κs. search needs)
     returns-2)

@@ -11,24 +11,6 @@ use Rattle.bits.specs.BitLaws.{field-lt, field-split, field-past}
 use Rattle.bits.proofs.words.front.Statement.{statement}
 use Rattle.bits.proofs.words.front.Tie as tie
 
-eight-requires : tie.Need-eight-requires
-eight-requires c κs = search needs
-
-returns : tie.Need-returns
-returns c = search needs
-
-gathered-requires : tie.Need-gathered-requires
-gathered-requires c κs = search needs
-
-mul-result : tie.Need-mul-result
-mul-result c = search needs
-
-sub-result : tie.Need-sub-result
-sub-result c = search needs
-
-shl-result : tie.Need-shl-result
-shl-result c = search needs
-
 returns-2 : tie.Need-returns-2
 returns-2 c =
     let xs = c .before .before .before .args .bytes .now in
@@ -42,4 +24,4 @@ returns-2 c =
 pub front-spec : {M : Type 1} → statement M
 front-spec =
     tie.close
-    (tie.spec eight-requires returns gathered-requires mul-result sub-result shl-result returns-2)
+    (tie.spec (λ c κs. search needs) (λ c. search needs) (λ c κs. search needs) (λ c. search needs) (λ c. search needs) (λ c. search needs) returns-2)

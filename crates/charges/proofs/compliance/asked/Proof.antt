@@ -28,9 +28,6 @@ mul-result-2 c = record { fits = product-fits 10000000 100000 (omega arith) (ome
 mul-result-3 : tie.Need-mul-result-3
 mul-result-3 c = record { fits = product-fits 10000000 100000 (omega arith) (omega arith) (omega arith) }
 
-div-result : tie.Need-div-result
-div-result c = search needs
-
 returns-3 : tie.Need-returns-3
 unfolding uncapped
 returns-3 c =
@@ -53,6 +50,6 @@ asked-spec =
     returns-2
     mul-result-2
     mul-result-3
-    div-result
+    (λ c. search needs)
     returns-3
     returns-4)

@@ -7,12 +7,6 @@ use Rattle.charges.specs.Bounds.{product-fits}
 use Rattle.charges.proofs.compliance.cap.Statement.{statement}
 use Rattle.charges.proofs.compliance.cap.Tie as tie
 
-new-requires : tie.Need-new-requires
-new-requires c κs = search needs
-
-unforced-requires : tie.Need-unforced-requires
-unforced-requires c κs = search needs
-
 mul-result : tie.Need-mul-result
 mul-result c =
     let p = c .before .before .before .pre in
@@ -23,4 +17,4 @@ returns : tie.Need-returns
 returns c = cc
 
 pub cap-spec : {M : Type 1} → statement M
-cap-spec = tie.close (tie.spec new-requires unforced-requires mul-result returns)
+cap-spec = tie.close (tie.spec (λ c κs. search needs) (λ c κs. search needs) mul-result returns)

@@ -17,35 +17,11 @@ abbrev μ-loop : tie.MeasureT-loop
 loop-holds : tie.Need-loop-holds Inv-loop μ-loop
 loop-holds c = filled-none refl
 
-mul-cap : tie.Need-mul-cap Inv-loop μ-loop
-mul-cap c = omega arith
-
-element-copy-out-cap : tie.Need-element-copy-out-cap Inv-loop μ-loop
-element-copy-out-cap c = omega arith
-
-mul-cap-2 : tie.Need-mul-cap-2 Inv-loop μ-loop
-mul-cap-2 c = omega arith
-
-element-copy-out-cap-2 : tie.Need-element-copy-out-cap-2 Inv-loop μ-loop
-element-copy-out-cap-2 c = omega arith
-
 cap-requires : tie.Need-cap-requires Inv-loop μ-loop
 cap-requires c κs =
     let l = c .before .before .before in
     let p = l .before .pre .1 .1 in
     omega (arith, p .0 (l .loop .i), p .1 (l .loop .i))
-
-mul-caps : tie.Need-mul-caps Inv-loop μ-loop
-mul-caps c = omega arith
-
-array-write-caps : tie.Need-array-write-caps Inv-loop μ-loop
-array-write-caps c = omega arith
-
-add-i : tie.Need-add-i Inv-loop μ-loop
-add-i c = omega arith
-
-loop-less : tie.Need-loop-less Inv-loop μ-loop
-loop-less c = omega arith
 
 loop-again : tie.Need-loop-again Inv-loop μ-loop
 loop-again c = filled-more (c .before .before .before .before .loop .inv) (omega arith) (c .cap .ensures)
@@ -60,14 +36,14 @@ caps-of-spec =
     Inv-loop
     μ-loop
     loop-holds
-    mul-cap
-    element-copy-out-cap
-    mul-cap-2
-    element-copy-out-cap-2
+    (λ c. omega arith)
+    (λ c. omega arith)
+    (λ c. omega arith)
+    (λ c. omega arith)
     cap-requires
-    mul-caps
-    array-write-caps
-    add-i
-    loop-less
+    (λ c. omega arith)
+    (λ c. omega arith)
+    (λ c. omega arith)
+    (λ c. omega arith)
     loop-again
     returns)

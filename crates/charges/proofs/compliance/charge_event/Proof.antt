@@ -37,53 +37,11 @@ cents-is c = rw (daily-is (c .before .before)) at (c .due-cents .ensures)
 loop-holds : tie.Need-loop-holds Inv-loop μ-loop
 loop-holds c = charging-none (c .pre .takenLong) (c .pre .complianceLong)
 
-mul-before : tie.Need-mul-before Inv-loop μ-loop
-mul-before c = omega arith
-
-element-copy-out-before : tie.Need-element-copy-out-before Inv-loop μ-loop
-element-copy-out-before c = omega arith
-
-mul-asked : tie.Need-mul-asked Inv-loop μ-loop
-mul-asked c = omega arith
-
-element-copy-out-asked : tie.Need-element-copy-out-asked Inv-loop μ-loop
-element-copy-out-asked c = omega arith
-
-mul-asked-2 : tie.Need-mul-asked-2 Inv-loop μ-loop
-mul-asked-2 c = omega arith
-
-element-copy-out-asked-2 : tie.Need-element-copy-out-asked-2 Inv-loop μ-loop
-element-copy-out-asked-2 c = omega arith
-
-mul-asked-3 : tie.Need-mul-asked-3 Inv-loop μ-loop
-mul-asked-3 c = omega arith
-
-element-copy-out-asked-3 : tie.Need-element-copy-out-asked-3 Inv-loop μ-loop
-element-copy-out-asked-3 c = omega arith
-
 asked-requires : tie.Need-asked-requires Inv-loop μ-loop
 asked-requires c κs =
     let l = c .before .before .before .before .before in
     let p = l .before .pre in
     (p .u (l .loop .i), p .rates (l .loop .i))
-
-mul-less : tie.Need-mul-less Inv-loop μ-loop
-mul-less c = omega arith
-
-element-copy-out-less : tie.Need-element-copy-out-less Inv-loop μ-loop
-element-copy-out-less c = omega arith
-
-less-requires : tie.Need-less-requires Inv-loop μ-loop
-less-requires c κs = tt
-
-lesser-requires : tie.Need-lesser-requires Inv-loop μ-loop
-lesser-requires c κs = tt
-
-mul-due-cents : tie.Need-mul-due-cents Inv-loop μ-loop
-mul-due-cents c = omega arith
-
-element-copy-out-due-cents : tie.Need-element-copy-out-due-cents Inv-loop μ-loop
-element-copy-out-due-cents c = omega arith
 
 due-cents-requires : tie.Need-due-cents-requires Inv-loop μ-loop
 due-cents-requires c κs =
@@ -101,18 +59,6 @@ add-taken c =
       daily-is (c .before .before),
       daily-most (l .before) (l .loop .i),
     )
-
-mul-taken : tie.Need-mul-taken Inv-loop μ-loop
-mul-taken c = omega arith
-
-element-write-taken : tie.Need-element-write-taken Inv-loop μ-loop
-element-write-taken c = omega arith
-
-mul-add-at : tie.Need-mul-add-at Inv-loop μ-loop
-mul-add-at c = omega arith
-
-element-copy-out-add-at : tie.Need-element-copy-out-add-at Inv-loop μ-loop
-element-copy-out-add-at c = omega arith
 
 add-at-requires : tie.Need-add-at-requires Inv-loop μ-loop
 add-at-requires c κs =
@@ -138,12 +84,6 @@ add-charged c =
       cents-most (l .before) (l .loop .i),
     )
 
-add-i : tie.Need-add-i Inv-loop μ-loop
-add-i c = omega arith
-
-loop-less : tie.Need-loop-less Inv-loop μ-loop
-loop-less c = omega arith
-
 loop-again : tie.Need-loop-again Inv-loop μ-loop
 loop-again c =
     let l = c .before .before .before .before .before .before .before .before .before .before .before .before .before .before in
@@ -160,30 +100,30 @@ charge-event-spec =
     Inv-loop
     μ-loop
     loop-holds
-    mul-before
-    element-copy-out-before
-    mul-asked
-    element-copy-out-asked
-    mul-asked-2
-    element-copy-out-asked-2
-    mul-asked-3
-    element-copy-out-asked-3
+    (λ c. omega arith)
+    (λ c. omega arith)
+    (λ c. omega arith)
+    (λ c. omega arith)
+    (λ c. omega arith)
+    (λ c. omega arith)
+    (λ c. omega arith)
+    (λ c. omega arith)
     asked-requires
-    mul-less
-    element-copy-out-less
-    less-requires
-    lesser-requires
-    mul-due-cents
-    element-copy-out-due-cents
+    (λ c. omega arith)
+    (λ c. omega arith)
+    (λ c κs. tt)
+    (λ c κs. tt)
+    (λ c. omega arith)
+    (λ c. omega arith)
     due-cents-requires
     add-taken
-    mul-taken
-    element-write-taken
-    mul-add-at
-    element-copy-out-add-at
+    (λ c. omega arith)
+    (λ c. omega arith)
+    (λ c. omega arith)
+    (λ c. omega arith)
     add-at-requires
     add-charged
-    add-i
-    loop-less
+    (λ c. omega arith)
+    (λ c. omega arith)
     loop-again
     returns)

@@ -6,9 +6,6 @@ use Rattle.charges.specs.Bounds.{product-fits}
 use Rattle.charges.proofs.compliance.due_cents.Statement.{statement}
 use Rattle.charges.proofs.compliance.due_cents.Tie as tie
 
-due-month-requires : tie.Need-due-month-requires
-due-month-requires c κs = search needs
-
 mul-result : tie.Need-mul-result
 mul-result c = record { fits = product-fits 100000000000 366 (omega arith) (omega arith) (omega arith) }
 
@@ -19,4 +16,4 @@ returns-2 : tie.Need-returns-2
 returns-2 c = rw (← (c .before .due-month .ensures), lt-leb _ _ (c .if1 .left))
 
 pub due-cents-spec : {M : Type 1} → statement M
-due-cents-spec = tie.close (tie.spec due-month-requires mul-result returns returns-2)
+due-cents-spec = tie.close (tie.spec (λ c κs. search needs) mul-result returns returns-2)

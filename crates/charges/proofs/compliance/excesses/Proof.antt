@@ -16,33 +16,6 @@ abbrev μ-loop : tie.MeasureT-loop
 loop-holds : tie.Need-loop-holds Inv-loop μ-loop
 loop-holds c = filled-none refl
 
-mul-less : tie.Need-mul-less Inv-loop μ-loop
-mul-less c = omega arith
-
-array-read-less : tie.Need-array-read-less Inv-loop μ-loop
-array-read-less c = omega arith
-
-mul-less-2 : tie.Need-mul-less-2 Inv-loop μ-loop
-mul-less-2 c = omega arith
-
-array-read-less-2 : tie.Need-array-read-less-2 Inv-loop μ-loop
-array-read-less-2 c = omega arith
-
-less-requires : tie.Need-less-requires Inv-loop μ-loop
-less-requires c κs = tt
-
-mul-r : tie.Need-mul-r Inv-loop μ-loop
-mul-r c = omega arith
-
-array-write-r : tie.Need-array-write-r Inv-loop μ-loop
-array-write-r c = omega arith
-
-add-s : tie.Need-add-s Inv-loop μ-loop
-add-s c = omega arith
-
-loop-less : tie.Need-loop-less Inv-loop μ-loop
-loop-less c = omega arith
-
 loop-again : tie.Need-loop-again Inv-loop μ-loop
 loop-again c = filled-more (c .before .before .loop .inv) (omega arith) (c .less .ensures)
 
@@ -56,14 +29,14 @@ excesses-spec =
     Inv-loop
     μ-loop
     loop-holds
-    mul-less
-    array-read-less
-    mul-less-2
-    array-read-less-2
-    less-requires
-    mul-r
-    array-write-r
-    add-s
-    loop-less
+    (λ c. omega arith)
+    (λ c. omega arith)
+    (λ c. omega arith)
+    (λ c. omega arith)
+    (λ c κs. tt)
+    (λ c. omega arith)
+    (λ c. omega arith)
+    (λ c. omega arith)
+    (λ c. omega arith)
     loop-again
     returns)

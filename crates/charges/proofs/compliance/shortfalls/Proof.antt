@@ -17,43 +17,10 @@ abbrev μ-loop : tie.MeasureT-loop
 loop-holds : tie.Need-loop-holds Inv-loop μ-loop
 loop-holds c = filled-none refl
 
-mul-shortfall : tie.Need-mul-shortfall Inv-loop μ-loop
-mul-shortfall c = omega arith
-
-array-read-shortfall : tie.Need-array-read-shortfall Inv-loop μ-loop
-array-read-shortfall c = omega arith
-
-mul-shortfall-2 : tie.Need-mul-shortfall-2 Inv-loop μ-loop
-mul-shortfall-2 c = omega arith
-
-array-read-shortfall-2 : tie.Need-array-read-shortfall-2 Inv-loop μ-loop
-array-read-shortfall-2 c = omega arith
-
-mul-wide : tie.Need-mul-wide Inv-loop μ-loop
-mul-wide c = omega arith
-
-array-read-wide : tie.Need-array-read-wide Inv-loop μ-loop
-array-read-wide c = omega arith
-
-wide-requires : tie.Need-wide-requires Inv-loop μ-loop
-wide-requires c κs = tt
-
 shortfall-requires : tie.Need-shortfall-requires Inv-loop μ-loop
 shortfall-requires c κs =
     let l = c .before .before in
     omega (arith, l .before .pre .1 .1 (l .loop .s))
-
-mul-r : tie.Need-mul-r Inv-loop μ-loop
-mul-r c = omega arith
-
-array-write-r : tie.Need-array-write-r Inv-loop μ-loop
-array-write-r c = omega arith
-
-add-s : tie.Need-add-s Inv-loop μ-loop
-add-s c = omega arith
-
-loop-less : tie.Need-loop-less Inv-loop μ-loop
-loop-less c = omega arith
 
 loop-again : tie.Need-loop-again Inv-loop μ-loop
 loop-again c = filled-more (c .before .before .before .loop .inv) (omega arith) (rw (c .before .wide .ensures) at (c .shortfall .ensures))
@@ -68,17 +35,17 @@ shortfalls-spec =
     Inv-loop
     μ-loop
     loop-holds
-    mul-shortfall
-    array-read-shortfall
-    mul-shortfall-2
-    array-read-shortfall-2
-    mul-wide
-    array-read-wide
-    wide-requires
+    (λ c. omega arith)
+    (λ c. omega arith)
+    (λ c. omega arith)
+    (λ c. omega arith)
+    (λ c. omega arith)
+    (λ c. omega arith)
+    (λ c κs. tt)
     shortfall-requires
-    mul-r
-    array-write-r
-    add-s
-    loop-less
+    (λ c. omega arith)
+    (λ c. omega arith)
+    (λ c. omega arith)
+    (λ c. omega arith)
     loop-again
     returns)

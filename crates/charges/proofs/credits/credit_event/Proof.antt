@@ -21,41 +21,17 @@ sum-of-requires c κs =
     let s = c .before in
     rw (c .sum-of-arg .given .0) (omega (arith, sum-bound 64 10000000 (at (s .args .e .now)) (λ j m. s .pre .e j)))
 
-new-requires : tie.Need-new-requires Inv-loop μ-loop
-new-requires c κs = tt
-
 loop-holds : tie.Need-loop-holds Inv-loop μ-loop
 loop-holds c = crediting-none (c .before .before .before .pre .creditLong) (rw (c .before .before .sum-of-arg .given .0) at (c .before .sum-of .ensures)) (c .new .ensures)
 
-mul-excess : tie.Need-mul-excess Inv-loop μ-loop
-mul-excess c = omega arith
-
-element-copy-out-excess : tie.Need-element-copy-out-excess Inv-loop μ-loop
-element-copy-out-excess c = omega arith
-
 share-requires : tie.Need-share-requires Inv-loop μ-loop
 share-requires c κs = share-asks (c .before .before .before .loop .inv .before) (c .before .before .loop-test .taken) refl (c .before .before .before .before .before .before .before .pre .fits)
-
-mul-limit : tie.Need-mul-limit Inv-loop μ-loop
-mul-limit c = omega arith
-
-element-copy-out-limit : tie.Need-element-copy-out-limit Inv-loop μ-loop
-element-copy-out-limit c = omega arith
 
 limit-requires : tie.Need-limit-requires Inv-loop μ-loop
 limit-requires c κs =
     let i = c .before .before .before .before .before .before .loop .i in
     let p = c .before .before .before .before .before .before .before .before .before .before .pre in
     (p .e i, (p .rates i, p .days))
-
-mul-add-at : tie.Need-mul-add-at Inv-loop μ-loop
-mul-add-at c = omega arith
-
-element-copy-out-add-at : tie.Need-element-copy-out-add-at Inv-loop μ-loop
-element-copy-out-add-at c = omega arith
-
-lesser-requires : tie.Need-lesser-requires Inv-loop μ-loop
-lesser-requires c κs = tt
 
 add-at-requires : tie.Need-add-at-requires Inv-loop μ-loop
 add-at-requires c κs =
@@ -71,12 +47,6 @@ add-at-requires c κs =
         most (l .loop .i),
       ),
     )
-
-add-i : tie.Need-add-i Inv-loop μ-loop
-add-i c = omega arith
-
-loop-less : tie.Need-loop-less Inv-loop μ-loop
-loop-less c = omega arith
 
 loop-again : tie.Need-loop-again Inv-loop μ-loop
 loop-again c =
@@ -99,19 +69,19 @@ credit-event-spec =
     Inv-loop
     μ-loop
     sum-of-requires
-    new-requires
+    (λ c κs. tt)
     loop-holds
-    mul-excess
-    element-copy-out-excess
+    (λ c. omega arith)
+    (λ c. omega arith)
     share-requires
-    mul-limit
-    element-copy-out-limit
+    (λ c. omega arith)
+    (λ c. omega arith)
     limit-requires
-    mul-add-at
-    element-copy-out-add-at
-    lesser-requires
+    (λ c. omega arith)
+    (λ c. omega arith)
+    (λ c κs. tt)
     add-at-requires
-    add-i
-    loop-less
+    (λ c. omega arith)
+    (λ c. omega arith)
     loop-again
     returns)

@@ -12,8 +12,5 @@ mul-result c = record { fits = product-fits 10000000 100000 (omega arith) (omega
 mul-result-2 : tie.Need-mul-result-2
 mul-result-2 c = record { fits = product-fits 1000000000000 366 (omega (arith, mul-le-mul (c .pre .0) (c .pre .1 .0))) (omega arith) (omega arith) }
 
-returns : tie.Need-returns
-returns c = search needs
-
 pub limit-spec : {M : Type 1} → statement M
-limit-spec = tie.close (tie.spec mul-result mul-result-2 returns)
+limit-spec = tie.close (tie.spec mul-result mul-result-2 (λ c. search needs))

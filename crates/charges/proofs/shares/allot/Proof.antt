@@ -19,34 +19,13 @@ abbrev μ-loop : tie.MeasureT-loop
 sum-of-requires : tie.Need-sum-of-requires Inv-loop μ-loop
 sum-of-requires c κs = c .before .before .pre .1 .0
 
-new-requires : tie.Need-new-requires Inv-loop μ-loop
-new-requires c κs = tt
-
 loop-holds : tie.Need-loop-holds Inv-loop μ-loop
 loop-holds c = (filled-none (c .before .before .before .before .pre .0), before-first refl (c .before .sum-of .ensures) (c .new .ensures))
-
-mul-share : tie.Need-mul-share Inv-loop μ-loop
-mul-share c = omega arith
-
-shared-slice-read-share : tie.Need-shared-slice-read-share Inv-loop μ-loop
-shared-slice-read-share c = omega arith
 
 share-requires : tie.Need-share-requires Inv-loop μ-loop
 share-requires c κs =
     let l = c .before .before in
     share-asks (l .loop .inv .1) (omega arith) refl (l .before .before .before .before .before .pre .1 .1)
-
-mul-shares : tie.Need-mul-shares Inv-loop μ-loop
-mul-shares c = omega arith
-
-slice-write-shares : tie.Need-slice-write-shares Inv-loop μ-loop
-slice-write-shares c = omega arith
-
-add-i : tie.Need-add-i Inv-loop μ-loop
-add-i c = omega arith
-
-loop-less : tie.Need-loop-less Inv-loop μ-loop
-loop-less c = omega arith
 
 loop-again : tie.Need-loop-again Inv-loop μ-loop
 loop-again c =
@@ -69,15 +48,15 @@ allot-spec =
     Inv-loop
     μ-loop
     sum-of-requires
-    new-requires
+    (λ c κs. tt)
     loop-holds
-    mul-share
-    shared-slice-read-share
+    (λ c. omega arith)
+    (λ c. omega arith)
     share-requires
-    mul-shares
-    slice-write-shares
-    add-i
-    loop-less
+    (λ c. omega arith)
+    (λ c. omega arith)
+    (λ c. omega arith)
+    (λ c. omega arith)
     loop-again
     same-length
     returns)

@@ -21,24 +21,6 @@ seller l = l .before .pre .0 (l .loop .i)
 loop-holds : tie.Need-loop-holds Inv-loop μ-loop
 loop-holds c = turn-first (c .pre .1 .1 .1 .0) (c .pre .1 .1 .1 .1)
 
-mul-weight : tie.Need-mul-weight Inv-loop μ-loop
-mul-weight c = omega arith
-
-element-copy-out-weight : tie.Need-element-copy-out-weight Inv-loop μ-loop
-element-copy-out-weight c = omega arith
-
-mul-shares : tie.Need-mul-shares Inv-loop μ-loop
-mul-shares c = omega arith
-
-element-write-shares : tie.Need-element-write-shares Inv-loop μ-loop
-element-write-shares c = omega arith
-
-mul-s : tie.Need-mul-s Inv-loop μ-loop
-mul-s c = omega arith
-
-element-copy-out-s : tie.Need-element-copy-out-s Inv-loop μ-loop
-element-copy-out-s c = omega arith
-
 mul-t22 : tie.Need-mul-t22 Inv-loop μ-loop
 mul-t22 c = omega (arith, seller (c .before .before .before .before))
 
@@ -69,12 +51,6 @@ share-requires c κs =
     let p = l .before .pre in
     turn-asks (l .loop .inv) (p .0) (c .before .before .before .before .before .loop-test .taken) (p .1 .0) (p .1 .1 .0)
 
-mul-shares-2 : tie.Need-mul-shares-2 Inv-loop μ-loop
-mul-shares-2 c = omega arith
-
-element-write-shares-2 : tie.Need-element-write-shares-2 Inv-loop μ-loop
-element-write-shares-2 c = omega arith
-
 mul-passed : tie.Need-mul-passed Inv-loop μ-loop
 mul-passed c = omega (arith, seller (c .before .before .before .before .before .before .before .before))
 
@@ -86,12 +62,6 @@ mul-quotients c = omega (arith, seller (c .before .before .before .before .befor
 
 array-write-quotients : tie.Need-array-write-quotients Inv-loop μ-loop
 array-write-quotients c = omega (arith, seller (c .before .before .before .before .before .before .before .before))
-
-add-i : tie.Need-add-i Inv-loop μ-loop
-add-i c = omega arith
-
-loop-less : tie.Need-loop-less Inv-loop μ-loop
-loop-less c = omega arith
 
 loop-again : tie.Need-loop-again Inv-loop μ-loop
 loop-again c =
@@ -111,12 +81,12 @@ allot-by-seller-spec =
     Inv-loop
     μ-loop
     loop-holds
-    mul-weight
-    element-copy-out-weight
-    mul-shares
-    element-write-shares
-    mul-s
-    element-copy-out-s
+    (λ c. omega arith)
+    (λ c. omega arith)
+    (λ c. omega arith)
+    (λ c. omega arith)
+    (λ c. omega arith)
+    (λ c. omega arith)
     mul-t22
     element-copy-out-t25
     mul-t28
@@ -126,13 +96,13 @@ allot-by-seller-spec =
     mul-t36
     array-read-t39
     share-requires
-    mul-shares-2
-    element-write-shares-2
+    (λ c. omega arith)
+    (λ c. omega arith)
     mul-passed
     array-write-passed
     mul-quotients
     array-write-quotients
-    add-i
-    loop-less
+    (λ c. omega arith)
+    (λ c. omega arith)
     loop-again
     returns)

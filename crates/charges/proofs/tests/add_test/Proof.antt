@@ -18,61 +18,16 @@ abbrev μ-loop : tie.MeasureT-loop
 loop-holds : tie.Need-loop-holds Inv-loop μ-loop
 loop-holds c = filled-none refl
 
-mul-wide : tie.Need-mul-wide Inv-loop μ-loop
-mul-wide c = omega arith
-
-array-read-wide : tie.Need-array-read-wide Inv-loop μ-loop
-array-read-wide c = omega arith
-
-wide-requires : tie.Need-wide-requires Inv-loop μ-loop
-wide-requires c κs = tt
-
-mul-test-charge : tie.Need-mul-test-charge Inv-loop μ-loop
-mul-test-charge c = omega arith
-
-element-copy-out-test-charge : tie.Need-element-copy-out-test-charge Inv-loop μ-loop
-element-copy-out-test-charge c = omega arith
-
-mul-test-charge-2 : tie.Need-mul-test-charge-2 Inv-loop μ-loop
-mul-test-charge-2 c = omega arith
-
-element-copy-out-test-charge-2 : tie.Need-element-copy-out-test-charge-2 Inv-loop μ-loop
-element-copy-out-test-charge-2 c = omega arith
-
-mul-test-charge-3 : tie.Need-mul-test-charge-3 Inv-loop μ-loop
-mul-test-charge-3 c = omega arith
-
-element-copy-out-test-charge-3 : tie.Need-element-copy-out-test-charge-3 Inv-loop μ-loop
-element-copy-out-test-charge-3 c = omega arith
-
 test-charge-requires : tie.Need-test-charge-requires Inv-loop μ-loop
 test-charge-requires c κs =
     let l = c .before .before .before .before .before in
     let p = l .before .pre .1 .1 .1 in
     omega (arith, p .0 (l .loop .s), p .1 .1 (l .loop .s))
 
-mul-r : tie.Need-mul-r Inv-loop μ-loop
-mul-r c = omega arith
-
-array-read-r : tie.Need-array-read-r Inv-loop μ-loop
-array-read-r c = omega arith
-
 add-r : tie.Need-add-r Inv-loop μ-loop
 add-r c =
     let l = c .before .before .before .before .before .before in
     omega (arith, l .before .pre .1 .1 .1 .1 .0 (l .loop .s))
-
-mul-r-2 : tie.Need-mul-r-2 Inv-loop μ-loop
-mul-r-2 c = omega arith
-
-array-write-r : tie.Need-array-write-r Inv-loop μ-loop
-array-write-r c = omega arith
-
-add-s : tie.Need-add-s Inv-loop μ-loop
-add-s c = omega arith
-
-loop-less : tie.Need-loop-less Inv-loop μ-loop
-loop-less c = omega arith
 
 loop-again : tie.Need-loop-again Inv-loop μ-loop
 loop-again c = filled-more (c .before .before .before .before .before .before .loop .inv) (omega arith) (rw (c .test-charge .ensures .0, c .before .before .before .before .wide .ensures))
@@ -87,22 +42,22 @@ add-test-spec =
     Inv-loop
     μ-loop
     loop-holds
-    mul-wide
-    array-read-wide
-    wide-requires
-    mul-test-charge
-    element-copy-out-test-charge
-    mul-test-charge-2
-    element-copy-out-test-charge-2
-    mul-test-charge-3
-    element-copy-out-test-charge-3
+    (λ c. omega arith)
+    (λ c. omega arith)
+    (λ c κs. tt)
+    (λ c. omega arith)
+    (λ c. omega arith)
+    (λ c. omega arith)
+    (λ c. omega arith)
+    (λ c. omega arith)
+    (λ c. omega arith)
     test-charge-requires
-    mul-r
-    array-read-r
+    (λ c. omega arith)
+    (λ c. omega arith)
     add-r
-    mul-r-2
-    array-write-r
-    add-s
-    loop-less
+    (λ c. omega arith)
+    (λ c. omega arith)
+    (λ c. omega arith)
+    (λ c. omega arith)
     loop-again
     returns)

@@ -14,12 +14,6 @@ short-most c =
 rate-most : (c : tie.After-test-rate) → c .test-rate .result ≤ 120000
 rate-most c = rw (c .test-rate .ensures) (rate-le _ _ (c .before .before .pre .1 .1 .1 .1))
 
-shortfall-requires : tie.Need-shortfall-requires
-shortfall-requires c κs = search needs
-
-test-rate-requires : tie.Need-test-rate-requires
-test-rate-requires c κs = search needs
-
 mul-result : tie.Need-mul-result
 mul-result c = record { fits = product-fits 9216000 120000 (short-most c) (rate-most c) (omega arith) }
 
@@ -35,4 +29,4 @@ returns c =
 
 pub test-charge-spec : {M : Type 1} → statement M
 test-charge-spec =
-    tie.close (tie.spec shortfall-requires test-rate-requires mul-result mul-result-2 returns)
+    tie.close (tie.spec (λ c κs. search needs) (λ c κs. search needs) mul-result mul-result-2 returns)

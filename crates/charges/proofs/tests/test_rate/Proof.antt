@@ -16,12 +16,6 @@ returns c =
     let none : v / c .before .args .committed ≡ 0 = rw (c .if1 .taken) (div-zero v) in
     omega arith
 
-div-base : tie.Need-div-base
-div-base c = search needs
-
-add-result : tie.Need-add-result
-add-result c = search needs
-
 add-result-2 : tie.Need-add-result-2
 add-result-2 c = omega (arith, average-le _ _ (c .before .before .pre))
 
@@ -34,4 +28,4 @@ unfolding raised
 returns-3 c = omega arith
 
 pub test-rate-spec : {M : Type 1} → statement M
-test-rate-spec = tie.close (tie.spec returns div-base add-result add-result-2 returns-2 returns-3)
+test-rate-spec = tie.close (tie.spec returns (λ c. search needs) (λ c. search needs) add-result-2 returns-2 returns-3)

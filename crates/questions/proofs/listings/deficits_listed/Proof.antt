@@ -20,21 +20,9 @@ Inv-loop listing sellers s₀ s = (s ≤ 16) × (allTo s (λ k. eqb (deficit lis
 abbrev μ-loop : tie.MeasureT-loop
 μ-loop listing sellers s₀ s = 16 - s
 
-sellers-listed-requires : tie.Need-sellers-listed-requires Inv-loop μ-loop
-sellers-listed-requires c κs = search needs
-
 loop-holds : tie.Need-loop-holds Inv-loop μ-loop
 unfolding allTo
 loop-holds c = (omega arith, refl)
-
-mul-if1 : tie.Need-mul-if1 Inv-loop μ-loop
-mul-if1 c = omega arith
-
-element-copy-out-if1 : tie.Need-element-copy-out-if1 Inv-loop μ-loop
-element-copy-out-if1 c = omega arith
-
-array-read-if2 : tie.Need-array-read-if2 Inv-loop μ-loop
-array-read-if2 c = omega arith
 
 returns : tie.Need-returns Inv-loop μ-loop
 unfolding deficit
@@ -45,12 +33,6 @@ returns c =
     sym (all-fails 16 (λ k. eqb (deficit (a .t2) k) 0 || holds (marks .result) k) s (omega arith)
     (rw (ne-eqb (deficit (a .t2) s) 0 (c .before .if1 .taken), not-true (holds (marks .result) s) (c .if2 .taken))))
     ∙ deficits-listed (a .terms) (a .t2) (marks .ensures)
-
-add-s : tie.Need-add-s Inv-loop μ-loop
-add-s c = omega arith
-
-loop-less : tie.Need-loop-less Inv-loop μ-loop
-loop-less c = omega arith
 
 loop-again : tie.Need-loop-again Inv-loop μ-loop
 unfolding deficit
@@ -76,13 +58,13 @@ deficits-listed-spec =
     (tie.spec
     Inv-loop
     μ-loop
-    sellers-listed-requires
+    (λ c κs. search needs)
     loop-holds
-    mul-if1
-    element-copy-out-if1
-    array-read-if2
+    (λ c. omega arith)
+    (λ c. omega arith)
+    (λ c. omega arith)
     returns
-    add-s
-    loop-less
+    (λ c. omega arith)
+    (λ c. omega arith)
     loop-again
     returns-2)

@@ -17,24 +17,9 @@ abbrev μ-loop : tie.MeasureT-loop
 loop-holds : tie.Need-loop-holds Inv-loop μ-loop
 loop-holds c = (omega arith, marked-none _ _)
 
-array-read-if1 : tie.Need-array-read-if1 Inv-loop μ-loop
-array-read-if1 c = omega arith
-
-mul-r : tie.Need-mul-r Inv-loop μ-loop
-mul-r c = omega arith
-
-element-copy-out-r : tie.Need-element-copy-out-r Inv-loop μ-loop
-element-copy-out-r c = omega arith
-
 array-write-sellers : tie.Need-array-write-sellers Inv-loop μ-loop
 unfolding seller
 array-write-sellers c = seller-below (c .before .before .before .before .pre) (c .before .before .before .loop .i)
-
-add-i : tie.Need-add-i Inv-loop μ-loop
-add-i c = omega arith
-
-loop-less : tie.Need-loop-less Inv-loop μ-loop
-loop-less c = omega arith
 
 loop-again : tie.Need-loop-again Inv-loop μ-loop
 unfolding seller
@@ -60,11 +45,11 @@ sellers-listed-spec =
     Inv-loop
     μ-loop
     loop-holds
-    array-read-if1
-    mul-r
-    element-copy-out-r
+    (λ c. omega arith)
+    (λ c. omega arith)
+    (λ c. omega arith)
     array-write-sellers
-    add-i
-    loop-less
+    (λ c. omega arith)
+    (λ c. omega arith)
     loop-again
     returns)

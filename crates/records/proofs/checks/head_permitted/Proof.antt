@@ -20,18 +20,6 @@ Inv-loop kind values start n lows highs j₀ j = (j ≤ n) × (allTo j (λ i. pe
 abbrev μ-loop : tie.MeasureT-loop
 μ-loop kind values start n lows highs j₀ j = n - j
 
-start-at-requires : tie.Need-start-at-requires Inv-loop μ-loop
-start-at-requires c κs = search needs
-
-count-at-requires : tie.Need-count-at-requires Inv-loop μ-loop
-count-at-requires c κs = search needs
-
-lows-of-heads-requires : tie.Need-lows-of-heads-requires Inv-loop μ-loop
-lows-of-heads-requires c κs = search needs
-
-highs-of-heads-requires : tie.Need-highs-of-heads-requires Inv-loop μ-loop
-highs-of-heads-requires c κs = search needs
-
 loop-holds : tie.Need-loop-holds Inv-loop μ-loop
 unfolding allTo
 loop-holds c = (omega arith, refl)
@@ -40,9 +28,6 @@ add-i : tie.Need-add-i Inv-loop μ-loop
 add-i c =
     let s = c .before .before .before .before .before .before .before in
     omega (arith, head-ends (s .args .kind) (s .pre .0), c .before .before .before .before .before .start-at .ensures, c .before .before .before .before .count-at .ensures)
-
-mul-v : tie.Need-mul-v Inv-loop μ-loop
-mul-v c = omega arith
 
 shared-slice-read-v : tie.Need-shared-slice-read-v Inv-loop μ-loop
 shared-slice-read-v c = omega (arith, c .before .before .before .before .before .count-at .ensures)
@@ -56,9 +41,6 @@ array-read-wide : tie.Need-array-read-wide Inv-loop μ-loop
 array-read-wide c =
     let s = c .before .before .before .before .before .before .before .before in
     omega (arith, head-ends (s .args .kind) (s .pre .0), c .before .before .before .before .before .before .start-at .ensures, c .before .before .before .before .before .count-at .ensures)
-
-wide-requires : tie.Need-wide-requires Inv-loop μ-loop
-wide-requires c κs = search needs
 
 returns : tie.Need-returns Inv-loop μ-loop
 unfolding permitted
@@ -81,9 +63,6 @@ array-read-wide-2 c =
     let s = c .before .before .before .before .before .before .before .before .before .before in
     omega (arith, head-ends (s .args .kind) (s .pre .0), c .before .before .before .before .before .before .before .before .start-at .ensures, c .before .before .before .before .before .before .before .count-at .ensures)
 
-wide-requires-2 : tie.Need-wide-requires-2 Inv-loop μ-loop
-wide-requires-2 c κs = search needs
-
 returns-2 : tie.Need-returns-2 Inv-loop μ-loop
 unfolding permitted
 returns-2 c =
@@ -94,12 +73,6 @@ returns-2 c =
     let h : j < length (head k) = omega (arith, c .before .before .before .before .before .before .before .before .before .count-at .ensures) in
     let high = limit-is (λ r. r .high) refl k j (c .before .before .before .before .before .before .before .before .before .before .start-at .result) _ (c .before .before .before .before .before .before .before .highs-of-heads .result) (s .pre .0) h (c .before .before .before .before .before .before .before .before .before .before .start-at .ensures) (c .before .before .before .before .before .before .before .highs-of-heads .ensures) (c .before .wide2 .ensures) in
     sym (not-all (length (head k)) (λ i. permits (getD (head k) i noRule) (at vs i)) j h (permits-above (getD (head k) j noRule) (at vs j) (omega arith)))
-
-add-j : tie.Need-add-j Inv-loop μ-loop
-add-j c = omega arith
-
-loop-less : tie.Need-loop-less Inv-loop μ-loop
-loop-less c = omega arith
 
 loop-again : tie.Need-loop-again Inv-loop μ-loop
 loop-again c =
@@ -125,23 +98,23 @@ head-permitted-spec =
     (tie.spec
     Inv-loop
     μ-loop
-    start-at-requires
-    count-at-requires
-    lows-of-heads-requires
-    highs-of-heads-requires
+    (λ c κs. search needs)
+    (λ c κs. search needs)
+    (λ c κs. search needs)
+    (λ c κs. search needs)
     loop-holds
     add-i
-    mul-v
+    (λ c. omega arith)
     shared-slice-read-v
     mul-wide
     array-read-wide
-    wide-requires
+    (λ c κs. search needs)
     returns
     mul-wide-2
     array-read-wide-2
-    wide-requires-2
+    (λ c κs. search needs)
     returns-2
-    add-j
-    loop-less
+    (λ c. omega arith)
+    (λ c. omega arith)
     loop-again
     returns-3)

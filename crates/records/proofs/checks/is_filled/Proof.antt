@@ -9,26 +9,14 @@ use borrow.Author.Needs.{needs}
 use Rattle.records.proofs.checks.is_filled.Statement.{statement}
 use Rattle.records.proofs.checks.is_filled.Tie as tie
 
-add-size : tie.Need-add-size
-add-size c = search needs
-
-mul-left : tie.Need-mul-left
-mul-left c = search needs
-
-sub-left : tie.Need-sub-left
-sub-left c = search needs
-
 returns : tie.Need-returns
 unfolding number
 returns c =
     let z : 8 * bytesFor (c .before .before .args .at) - c .before .before .args .at ≡ 0 = omega arith in
     rw z
 
-take-requires : tie.Need-take-requires
-take-requires c κs = search needs
-
 returns-2 : tie.Need-returns-2
 returns-2 c = ap (λ (v : ℕ). eqb v 0) (c .before .take .ensures .value)
 
 pub is-filled-spec : {M : Type 1} → statement M
-is-filled-spec = tie.close (tie.spec add-size mul-left sub-left returns take-requires returns-2)
+is-filled-spec = tie.close (tie.spec (λ c. search needs) (λ c. search needs) (λ c. search needs) returns (λ c κs. search needs) returns-2)

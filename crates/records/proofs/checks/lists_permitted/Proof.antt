@@ -23,9 +23,6 @@ returns c =
     let no : pairsPermit (c .before .before .before .args .values .now) (length (head (s .kind))) (s .deficits) 15 1 1000000 ≡ false = rw (c .before .before .before .pre .0 .count) at (sym (c .before .pairs-permitted .ensures)) ∙ not-true _ (c .if1 .taken) in
     rw no
 
-mul-pairs-permitted : tie.Need-mul-pairs-permitted
-mul-pairs-permitted c = search needs
-
 add-pairs-permitted : tie.Need-add-pairs-permitted
 add-pairs-permitted c =
     let s = c .before .before .before .before .before .args .s in
@@ -49,7 +46,7 @@ lists-permitted-spec =
     (tie.spec
     pairs-permitted-requires
     returns
-    mul-pairs-permitted
+    (λ c. search needs)
     add-pairs-permitted
     pairs-permitted-requires-2
     returns-2)

@@ -24,9 +24,6 @@ returns c =
     let no : rises (c .before .before .before .args .values .now) (length (head (s .kind))) (s .deficits) ≡ false = rw (c .before .before .before .pre .0 .count) at (sym (c .before .rising .ensures)) ∙ not-true _ (c .if1 .taken) in
     rw no
 
-mul-rising : tie.Need-mul-rising
-mul-rising c = search needs
-
 add-rising : tie.Need-add-rising
 add-rising c =
     let s = c .before .before .before .before .before .args .s in
@@ -46,4 +43,4 @@ returns-2 c =
 
 pub lists-rise-spec : {M : Type 1} → statement M
 lists-rise-spec =
-    tie.close (tie.spec rising-requires returns mul-rising add-rising rising-requires-2 returns-2)
+    tie.close (tie.spec rising-requires returns (λ c. search needs) add-rising rising-requires-2 returns-2)

@@ -27,27 +27,6 @@ loop-holds : tie.Need-loop-holds Inv-loop μ-loop
 unfolding allTo
 loop-holds c = (omega arith, refl)
 
-mul-p : tie.Need-mul-p Inv-loop μ-loop
-mul-p c = omega arith
-
-add-p : tie.Need-add-p Inv-loop μ-loop
-add-p c = omega arith
-
-add-kw : tie.Need-add-kw Inv-loop μ-loop
-add-kw c = omega arith
-
-mul-kw : tie.Need-mul-kw Inv-loop μ-loop
-mul-kw c = omega arith
-
-shared-slice-read-kw : tie.Need-shared-slice-read-kw Inv-loop μ-loop
-shared-slice-read-kw c = omega arith
-
-mul-if1 : tie.Need-mul-if1 Inv-loop μ-loop
-mul-if1 c = omega arith
-
-shared-slice-read-if1 : tie.Need-shared-slice-read-if1 Inv-loop μ-loop
-shared-slice-read-if1 c = omega arith
-
 returns : tie.Need-returns Inv-loop μ-loop
 unfolding pairsPermit
 returns c =
@@ -68,12 +47,6 @@ returns-3 c =
     let a = c .before .before .before .before .before .before .before .args in
     let k = c .before .before .before .before .before .before .loop .k in
     sym (not-all (a .n) (pair (a .values .now) (a .at) (a .last) (a .low) (a .high)) k (omega arith) (rw (lt-leb (number (a .values .now) (a .at + 2 * k + 1)) (a .high) (c .if3 .taken), and-false, and-false)))
-
-add-k : tie.Need-add-k Inv-loop μ-loop
-add-k c = omega arith
-
-loop-less : tie.Need-loop-less Inv-loop μ-loop
-loop-less c = omega arith
 
 loop-again : tie.Need-loop-again Inv-loop μ-loop
 loop-again c =
@@ -99,17 +72,17 @@ pairs-permitted-spec =
     Inv-loop
     μ-loop
     loop-holds
-    mul-p
-    add-p
-    add-kw
-    mul-kw
-    shared-slice-read-kw
-    mul-if1
-    shared-slice-read-if1
+    (λ c. omega arith)
+    (λ c. omega arith)
+    (λ c. omega arith)
+    (λ c. omega arith)
+    (λ c. omega arith)
+    (λ c. omega arith)
+    (λ c. omega arith)
     returns
     returns-2
     returns-3
-    add-k
-    loop-less
+    (λ c. omega arith)
+    (λ c. omega arith)
     loop-again
     returns-4)

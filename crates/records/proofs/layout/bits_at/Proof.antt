@@ -9,9 +9,6 @@ use Rattle.records.specs.LayoutLaws.{head-small}
 use Rattle.records.proofs.layout.bits_at.Statement.{statement}
 use Rattle.records.proofs.layout.bits_at.Tie as tie
 
-array-read-result : tie.Need-array-read-result
-array-read-result c = search needs
-
 cast-result : tie.Need-cast-result
 cast-result c = omega (arith, List·getD-map (λ rs. total (widths rs)) heads (c .args .kind) [], head-small (c .args .kind))
 
@@ -19,4 +16,4 @@ returns : tie.Need-returns
 returns c = List·getD-map (λ rs. total (widths rs)) heads (c .args .kind) []
 
 pub bits-at-spec : {M : Type 1} → statement M
-bits-at-spec = tie.close (tie.spec array-read-result cast-result returns)
+bits-at-spec = tie.close (tie.spec (λ c. search needs) cast-result returns)

@@ -8,9 +8,6 @@ use Rattle.records.specs.LayoutLaws.{head-small}
 use Rattle.records.proofs.layout.count_at.Statement.{statement}
 use Rattle.records.proofs.layout.count_at.Tie as tie
 
-array-read-result : tie.Need-array-read-result
-array-read-result c = search needs
-
 cast-result : tie.Need-cast-result
 cast-result c = omega (arith, List·getD-map (length) heads (c .args .kind) [], head-small (c .args .kind))
 
@@ -18,4 +15,4 @@ returns : tie.Need-returns
 returns c = List·getD-map (length) heads (c .args .kind) []
 
 pub count-at-spec : {M : Type 1} → statement M
-count-at-spec = tie.close (tie.spec array-read-result cast-result returns)
+count-at-spec = tie.close (tie.spec (λ c. search needs) cast-result returns)

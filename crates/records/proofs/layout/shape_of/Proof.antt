@@ -9,15 +9,6 @@ use Rattle.records.specs.QuestionLaws.{lists-six}
 use Rattle.records.proofs.layout.shape_of.Statement.{statement}
 use Rattle.records.proofs.layout.shape_of.Tie as tie
 
-count-at-requires : tie.Need-count-at-requires
-count-at-requires c κs = search needs
-
-bits-at-requires : tie.Need-bits-at-requires
-bits-at-requires c κs = search needs
-
-has-lists-requires : tie.Need-has-lists-requires
-has-lists-requires c κs = search needs
-
 returns : tie.Need-returns
 unfolding deficitsIn entriesIn
 returns c =
@@ -44,9 +35,9 @@ pub shape-of-spec : {M : Type 1} → statement M
 shape-of-spec =
     tie.close
     (tie.spec
-    count-at-requires
-    bits-at-requires
-    has-lists-requires
+    (λ c κs. search needs)
+    (λ c κs. search needs)
+    (λ c κs. search needs)
     returns
     shared-slice-read-t8
     shared-slice-read-t11

@@ -5,16 +5,10 @@ use Rattle.records.specs.LayoutLaws.{head-small, total-rules}
 use Rattle.records.proofs.layout.size_of.Statement.{statement}
 use Rattle.records.proofs.layout.size_of.Tie as tie
 
-bits-of-requires : tie.Need-bits-of-requires
-bits-of-requires c κs = search needs
-
 add-result : tie.Need-add-result
 add-result c =
     let s = c .before .args .s in
     omega (arith, total-rules (s .kind) (s .deficits) (s .entries), head-small (s .kind))
 
-returns : tie.Need-returns
-returns c = search needs
-
 pub size-of-spec : {M : Type 1} → statement M
-size-of-spec = tie.close (tie.spec bits-of-requires add-result returns)
+size-of-spec = tie.close (tie.spec (λ c κs. search needs) add-result (λ c. search needs))

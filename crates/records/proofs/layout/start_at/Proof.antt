@@ -8,9 +8,6 @@ use Rattle.records.proofs.Tables.{starts, starts-at, head-ends}
 use Rattle.records.proofs.layout.start_at.Statement.{statement}
 use Rattle.records.proofs.layout.start_at.Tie as tie
 
-array-read-result : tie.Need-array-read-result
-array-read-result c = search needs
-
 cast-result : tie.Need-cast-result
 unfolding starts
 cast-result c = omega (arith, starts-at 0 heads (c .args .kind) (c .pre), head-ends (c .args .kind) (c .pre))
@@ -20,4 +17,4 @@ unfolding starts
 returns c = starts-at 0 heads (c .args .kind) (c .pre) ∙ zero-add _
 
 pub start-at-spec : {M : Type 1} → statement M
-start-at-spec = tie.close (tie.spec array-read-result cast-result returns)
+start-at-spec = tie.close (tie.spec (λ c. search needs) cast-result returns)

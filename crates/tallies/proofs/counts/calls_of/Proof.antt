@@ -20,12 +20,6 @@ loop-holds : tie.Need-loop-holds Inv-loop μ-loop
 unfolding tabulate called calls
 loop-holds c = (omega arith, refl, refl)
 
-mul-event : tie.Need-mul-event Inv-loop μ-loop
-mul-event c = omega arith
-
-array-copy-out-event : tie.Need-array-copy-out-event Inv-loop μ-loop
-array-copy-out-event c = omega arith
-
 count-event-requires : tie.Need-count-event-requires Inv-loop μ-loop
 count-event-requires c κs =
     let l = c .before .before .before .before in
@@ -34,12 +28,6 @@ count-event-requires c κs =
       ap length (h .1) ∙ length-tabulate (called (take (l .loop .j) t)) 64,
       (ap length (h .2) ∙ length-tabulate (calls (take (l .loop .j) t)) 64, countable t (l .loop .j) (h .2) (omega arith)),
     )
-
-add-j : tie.Need-add-j Inv-loop μ-loop
-add-j c = omega arith
-
-loop-less : tie.Need-loop-less Inv-loop μ-loop
-loop-less c = omega arith
 
 loop-again : tie.Need-loop-again Inv-loop μ-loop
 loop-again c =
@@ -62,10 +50,10 @@ calls-of-spec =
     Inv-loop
     μ-loop
     loop-holds
-    mul-event
-    array-copy-out-event
+    (λ c. omega arith)
+    (λ c. omega arith)
     count-event-requires
-    add-j
-    loop-less
+    (λ c. omega arith)
+    (λ c. omega arith)
     loop-again
     returns)

@@ -18,51 +18,6 @@ loop-holds c =
     let p = c .pre .1 .1 .1 in
     (weighing-none (p .0), weighing-none (p .1))
 
-mul-s : tie.Need-mul-s Inv-loop μ-loop
-mul-s c = omega arith
-
-element-copy-out-s : tie.Need-element-copy-out-s Inv-loop μ-loop
-element-copy-out-s c = omega arith
-
-mul-c : tie.Need-mul-c Inv-loop μ-loop
-mul-c c = omega arith
-
-element-copy-out-c : tie.Need-element-copy-out-c Inv-loop μ-loop
-element-copy-out-c c = omega arith
-
-mul-wide : tie.Need-mul-wide Inv-loop μ-loop
-mul-wide c = omega arith
-
-element-copy-out-wide : tie.Need-element-copy-out-wide Inv-loop μ-loop
-element-copy-out-wide c = omega arith
-
-wide-requires : tie.Need-wide-requires Inv-loop μ-loop
-wide-requires c κs = tt
-
-element-copy-out-weight : tie.Need-element-copy-out-weight Inv-loop μ-loop
-element-copy-out-weight c = omega arith
-
-weight-requires : tie.Need-weight-requires Inv-loop μ-loop
-weight-requires c κs = tt
-
-element-copy-out-weight-2 : tie.Need-element-copy-out-weight-2 Inv-loop μ-loop
-element-copy-out-weight-2 c = omega arith
-
-weight-requires-2 : tie.Need-weight-requires-2 Inv-loop μ-loop
-weight-requires-2 c κs = tt
-
-mul-short : tie.Need-mul-short Inv-loop μ-loop
-mul-short c = omega arith
-
-element-write-short : tie.Need-element-write-short Inv-loop μ-loop
-element-write-short c = omega arith
-
-mul-over : tie.Need-mul-over Inv-loop μ-loop
-mul-over c = omega arith
-
-element-write-over : tie.Need-element-write-over Inv-loop μ-loop
-element-write-over c = omega arith
-
 add-at-requires : tie.Need-add-at-requires Inv-loop μ-loop
 add-at-requires c κs =
     let l = c .before .before .before .before .before .before .before .before .before .before in
@@ -80,12 +35,6 @@ add-at-requires-2 c κs =
     let s = p .0 i in
     let most = lacks-le (l .before .args .listed .now) (l .before .args .reductions .now) (l .before .args .committed .now) (p .1 .1 .0) in
     (s, omega (arith, weighing-room (l .loop .inv .1) (omega arith) most (at (l .before .args .sellers .now) i) s, most i, rw (c .before .before .before .before .before .before .before .wide .ensures) at (c .before .before .before .weight2 .ensures)))
-
-add-i : tie.Need-add-i Inv-loop μ-loop
-add-i c = omega arith
-
-loop-less : tie.Need-loop-less Inv-loop μ-loop
-loop-less c = omega arith
 
 loop-again : tie.Need-loop-again Inv-loop μ-loop
 loop-again c =
@@ -108,24 +57,24 @@ weigh-spec =
     Inv-loop
     μ-loop
     loop-holds
-    mul-s
-    element-copy-out-s
-    mul-c
-    element-copy-out-c
-    mul-wide
-    element-copy-out-wide
-    wide-requires
-    element-copy-out-weight
-    weight-requires
-    element-copy-out-weight-2
-    weight-requires-2
-    mul-short
-    element-write-short
-    mul-over
-    element-write-over
+    (λ c. omega arith)
+    (λ c. omega arith)
+    (λ c. omega arith)
+    (λ c. omega arith)
+    (λ c. omega arith)
+    (λ c. omega arith)
+    (λ c κs. tt)
+    (λ c. omega arith)
+    (λ c κs. tt)
+    (λ c. omega arith)
+    (λ c κs. tt)
+    (λ c. omega arith)
+    (λ c. omega arith)
+    (λ c. omega arith)
+    (λ c. omega arith)
     add-at-requires
     add-at-requires-2
-    add-i
-    loop-less
+    (λ c. omega arith)
+    (λ c. omega arith)
     loop-again
     returns)

@@ -17,27 +17,6 @@ loop-holds : tie.Need-loop-holds Inv-loop μ-loop
 unfolding byId
 loop-holds c = (omega arith, refl)
 
-mul-p : tie.Need-mul-p Inv-loop μ-loop
-mul-p c = omega arith
-
-add-p : tie.Need-add-p Inv-loop μ-loop
-add-p c = omega arith
-
-mul-id : tie.Need-mul-id Inv-loop μ-loop
-mul-id c = omega arith
-
-array-read-id : tie.Need-array-read-id Inv-loop μ-loop
-array-read-id c = omega arith
-
-add-deficits : tie.Need-add-deficits Inv-loop μ-loop
-add-deficits c = omega arith
-
-mul-deficits : tie.Need-mul-deficits Inv-loop μ-loop
-mul-deficits c = omega arith
-
-array-read-deficits : tie.Need-array-read-deficits Inv-loop μ-loop
-array-read-deficits c = omega arith
-
 cast-deficits : tie.Need-cast-deficits Inv-loop μ-loop
 cast-deficits c = omega (arith, c .before .before .pre .kilowatts (c .before .loop .k) (omega arith))
 
@@ -46,12 +25,6 @@ mul-deficits-2 c = omega (arith, c .before .before .pre .ids (c .before .loop .k
 
 array-write-deficits : tie.Need-array-write-deficits Inv-loop μ-loop
 array-write-deficits c = omega (arith, c .before .before .pre .ids (c .before .loop .k) (omega arith))
-
-add-k : tie.Need-add-k Inv-loop μ-loop
-add-k c = omega arith
-
-loop-less : tie.Need-loop-less Inv-loop μ-loop
-loop-less c = omega arith
 
 loop-again : tie.Need-loop-again Inv-loop μ-loop
 loop-again c = (omega arith, by-id-turn 16 _ _ (c .before .loop .k) (c .before .loop .inv .1))
@@ -66,17 +39,17 @@ deficits-of-spec =
     Inv-loop
     μ-loop
     loop-holds
-    mul-p
-    add-p
-    mul-id
-    array-read-id
-    add-deficits
-    mul-deficits
-    array-read-deficits
+    (λ c. omega arith)
+    (λ c. omega arith)
+    (λ c. omega arith)
+    (λ c. omega arith)
+    (λ c. omega arith)
+    (λ c. omega arith)
+    (λ c. omega arith)
     cast-deficits
     mul-deficits-2
     array-write-deficits
-    add-k
-    loop-less
+    (λ c. omega arith)
+    (λ c. omega arith)
     loop-again
     returns)

@@ -17,26 +17,8 @@ loop-holds : tie.Need-loop-holds Inv-loop μ-loop
 unfolding pairedBy
 loop-holds c = (omega arith, refl)
 
-mul-p : tie.Need-mul-p Inv-loop μ-loop
-mul-p c = omega arith
-
-add-p : tie.Need-add-p Inv-loop μ-loop
-add-p c = omega arith
-
-mul-id : tie.Need-mul-id Inv-loop μ-loop
-mul-id c = omega arith
-
-array-read-id : tie.Need-array-read-id Inv-loop μ-loop
-array-read-id c = omega arith
-
 array-write-listed : tie.Need-array-write-listed Inv-loop μ-loop
 array-write-listed c = omega (arith, c .before .before .pre .ids (c .before .loop .k) (omega arith))
-
-add-k : tie.Need-add-k Inv-loop μ-loop
-add-k c = omega arith
-
-loop-less : tie.Need-loop-less Inv-loop μ-loop
-loop-less c = omega arith
 
 loop-again : tie.Need-loop-again Inv-loop μ-loop
 loop-again c = (omega arith, paired-by-turn 64 _ _ (c .before .loop .k) (c .before .loop .inv .1))
@@ -51,12 +33,12 @@ listed-of-spec =
     Inv-loop
     μ-loop
     loop-holds
-    mul-p
-    add-p
-    mul-id
-    array-read-id
+    (λ c. omega arith)
+    (λ c. omega arith)
+    (λ c. omega arith)
+    (λ c. omega arith)
     array-write-listed
-    add-k
-    loop-less
+    (λ c. omega arith)
+    (λ c. omega arith)
     loop-again
     returns)

@@ -4,21 +4,6 @@ use Rattle.year.specs.ListingLaws.{sound-listing}
 use Rattle.year.proofs.pairs.listing_of.Statement.{statement}
 use Rattle.year.proofs.pairs.listing_of.Tie as tie
 
-mul-first : tie.Need-mul-first
-mul-first c = search needs
-
-add-first : tie.Need-add-first
-add-first c = search needs
-
-listed-of-requires : tie.Need-listed-of-requires
-listed-of-requires c κs = search needs
-
-reductions-of-requires : tie.Need-reductions-of-requires
-reductions-of-requires c κs = search needs
-
-deficits-of-requires : tie.Need-deficits-of-requires
-deficits-of-requires c κs = search needs
-
 returns : tie.Need-returns
 returns c =
     let start = c .before .before .before in
@@ -31,9 +16,9 @@ pub listing-of-spec : {M : Type 1} → statement M
 listing-of-spec =
     tie.close
     (tie.spec
-    mul-first
-    add-first
-    listed-of-requires
-    reductions-of-requires
-    deficits-of-requires
+    (λ c. search needs)
+    (λ c. search needs)
+    (λ c κs. search needs)
+    (λ c κs. search needs)
+    (λ c κs. search needs)
     returns)

@@ -17,27 +17,6 @@ loop-holds : tie.Need-loop-holds Inv-loop μ-loop
 unfolding byId
 loop-holds c = (omega arith, refl)
 
-mul-p : tie.Need-mul-p Inv-loop μ-loop
-mul-p c = omega arith
-
-add-p : tie.Need-add-p Inv-loop μ-loop
-add-p c = omega arith
-
-mul-id : tie.Need-mul-id Inv-loop μ-loop
-mul-id c = omega arith
-
-array-read-id : tie.Need-array-read-id Inv-loop μ-loop
-array-read-id c = omega arith
-
-add-reductions : tie.Need-add-reductions Inv-loop μ-loop
-add-reductions c = omega arith
-
-mul-reductions : tie.Need-mul-reductions Inv-loop μ-loop
-mul-reductions c = omega arith
-
-array-read-reductions : tie.Need-array-read-reductions Inv-loop μ-loop
-array-read-reductions c = omega arith
-
 cast-reductions : tie.Need-cast-reductions Inv-loop μ-loop
 cast-reductions c = omega (arith, c .before .before .pre .kilowatts (c .before .loop .k) (omega arith))
 
@@ -46,12 +25,6 @@ mul-reductions-2 c = omega (arith, c .before .before .pre .ids (c .before .loop 
 
 array-write-reductions : tie.Need-array-write-reductions Inv-loop μ-loop
 array-write-reductions c = omega (arith, c .before .before .pre .ids (c .before .loop .k) (omega arith))
-
-add-k : tie.Need-add-k Inv-loop μ-loop
-add-k c = omega arith
-
-loop-less : tie.Need-loop-less Inv-loop μ-loop
-loop-less c = omega arith
 
 loop-again : tie.Need-loop-again Inv-loop μ-loop
 loop-again c = (omega arith, by-id-turn 64 _ _ (c .before .loop .k) (c .before .loop .inv .1))
@@ -66,17 +39,17 @@ reductions-of-spec =
     Inv-loop
     μ-loop
     loop-holds
-    mul-p
-    add-p
-    mul-id
-    array-read-id
-    add-reductions
-    mul-reductions
-    array-read-reductions
+    (λ c. omega arith)
+    (λ c. omega arith)
+    (λ c. omega arith)
+    (λ c. omega arith)
+    (λ c. omega arith)
+    (λ c. omega arith)
+    (λ c. omega arith)
     cast-reductions
     mul-reductions-2
     array-write-reductions
-    add-k
-    loop-less
+    (λ c. omega arith)
+    (λ c. omega arith)
     loop-again
     returns)

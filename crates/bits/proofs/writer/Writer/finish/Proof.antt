@@ -17,14 +17,8 @@ returns c =
     let fill : 8 * p .at - writtenBits p ≡ 0 = omega arith in
     record { long = refl; ends = omega arith; spells = rw (fill, rest, held) (omega arith); after = λ i l. refl }
 
-sub-put : tie.Need-sub-put
-sub-put c = search needs
-
 put-requires : tie.Need-put-requires
 put-requires c κs = (search needs, (search needs, (pow-pos _, search needs)))
-
-same-length : tie.Need-same-length
-same-length c = search needs
 
 returns-2 : tie.Need-returns-2
 returns-2 c =
@@ -39,4 +33,4 @@ returns-2 c =
     record { long = f .long; ends = omega (arith, f .ends); spells = rw fill (omega (arith, all)); after = f .after }
 
 pub finish-spec : {M : Type 1} → statement M
-finish-spec = tie.close (tie.spec returns sub-put put-requires same-length returns-2)
+finish-spec = tie.close (tie.spec returns (λ c. search needs) put-requires (λ c. search needs) returns-2)

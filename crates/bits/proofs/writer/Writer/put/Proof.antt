@@ -30,33 +30,15 @@ module _ (p : Writer) (w v : ℕ) (r : Ready p) (h : w ≤ 42) (l : v < 2 ^ w) w
   word-lt : word p w v < 2 ^ (p .held + w)
   word-lt = rw (word-is, pow-add 2 (p .held) w) (digits-lt (r .small) l)
 
-shl-word : tie.Need-shl-word Inv-loop μ-loop
-shl-word c = omega arith
-
-add-left : tie.Need-add-left Inv-loop μ-loop
-add-left c = omega arith
-
 loop-holds : tie.Need-loop-holds Inv-loop μ-loop
 loop-holds c =
     let s = c .before .before in
     out-none _ _ _ _ (word-lt (s .args .self) (s .args .width) (s .args .value) (s .pre .0) (s .pre .1 .0) (s .pre .1 .1 .0))
 
-shr-bytes : tie.Need-shr-bytes Inv-loop μ-loop
-shr-bytes c = omega arith
-
 cast-bytes : tie.Need-cast-bytes Inv-loop μ-loop
 cast-bytes c =
     let a = c .before .before .before .before .args in
     record { fits = mask-lt (word (a .self) (a .width) (a .value) / 2 ^ (c .before .loop .left - 8)) 8 }
-
-slice-write-bytes : tie.Need-slice-write-bytes Inv-loop μ-loop
-slice-write-bytes c = omega arith
-
-add-at : tie.Need-add-at Inv-loop μ-loop
-add-at c = omega arith
-
-loop-less : tie.Need-loop-less Inv-loop μ-loop
-loop-less c = omega arith
 
 loop-again : tie.Need-loop-again Inv-loop μ-loop
 loop-again c =
@@ -66,14 +48,8 @@ loop-again c =
     let byte : bitAnd (word (a .self) (a .width) (a .value) / 2 ^ k) 255 ≡ word (a .self) (a .width) (a .value) / 2 ^ k % 2 ^ 8 = and-mask _ 8 in
     rw byte (out-more k (omega arith) (omega arith) (l .inv))
 
-shl-t9 : tie.Need-shl-t9 Inv-loop μ-loop
-shl-t9 c = omega arith
-
 sub-t16 : tie.Need-sub-t16 Inv-loop μ-loop
 sub-t16 c = rw (one-shl (c .before .loop .left) (omega arith)) (pow-pos (c .before .loop .left))
-
-same-length : tie.Need-same-length Inv-loop μ-loop
-same-length c = omega arith
 
 returns : tie.Need-returns Inv-loop μ-loop
 returns c =
@@ -95,16 +71,16 @@ put-spec =
     (tie.spec
     Inv-loop
     μ-loop
-    shl-word
-    add-left
+    (λ c. omega arith)
+    (λ c. omega arith)
     loop-holds
-    shr-bytes
+    (λ c. omega arith)
     cast-bytes
-    slice-write-bytes
-    add-at
-    loop-less
+    (λ c. omega arith)
+    (λ c. omega arith)
+    (λ c. omega arith)
     loop-again
-    shl-t9
+    (λ c. omega arith)
     sub-t16
-    same-length
+    (λ c. omega arith)
     returns)

@@ -22,17 +22,8 @@ loop-holds : tie.Need-loop-holds Inv-loop μ-loop
 unfolding joined
 loop-holds c = (omega arith, written-none _ _ (c .before .before .before .pre .0))
 
-shared-slice-read-w : tie.Need-shared-slice-read-w Inv-loop μ-loop
-shared-slice-read-w c = omega arith
-
 cast-w : tie.Need-cast-w Inv-loop μ-loop
 cast-w c = omega (arith, c .shared-slice-known3 .given (c .before .before .loop .i))
-
-mul-put : tie.Need-mul-put Inv-loop μ-loop
-mul-put c = omega arith
-
-shared-slice-read-put : tie.Need-shared-slice-read-put Inv-loop μ-loop
-shared-slice-read-put c = omega arith
 
 put-requires : tie.Need-put-requires Inv-loop μ-loop
 put-requires c κs =
@@ -42,12 +33,6 @@ put-requires c κs =
     let ws = s .args .widths .now in
     let k : l .i < length (s .args .values .now) = omega arith in
     (l .inv .1 .ready, (width-in ws (l .i) (s .pre .1 .0) h .1, (valid-in ws (s .args .values .now) (l .i) (s .pre .1 .1 .1 .0) h k, omega (arith, total-in ws (l .i) h, l .inv .1 .ends, l .inv .1 .long))))
-
-add-i : tie.Need-add-i Inv-loop μ-loop
-add-i c = omega arith
-
-loop-less : tie.Need-loop-less Inv-loop μ-loop
-loop-less c = omega arith
 
 loop-again : tie.Need-loop-again Inv-loop μ-loop
 loop-again c =
@@ -80,13 +65,13 @@ put-all-spec =
     Inv-loop
     μ-loop
     loop-holds
-    shared-slice-read-w
+    (λ c. omega arith)
     cast-w
-    mul-put
-    shared-slice-read-put
+    (λ c. omega arith)
+    (λ c. omega arith)
     put-requires
-    add-i
-    loop-less
+    (λ c. omega arith)
+    (λ c. omega arith)
     loop-again
     same-length
     returns)

@@ -31,33 +31,9 @@ fit a b n k vs e v h =
     let second = valid-in (pairs a b n) vs (2 * k + 1) v (omega arith) (omega arith) in
     (rw (pairs-first a b n k h) at first, rw (pairs-second a b n k h) at second)
 
-add-width : tie.Need-add-width Inv-loop μ-loop
-add-width c = omega arith
-
 loop-holds : tie.Need-loop-holds Inv-loop μ-loop
 unfolding joined
 loop-holds c = (omega arith, written-none _ _ (c .before .before .pre .0))
-
-mul-i : tie.Need-mul-i Inv-loop μ-loop
-mul-i c = omega arith
-
-mul-put : tie.Need-mul-put Inv-loop μ-loop
-mul-put c = omega arith
-
-shared-slice-read-put : tie.Need-shared-slice-read-put Inv-loop μ-loop
-shared-slice-read-put c = omega arith
-
-shl-put : tie.Need-shl-put Inv-loop μ-loop
-shl-put c = omega arith
-
-add-put : tie.Need-add-put Inv-loop μ-loop
-add-put c = omega arith
-
-mul-put-2 : tie.Need-mul-put-2 Inv-loop μ-loop
-mul-put-2 c = omega arith
-
-shared-slice-read-put-2 : tie.Need-shared-slice-read-put-2 Inv-loop μ-loop
-shared-slice-read-put-2 c = omega arith
 
 put-requires : tie.Need-put-requires Inv-loop μ-loop
 put-requires c κs =
@@ -70,12 +46,6 @@ put-requires c κs =
     let f = fit a b (s .args .n) (l .k) vs (s .pre .1 .1 .0) (s .pre .1 .1 .1 .0) h in
     let pair = behind (getD vs (2 * l .k) 0) (getD vs (2 * l .k + 1) 0) a b (omega arith) (f .0) (f .1) in
     (l .inv .1 .ready, (s .pre .1 .0, (rw (pair, pow-add 2 a b) (digits-lt (f .0) (f .1)), omega (arith, total-pair-in a b (s .args .n) (l .k) h, l .inv .1 .ends, l .inv .1 .long))))
-
-add-k : tie.Need-add-k Inv-loop μ-loop
-add-k c = omega arith
-
-loop-less : tie.Need-loop-less Inv-loop μ-loop
-loop-less c = omega arith
 
 loop-again : tie.Need-loop-again Inv-loop μ-loop
 loop-again c =
@@ -110,18 +80,18 @@ put-pairs-spec =
     (tie.spec
     Inv-loop
     μ-loop
-    add-width
+    (λ c. omega arith)
     loop-holds
-    mul-i
-    mul-put
-    shared-slice-read-put
-    shl-put
-    add-put
-    mul-put-2
-    shared-slice-read-put-2
+    (λ c. omega arith)
+    (λ c. omega arith)
+    (λ c. omega arith)
+    (λ c. omega arith)
+    (λ c. omega arith)
+    (λ c. omega arith)
+    (λ c. omega arith)
     put-requires
-    add-k
-    loop-less
+    (λ c. omega arith)
+    (λ c. omega arith)
     loop-again
     same-length
     returns)
