@@ -2,9 +2,10 @@
 
 use std::array;
 
-use crate::book::Year;
+use crate::fields::{LSES, REGISTRATIONS, SELLERS};
 use crate::owed::{cap, convert, days, due_month, uncapped, Allotment, Amounts, Owed};
-use crate::records::{Event, Lists, Opening, Registration, Test, LSES, REGISTRATIONS, SELLERS};
+use crate::records::{Event, Lists, Opening, Registration, Test};
+use crate::year::Year;
 
 /// All amounts to date at this month.
 pub fn to_date(year: &Year, month: u8) -> Owed {

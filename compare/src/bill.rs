@@ -4,6 +4,10 @@ use std::fmt::Write;
 
 use crate::book::{Book, Taken};
 use crate::statement;
+use crate::year::CLOSES;
+
+/// The bytes of the most statements that a file gives.
+pub const MOST_STATEMENTS: usize = CLOSES * statement::MOST_BYTES;
 
 /// What billing a file reports: records answered, bytes consumed, bytes of statements written.
 #[derive(Clone, Copy, Debug, Default, PartialEq, Eq)]

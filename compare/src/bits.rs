@@ -13,7 +13,7 @@ pub fn first_word(bytes: &[u8]) -> u64 {
 
 /// The `width` bits, 1 to 57, from a position on.
 #[inline]
-pub fn bits_at(bytes: &[u8], position: usize, width: u32) -> u64 {
+pub fn bits_at(bytes: &[u8], position: usize, width: usize) -> u64 {
     first_word(&bytes[position / 8..]) << (position % 8) >> (64 - width)
 }
 
@@ -29,16 +29,16 @@ impl<'a> BitReader<'a> {
     }
 
     /// The next `width` bits, 1 to 57, as a number.
-    pub fn take(&mut self, width: u32) -> u64 {
+    pub fn take(&mut self, width: usize) -> u64 {
         let number = bits_at(self.bytes, self.position, width);
-        self.position += width as usize;
+        self.position += width;
         number
     }
 
     /// The next `width` bits as a two's complement number.
-    pub fn take_signed(&mut self, width: u32) -> i64 {
+    pub fn take_signed(&mut self, width: usize) -> i64 {
         let unused = 64 - width;
-        (self.take(width) << unused) as i64 >> unused
+        (self.take(width) << unused).cast_signed() >> unused
     }
 }
 
@@ -48,7 +48,7 @@ pub struct BitWriter<'a> {
     written: usize,
     /// The bits not yet written, the first on top, and how many more it takes.
     word: u64,
-    free: u32,
+    free: usize,
 }
 
 impl<'a> BitWriter<'a> {
@@ -62,7 +62,7 @@ impl<'a> BitWriter<'a> {
     }
 
     /// Places the lowest `width` bits, 1 to 63, of the number.
-    pub fn put(&mut self, number: u64, width: u32) {
+    pub fn put(&mut self, number: u64, width: usize) {
         let number = number & (u64::MAX >> (64 - width));
         if width <= self.free {
             self.free -= width;
@@ -78,7 +78,7 @@ impl<'a> BitWriter<'a> {
 
     /// Writes what is left, zero bits filling the last byte; gives the bytes written in all.
     pub fn finish(mut self) -> usize {
-        self.write((64 - self.free).div_ceil(8) as usize);
+        self.write((64 - self.free).div_ceil(8));
         self.written
     }
 

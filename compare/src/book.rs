@@ -2,70 +2,10 @@
 
 use crate::account;
 use crate::counter;
-use crate::owed::Owed;
 use crate::packed::Packed;
-use crate::records::{Entry, Event, Lse, Opening, Record, Registration, Test, LSES, REGISTRATIONS};
+use crate::records::Record;
 use crate::statement;
-
-pub const MOST_EVENTS: usize = 16;
-
-/// One test for each of 8 zones and 3 products.
-const MOST_TESTS: usize = 24;
-
-/// A delivery year: the records accepted, and what they came to at the last close.
-pub struct Year {
-    pub opening: Opening,
-    pub registrations: [Option<Registration>; REGISTRATIONS],
-    pub lses: [Option<Lse>; LSES],
-    pub events: Vec<Event>,
-    pub tests: Vec<Test>,
-    pub closed: u8,
-    /// Whether an accepted event lists a registration.
-    pub is_called: [bool; REGISTRATIONS],
-    /// How many accepted on-peak events list a registration.
-    pub on_peak_events: [u8; REGISTRATIONS],
-    owed: Owed,
-}
-
-impl Year {
-    fn new(opening: Opening) -> Self {
-        Year {
-            opening,
-            registrations: [None; REGISTRATIONS],
-            lses: [None; LSES],
-            events: Vec::with_capacity(MOST_EVENTS),
-            tests: Vec::with_capacity(MOST_TESTS),
-            closed: 0,
-            is_called: [false; REGISTRATIONS],
-            on_peak_events: [0; REGISTRATIONS],
-            owed: Owed::default(),
-        }
-    }
-
-    /// The registration of an accepted entry.
-    pub fn registration(&self, entry: &Entry) -> &Registration {
-        let registration = &self.registrations[usize::from(entry.registration)];
-        registration.as_ref().expect("question 10 asks for it")
-    }
-
-    fn add_event(&mut self, event: Event) {
-        for entry in event.lists.entries() {
-            let id = usize::from(entry.registration);
-            self.is_called[id] = true;
-            self.on_peak_events[id] += u8::from(!event.off_peak);
-        }
-        self.events.push(event);
-    }
-
-    /// Closes a month; leaves its statement in the buffer and gives that one's length.
-    fn close(&mut self, month: u8, buffer: &mut [u8]) -> usize {
-        let to_date = account::to_date(self, month);
-        let amounts = to_date.less(&self.owed);
-        self.owed = to_date;
-        self.closed = month;
-        statement::encode(month, &amounts, buffer)
-    }
-}
+use crate::year::Year;
 
 /// What taking a record reports, and the bytes of the statement it left in the buffer.
 #[derive(Clone, Copy, Debug, PartialEq, Eq)]
@@ -118,9 +58,18 @@ impl Book {
             (Record::Lse(lse), Some(year)) => year.lses[usize::from(lse.id)] = Some(lse),
             (Record::Event(event), Some(year)) => year.add_event(event),
             (Record::Test(test), Some(year)) => year.tests.push(test),
-            (Record::Close { month }, Some(year)) => return year.close(month, buffer),
+            (Record::Close { month }, Some(year)) => return close(year, month, buffer),
             (_, None) => unreachable!("question 6 asks for a year"),
         }
         0
     }
+}
+
+/// Closes a month; leaves its statement in the buffer and gives that one's length.
+fn close(year: &mut Year, month: u8, buffer: &mut [u8]) -> usize {
+    let to_date = account::to_date(year, month);
+    let amounts = to_date.less(&year.owed);
+    year.owed = to_date;
+    year.closed = month;
+    statement::encode(month, &amounts, buffer)
 }

@@ -1,10 +1,9 @@
 //! Questions 6 to 16 at the counter; a "no" gives the number.
 
-use crate::book::{Year, MOST_EVENTS};
-use crate::records::{Entry, Event, Lists, Lse, Product, Record, Registration, Test, SELLERS};
+use crate::fields::SELLERS;
+use crate::records::{Entry, Event, Lists, Lse, Product, Record, Registration, Test};
 use crate::statement;
-
-const LAST_CLOSE: u8 = 15;
+use crate::year::{Year, CLOSES, MOST_EVENTS};
 
 type Asked = Result<(), u64>;
 
@@ -21,7 +20,8 @@ pub fn ask_all(year: Option<&Year>, record: &Record, room: usize) -> Asked {
     if let Record::Opening(_) = record {
         return ask(year.is_none(), 6);
     }
-    let year = year.filter(|year| year.closed < LAST_CLOSE).ok_or(6_u64)?;
+    let is_open = |year: &&Year| usize::from(year.closed) < CLOSES;
+    let year = year.filter(is_open).ok_or(6_u64)?;
     match record {
         Record::Opening(_) => Ok(()),
         Record::Registration(registration) => ask_registration(year, registration),

@@ -1,26 +1,21 @@
 //! The layouts of the six kinds of record.
 
+use crate::exact::narrow;
+use crate::fields::{
+    kind, Field, AREA, CLOSED_MONTH, COMMITTED, DEFICITS, ENTRIES, FACTOR, LEAP, LSE_ID, MONTH,
+    OBLIGATION, PERIOD, PRODUCT, RATE, REGISTRATIONS, REGISTRATION_ID, SELLERS, SELLER_ID, ZONE,
+};
 use crate::lists::{Deficits, Entries, List};
 
-/// The numbers of the longest record: a head of 6, 16 deficits and 64 entries.
-pub const MOST_NUMBERS: usize = 166;
+/// The numbers of the longest permitted record: a head of 6, 16 deficits and 64 entries.
+pub const MOST_NUMBERS: usize = 6 + 2 * (SELLERS + REGISTRATIONS);
+
+/// The bytes of the longest permitted record: a head of 25 bits, 16 deficits and 64 entries.
+pub const MOST_BYTES: usize =
+    (25 + SELLERS * Deficits::WIDTH + REGISTRATIONS * Entries::WIDTH).div_ceil(8);
 
 /// The most fields before the lists.
 pub const MOST_HEAD: usize = 8;
-
-/// One field: its width in bits and its permitted values.
-#[derive(Clone, Copy)]
-pub struct Field {
-    pub width: u32,
-    pub low: u64,
-    pub high: u64,
-}
-
-impl Field {
-    pub fn permits(&self, number: u64) -> bool {
-        (self.low..=self.high).contains(&number)
-    }
-}
 
 /// The fields before the lists, which fit a word.
 pub struct Head {
@@ -45,22 +40,10 @@ impl Head {
     }
 }
 
-const fn field(width: u32, low: u64, high: u64) -> Field {
-    Field { width, low, high }
-}
-
-const fn kind(kind: u64) -> Field {
-    field(4, kind, kind)
-}
-
-const fn id(width: u32) -> Field {
-    field(width, 0, (1 << width) - 1)
-}
-
 const fn bits(fields: &[Field]) -> usize {
     match fields {
         [] => 0,
-        [first, rest @ ..] => first.width as usize + bits(rest),
+        [first, rest @ ..] => first.width + bits(rest),
     }
 }
 
@@ -69,26 +52,9 @@ const fn head_of(fields: &'static [Field]) -> Head {
     Head { fields, bits }
 }
 
-pub const REGISTRATION_ID: Field = id(6);
-pub const SELLER_ID: Field = id(4);
-const LSE_ID: Field = id(4);
-const AREA: Field = id(3);
-const ZONE: Field = id(3);
-const FACTOR: Field = field(14, 1, 12_000);
-const PRODUCT: Field = field(2, 0, 2);
-const PERIOD: Field = field(2, 1, 3);
-const MONTH: Field = field(4, 1, 12);
-const DEFICITS: Field = field(5, 0, 16);
-const ENTRIES: Field = field(7, 1, 64);
-const COMMITTED: Field = field(17, 1, 100_000);
-const RATE: Field = field(17, 0, 100_000);
-pub const REDUCTION: Field = field(17, 0, 100_000);
-const OBLIGATION: Field = field(20, 1, 1_000_000);
-pub const DEFICIT_KW: Field = field(20, 1, 1_000_000);
-
 /// The heads in the order of their kinds, 1 to 6.
 static HEADS: [Head; 6] = [
-    head_of(&[kind(1), field(1, 0, 1), FACTOR, FACTOR]),
+    head_of(&[kind(1), LEAP, FACTOR, FACTOR]),
     head_of(&[
         kind(2),
         REGISTRATION_ID,
@@ -102,7 +68,7 @@ static HEADS: [Head; 6] = [
     head_of(&[kind(3), LSE_ID, OBLIGATION]),
     head_of(&[kind(4), AREA, MONTH, PERIOD, DEFICITS, ENTRIES]),
     head_of(&[kind(5), ZONE, PRODUCT, MONTH, DEFICITS, ENTRIES]),
-    head_of(&[kind(6), field(4, 1, 15)]),
+    head_of(&[kind(6), CLOSED_MONTH]),
 ];
 
 /// The head of a kind, if there is such a kind.
@@ -132,8 +98,8 @@ impl Layout {
         };
         Layout {
             head,
-            deficits: deficits as usize,
-            entries: entries as usize,
+            deficits: narrow(deficits),
+            entries: narrow(entries),
         }
     }
 

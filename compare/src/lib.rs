@@ -6,21 +6,20 @@ mod bits;
 mod book;
 pub mod cases;
 mod counter;
-pub mod damage;
+pub mod exact;
+mod fields;
 pub mod layout;
 pub mod lines;
 mod lists;
 mod numbers;
 pub mod owed;
 mod packed;
-mod parties;
 #[cfg(feature = "piermint")]
 pub mod piermint;
-pub mod plan;
-pub mod random;
 pub mod records;
 pub mod statement;
+mod year;
 
-pub use bill::{bill, bill_file, take_each, Billed};
+pub use bill::{bill, bill_file, take_each, Billed, MOST_STATEMENTS};
 pub use book::{Book, Taken};
 pub use numbers::{read, write, Read, Written};

@@ -1,6 +1,8 @@
 //! Calls and answers as lines of text, as the published vectors have them.
 
-use crate::{Book, Read, Written};
+use crate::book::Book;
+use crate::exact::widen;
+use crate::numbers::{self, Read, Written};
 
 /// Fills lent buffers beforehand, to show what a call leaves untouched.
 const UNTOUCHED: u8 = 0xA5;
@@ -28,10 +30,10 @@ pub fn read(lines: &str) -> String {
             number,
             count,
             used,
-        } = crate::read(&bytes, &mut buffer);
+        } = numbers::read(&bytes, &mut buffer);
         let (numbers, rest) = buffer.split_at(count);
         assert!(rest.iter().all(|number| *number == u64::MAX));
-        join([number, count as u64, used as u64].iter().chain(numbers))
+        join([number, widen(count), widen(used)].iter().chain(numbers))
     })
 }
 
@@ -42,7 +44,7 @@ pub fn write(lines: &str) -> String {
         let room = words.next().and_then(|word| word.parse().ok());
         let numbers: Vec<u64> = words.map(|word| word.parse().expect("a number")).collect();
         let mut buffer = vec![UNTOUCHED; room.expect("a room")];
-        let Written { number, used } = crate::write(&numbers, &mut buffer);
+        let Written { number, used } = numbers::write(&numbers, &mut buffer);
         let (record, rest) = buffer.split_at(used);
         assert!(rest.iter().all(|byte| *byte == UNTOUCHED));
         format!("{number} {used} {}", to_hex(record))

@@ -1,17 +1,17 @@
 //! The lists of events and tests: pairs of an id and kilowatts.
 
 use crate::bits::bits_at;
-use crate::layout::{Field, DEFICIT_KW, REDUCTION, REGISTRATION_ID, SELLER_ID};
+use crate::fields::{Field, DEFICIT_KW, REDUCTION, REGISTRATION_ID, SELLER_ID};
 
 /// The fields of a list's pairs, known when its loops are compiled.
 pub trait List {
     const ID: Field;
     const KW: Field;
-    const WIDTH: u32 = Self::ID.width + Self::KW.width;
+    const WIDTH: usize = Self::ID.width + Self::KW.width;
 
     /// The bits that so many pairs take.
     fn bits(count: usize) -> usize {
-        count * Self::WIDTH as usize
+        count * Self::WIDTH
     }
 
     /// So many pairs from a bit on.

@@ -6,8 +6,8 @@
 
 use std::array;
 
-use crate::book::Year;
-use crate::records::{Opening, Product, Registration, LSES, SELLERS};
+use crate::fields::{LSES, SELLERS};
+use crate::records::{Opening, Product, Registration};
 
 /// A seller's amounts in cents.
 #[derive(Clone, Copy, Default, Debug, PartialEq, Eq)]
@@ -104,12 +104,4 @@ pub fn uncapped(unforced: i64, rate: i64, off_peak: bool, n: i64) -> i64 {
 /// The most that a registration is charged a day, in thousandths of a cent.
 pub fn cap(opening: &Opening, registration: &Registration) -> i64 {
     convert(opening, registration.committed.into()) * i64::from(registration.rate)
-}
-
-/// Revenue to date of a seller, in thousandths of a cent.
-pub fn revenue(year: &Year, seller: usize, month: u8) -> i64 {
-    let registrations = year.registrations.iter().flatten();
-    let own = registrations.filter(|r| usize::from(r.seller) == seller);
-    let caps: i64 = own.map(|r| cap(&year.opening, r)).sum();
-    caps * days(year.opening.leap, month)
 }

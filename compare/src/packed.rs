@@ -82,6 +82,6 @@ impl<'a> Packed<'a> {
     fn filling_is_zero(&self) -> bool {
         let length = self.layout.bytes();
         let filling = 8 * length - self.layout.bits();
-        self.bytes[length - 1].trailing_zeros() as usize >= filling
+        self.bytes[length - 1] & ((1 << filling) - 1) == 0
     }
 }

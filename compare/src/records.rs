@@ -1,10 +1,8 @@
 //! The six kinds of record.
 
+use crate::exact::narrow;
+use crate::fields::{REGISTRATIONS, SELLERS};
 use crate::packed::Packed;
-
-pub const REGISTRATIONS: usize = 64;
-pub const SELLERS: usize = 16;
-pub const LSES: usize = 16;
 
 #[derive(Clone, Copy, PartialEq, Eq, PartialOrd, Ord, Debug)]
 pub enum Product {
@@ -19,6 +17,14 @@ impl Product {
             0 => Product::Limited,
             1 => Product::ExtendedSummer,
             _ => Product::Annual,
+        }
+    }
+
+    pub fn number(self) -> u64 {
+        match self {
+            Product::Limited => 0,
+            Product::ExtendedSummer => 1,
+            Product::Annual => 2,
         }
     }
 }
@@ -99,28 +105,28 @@ impl From<&Packed<'_>> for Record {
         match head[0] {
             1 => Record::Opening(Opening {
                 leap: head[1] == 1,
-                dr_factor: head[2] as u16,
-                forecast_pool_requirement: head[3] as u16,
+                dr_factor: narrow(head[2]),
+                forecast_pool_requirement: narrow(head[3]),
             }),
             2 => Record::Registration(registration(head)),
             3 => Record::Lse(Lse {
-                id: head[1] as u8,
-                obligation: head[2] as u32,
+                id: narrow(head[1]),
+                obligation: narrow(head[2]),
             }),
             4 => Record::Event(Event {
-                area: head[1] as u8,
-                month: head[2] as u8,
+                area: narrow(head[1]),
+                month: narrow(head[2]),
                 off_peak: head[3] == 2,
                 lists: lists(packed),
             }),
             5 => Record::Test(Test {
-                zone: head[1] as u8,
+                zone: narrow(head[1]),
                 product: Product::new(head[2]),
-                month: head[3] as u8,
+                month: narrow(head[3]),
                 lists: lists(packed),
             }),
             _ => Record::Close {
-                month: head[1] as u8,
+                month: narrow(head[1]),
             },
         }
     }
@@ -129,13 +135,13 @@ impl From<&Packed<'_>> for Record {
 /// The registration that these numbers, in layout order, give.
 pub fn registration(numbers: &[u64; 8]) -> Registration {
     Registration {
-        id: numbers[1] as u8,
-        seller: numbers[2] as u8,
-        area: numbers[3] as u8,
-        zone: numbers[4] as u8,
+        id: narrow(numbers[1]),
+        seller: narrow(numbers[2]),
+        area: narrow(numbers[3]),
+        zone: narrow(numbers[4]),
         product: Product::new(numbers[5]),
-        committed: numbers[6] as u32,
-        rate: numbers[7] as u32,
+        committed: narrow(numbers[6]),
+        rate: narrow(numbers[7]),
     }
 }
 
@@ -146,12 +152,12 @@ fn lists(packed: &Packed) -> Lists {
         count: packed.layout.entries,
     };
     for [seller, kw] in packed.deficits() {
-        lists.deficits[seller as usize] = kw as u32;
+        lists.deficits[narrow::<usize>(seller)] = narrow(kw);
     }
     for (slot, [registration, reduction]) in lists.entries.iter_mut().zip(packed.entries()) {
         *slot = Entry {
-            registration: registration as u8,
-            reduction: reduction as u32,
+            registration: narrow(registration),
+            reduction: narrow(reduction),
         };
     }
     lists

@@ -4,7 +4,7 @@ use std::collections::{BTreeMap, BTreeSet};
 
 use settlement::account::to_date;
 use settlement::cases::{damaged_file, full_file, plausible_file, take_calls, Form, FORMS};
-use settlement::owed::{revenue, Amounts, Owed};
+use settlement::owed::{Amounts, Owed};
 use settlement::{bill_file, statement, take_each, Book};
 
 const SEEDS: u64 = 300;
@@ -59,7 +59,7 @@ fn assert_yearly_limit(book: &Book, so_far: &Owed, month: u8) {
     let year = book.year().expect("a close needs a year");
     for (seller, sums) in so_far.sellers.iter().enumerate() {
         let compliance = sums.map_or(0, |sums| sums.compliance);
-        assert!(compliance * 1_000 <= revenue(year, seller, month));
+        assert!(compliance * 1_000 <= year.revenue(seller, month));
     }
 }
 

@@ -1,5 +1,6 @@
 //! The figures of Year A and its edges.
 
+use settlement::layout::MOST_BYTES;
 use settlement::owed::{cap, convert, due_month, uncapped, Allotment};
 use settlement::records::{registration, Opening, Product};
 use settlement::{bill_file, Book};
@@ -11,7 +12,7 @@ const YEAR_A: Opening = Opening {
 };
 
 fn record(numbers: &[u64]) -> Vec<u8> {
-    let mut buffer = [0; 354];
+    let mut buffer = [0; MOST_BYTES];
     let written = settlement::write(numbers, &mut buffer);
     assert_eq!(written.number, 0, "{numbers:?}");
     buffer[..written.used].to_vec()

@@ -4,6 +4,7 @@
 use std::io::{self, Write};
 
 use settlement::cases::{self, Call};
+use settlement::exact::widen;
 use settlement::lines::{join, to_hex};
 
 fn main() -> io::Result<()> {
@@ -38,7 +39,7 @@ fn call_lines(calls: &[Call]) -> Vec<u8> {
 
 fn write_lines(calls: &[(usize, Vec<u64>)]) -> Vec<u8> {
     let line = |(room, numbers): &(usize, Vec<u64>)| {
-        let words = join([*room as u64].iter().chain(numbers));
+        let words = join([widen(*room)].iter().chain(numbers));
         format!("{words}\n")
     };
     calls.iter().map(line).collect::<String>().into_bytes()

@@ -2,4 +2,3 @@
 pub mod Allot
 pub mod Lists
 pub mod Stepper
-pub mod Abreast

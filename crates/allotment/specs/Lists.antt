@@ -1,14 +1,13 @@
 -- The allotment along a list of weights, by running sum: it is the allotment by place, and one over some of the parties is one over all.
-use Prim.Native.Nat.{ℕ, zero, suc, _+_, _*_, _-_, _/_, _≤_, _<_}
+use Prim.Native.Nat.{ℕ, zero, suc, _+_, _*_, _-_, _/_}
 use mathlib.Core.Bool.{Bool, true, false, cond}
 use mathlib.Core.List.{List, [], _∷_, map}
-use mathlib.Core.Path.{_≡_, refl, ap, sym, _∙_}
+use mathlib.Core.Path.{_≡_, refl, ap, sym}
 use native.Mathlib.Omega.{arith}
 use native.Mathlib.Nat.{add-zero, zero-add, add-assoc, sub-self}
 use lib.ListN.{length}
 use Rattle.ids.specs.Ids.{at, sumTo}
-use Rattle.ids.specs.Sums.{sum-same}
-use Rattle.allotment.specs.Allot.{share, shares-all, share-none, share-zero, share-le}
+use Rattle.allotment.specs.Allot.{share}
 
 unfoldable pub sum : List ℕ → ℕ
 sum [] = 0
@@ -47,30 +46,6 @@ unfolding allot share
 allot-at a ws i =
     rw (← (sum-places ws))
     (rw (zero-add (sumTo (suc i) (at ws)), zero-add (sumTo i (at ws))) at (shares-at a (sum ws) ws 0 i))
-
-length-shares : (a W : ℕ) (ws : List ℕ) (s : ℕ) → length (shares a W s ws) ≡ length ws
-unfolding shares
-length-shares a W [] s = refl
-length-shares a W (x ∷ xs) s = ap suc (length-shares a W xs (s + x))
-
-pub length-allot : (a : ℕ) (ws : List ℕ) → length (allot a ws) ≡ length ws
-unfolding allot
-length-allot a ws = length-shares a (sum ws) ws 0
-
--- the allotment's facts, from those by place
-pub allot-sum : (a : ℕ) (ws : List ℕ) → 0 < sum ws → sum (allot a ws) ≡ a
-allot-sum a ws l =
-    sum-places (allot a ws) ∙ rw (length-allot a ws) (sum-same (length ws) (λ i m. allot-at a ws i))
-    ∙ shares-all (length ws) (at ws) a (omega (arith, sum-places ws))
-
-pub allot-none : (a : ℕ) (ws : List ℕ) (i : ℕ) → sum ws ≡ 0 → at (allot a ws) i ≡ 0
-allot-none a ws i e = allot-at a ws i ∙ share-none (length ws) (at ws) a i (sym (sum-places ws) ∙ e)
-
-pub allot-zero : (a : ℕ) (ws : List ℕ) (i : ℕ) → at ws i ≡ 0 → at (allot a ws) i ≡ 0
-allot-zero a ws i e = allot-at a ws i ∙ share-zero (length ws) (at ws) a i e
-
-pub allot-le : (a : ℕ) (ws : List ℕ) (i : ℕ) → a ≤ sum ws → at (allot a ws) i ≤ at ws i
-allot-le a ws i h = rw (allot-at a ws i) (share-le (length ws) (at ws) a i (omega (arith, sum-places ws)))
 
 -- parties of any type, of which p picks some
 module _ {E : Type 0} (p : E → Bool) where

@@ -1,9 +1,8 @@
 -- An allotment share by share: what the state carries, what a share asks and gives, and how that is the share by place.
-use Prim.Native.Nat.{ℕ, suc, _+_, _*_, _-_, _/_, _^_, _≤_, _<_}
+use Prim.Native.Nat.{ℕ, _+_, _*_, _-_, _/_, _^_, _≤_, _<_}
 use mathlib.Core.Path.{_≡_, _∙_}
 use native.Mathlib.Omega.{arith}
 use native.Mathlib.Nat.{add-zero}
-use native.Mathlib.Numerals.{add-one}
 use Rattle.ids.specs.Ids.{sumTo}
 use Rattle.ids.specs.Sums.{sum-step, sum-mono}
 use Rattle.allotment.specs.Allot.{share}
@@ -55,7 +54,3 @@ module _ {n : ℕ} {w : ℕ → ℕ} {a i : ℕ} {s : Allotment} (b : Before n w
   -- a weight of 0 may be passed over
   pub share-skip : w i ≡ 0 → Before n w a (i + 1) s
   share-skip e = record { carried = rw (sum-step i w, e, add-zero (sumTo i w)) (b .carried) }
-
-  -- as a recursion counts
-  pub before-suc : {j : ℕ} → i ≡ j + 1 → Before n w a (suc j) s
-  before-suc {j} e = record { carried = rw (e, add-one j) at (b .carried) }

@@ -1,65 +1,27 @@
 // Bills record files, each from a new book: standard input, or the files that the arguments name, where `-` is standard input.
+use answer::Course;
 use libc::STDIN_FILENO;
-use year::Year;
-ghost use Prim.Native.Nat.{_+_, _≤_, _<_};
+ghost use Prim.Native.Nat.{_≤_};
 ghost use lib.ListN.{length};
-ghost use Rattle.year.specs.Sound.{Sound};
 ghost use Rattle.report.specs.Text.{room, statementRoom};
-ghost use Rattle.records.specs.QuestionLaws.{longestRecord};
+ghost use Rattle.layouts.specs.QuestionLaws.{longestRecord};
 
-// What taking one record leaves: the year after it, its number, the bytes consumed, and the place after what is printed of it.
-struct Taken {
-    year: Year,
-    number: u64,
-    used: usize,
-    at: usize,
-}
-
-// Takes the record at the window's start.
-fn step(
-    year: Year,
-    position: u64,
-    buffer: &[u8],
-    start: usize,
-    end: usize,
-    statement: &mut [u8],
-    out: &mut [u8],
-    at: usize,
-) -> Taken
-    requires { ⌜ Sound year ⌝ }
-    requires { ⌜ start < end ⌝ }
-    requires { ⌜ end ≤ length (now buffer) ⌝ }
-    requires { ⌜ statementRoom ≤ length (now statement) ⌝ }
-    requires { ⌜ at + room ≤ length (now out) ⌝ }
-    ensures { λ r. ⌜ Sound (r .year) ⌝ }
-    ensures { λ r. ⌜ start + r .used ≤ end ⌝ }
-    ensures { λ r. ⌜ r .at ≤ length (now (out .entry)) ⌝ }
-{
-    let kind = buffer[start] >> 4;
-    let posted = book::post(year, &buffer[start..end], statement);
-    let number = posted.number;
-    let next = report::answer_lines(position, kind, number, statement, out, at);
-    let after = posted.year;
-    Taken {
-        year: after,
-        number: number,
-        used: posted.used,
-        at: next,
-    }
-}
-
-// One record after another, up to the end or a number 1 or 2; answers whether all is read and written.
-// A failed read or write ends it with nothing more written.
+// One record after another, up to the end or a number that ends the file; answers whether all is read and written.
+// A failed read or write ends it with nothing more written. No contract can name what is read or written: that
+// each step on what is at hand prints the file's bill is a law of `answer` (text-first).
 fn bill(input: i32, buffer: &mut [u8], statement: &mut [u8], out: &mut [u8]) -> bool
     requires { ⌜ longestRecord ≤ length (now buffer) ⌝ }
     requires { ⌜ statementRoom ≤ length (now statement) ⌝ }
     requires { ⌜ room ≤ length (now out) ⌝ }
 {
-    let mut year = book::new_book();
+    let year = book::new_book();
+    let mut course = Course {
+        year: year,
+        position: 1,
+        at: 0,
+    };
     let mut window = feed::new_window();
-    let mut at: usize = 0;
-    let mut position: u64 = 1;
-    while position < u64::MAX {
+    while course.position < u64::MAX {
         window = feed::filled(input, buffer, window, records::LONGEST);
         if window.failed {
             return false;
@@ -67,21 +29,19 @@ fn bill(input: i32, buffer: &mut [u8], statement: &mut [u8], out: &mut [u8]) -> 
         let start = window.start;
         let end = window.end;
         if start == end {
-            return !output::with_room(out, at, out.len()).failed;
+            return output::finish(out, course.at);
         }
-        let taken = step(year, position, buffer, start, end, statement, out, at);
-        year = taken.year;
-        let number = taken.number;
-        if number == 1 || number == 2 {
-            return !output::with_room(out, taken.at, out.len()).failed;
+        let answered = answer::step(course, &buffer[start..end], statement, out);
+        course = answered.next;
+        if file::ends(answered.number) {
+            return output::finish(out, course.at);
         }
-        let gathered = output::with_room(out, taken.at, report::ROOM);
+        let gathered = output::with_room(out, course.at, report::ROOM);
         if gathered.failed {
             return false;
         }
-        at = gathered.at;
-        window.start = start + taken.used;
-        position += 1;
+        course.at = gathered.at;
+        window.start = start + answered.used;
     }
     false
 }

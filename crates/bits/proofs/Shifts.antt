@@ -1,11 +1,11 @@
 -- What shifts and masks of a word do to fields.
-use mathlib.Core.Path.{_≡_, sym, _∙_}
+use mathlib.Core.Path.{_≡_, sym, ap, _∙_}
 use mathlib.Core.List.{List}
 use Prim.Native.Nat.{ℕ, _+_, _-_, _*_, _/_, _%_, _^_, _≤_, _<_}
 use native.Mathlib.Nat.{one-mul}
 use native.Mathlib.Omega.{arith}
 use lib.ListN.{getD}
-use lib.Pow.{shl-exact}
+use lib.Pow.{shl-exact, shl-shr, shr-shr, field}
 use lib.Bits.{bitAnd, bitOr, and-mask, or-shifted}
 use Rattle.bits.specs.Bits.{number, fieldAt}
 use Rattle.bits.specs.BitLaws.{field-lt, field-split, field-mid, byte-field}
@@ -60,8 +60,19 @@ pub quad-field : (xs : List ℕ) (i : ℕ) → ((k : ℕ) → getD xs k 0 < 2 ^ 
 quad-field xs i b =
     rw (byte-more xs i 3 (b (i + 3)), byte-more xs i 2 (b (i + 2)), byte-more xs i 1 (b (i + 1)), byte-field xs i (b i))
 
--- the w bits from p on, out of a word that has d bits behind them
-pub middle : (xs : List ℕ) (p w n d word : ℕ) → p % 8 + w + d ≡ n → word ≡ fieldAt xs (8 * (p / 8)) n → word / 2 ^ d % 2 ^ w ≡ fieldAt xs p w
-middle xs p w n d word e f =
-    let at : 8 * (p / 8) + p % 8 ≡ p = omega arith in
-    rw (f, ← e, field-mid xs (8 * (p / 8)) (p % 8) w d, at)
+-- a word shifted left by a and then right: its w bits behind the first a
+pub shifted : (word a w : ℕ) → a + w ≤ 64 → (word * 2 ^ a) % 2 ^ 64 / 2 ^ (64 - w) ≡ word / 2 ^ (64 - (a + w)) % 2 ^ w
+shifted word a w l =
+    let d = 64 - (a + w) in
+    let all : 64 ≡ w + (64 - w) = omega arith in
+    let rest : 64 - w ≡ a + d = omega arith in
+    let cut : word * 2 ^ a / 2 ^ (64 - w) ≡ word / 2 ^ d = rw (rest, ← shr-shr (word * 2 ^ a) a d, shl-shr word a) in
+    ap (λ (n : ℕ). (word * 2 ^ a) % 2 ^ n / 2 ^ (64 - w)) all ∙ field (word * 2 ^ a) w (64 - w) ∙ ap (λ (x : ℕ). x % 2 ^ w) cut
+
+-- the w bits from p on, out of the word of the eight bytes from bit base on
+pub middle : (xs : List ℕ) (base p w word : ℕ) → base ≤ p → p - base + w ≤ 64 → word ≡ fieldAt xs base 64 → word / 2 ^ (64 - (p - base + w)) % 2 ^ w ≡ fieldAt xs p w
+middle xs base p w word l m f =
+    let d = 64 - (p - base + w) in
+    let at : base + (p - base) ≡ p = omega arith in
+    let whole : p - base + w + d ≡ 64 = omega arith in
+    rw f (rw (whole, at) at (field-mid xs base (p - base) w d))

@@ -94,13 +94,6 @@ field-split xs p a b = number-split (bitAt xs) (bit-lt xs) p a b
 pub field-mid : (xs : List ℕ) (p a w d : ℕ) → fieldAt xs p (a + w + d) / 2 ^ d % 2 ^ w ≡ fieldAt xs (p + a) w
 field-mid xs p a w d = number-mid (bitAt xs) (bit-lt xs) p a w d
 
--- the first a bits of a field, and its last b
-pub field-high : (xs : List ℕ) (p a b : ℕ) → fieldAt xs p (a + b) / 2 ^ b ≡ fieldAt xs p a
-field-high xs p a b = rw (field-split xs p a b) (high (fieldAt xs p a) b (field-lt xs (p + a) b))
-
-pub field-low : (xs : List ℕ) (p a b : ℕ) → fieldAt xs p (a + b) % 2 ^ b ≡ fieldAt xs (p + a) b
-field-low xs p a b = rw (field-split xs p a b) (low (fieldAt xs p a) b (field-lt xs (p + a) b))
-
 -- past the last byte all bits are zero
 pub field-past : (xs : List ℕ) (p w : ℕ) → 8 * length xs ≤ p → fieldAt xs p w ≡ 0
 unfolding bitAt

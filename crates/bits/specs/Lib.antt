@@ -2,7 +2,7 @@ pub mod Bits
 pub mod BitLaws
 pub mod Table
 pub mod TableLaws
-pub mod PairLaws
+pub mod ItemLaws
 pub mod Pack
 pub mod PackLaws
 pub mod Written

@@ -1,18 +1,18 @@
 -- Laws of tables of fields: two tables in a row, one more field read, and what the fields depend on.
-use mathlib.Core.Path.{_≡_, refl, ap, _∙_}
-use mathlib.Core.List.{List, [], _∷_, _++_, append-assoc}
-use mathlib.Core.Bool.{_&&_}
+use mathlib.Core.Path.{_≡_, refl, sym, ap, _∙_}
+use mathlib.Core.List.{List, [], _∷_, _++_, append-assoc, append-nil}
+use mathlib.Core.Bool.{Bool, true, false, _&&_}
 use Prim.Native.Nat.{ℕ, zero, suc, _+_, _*_, _^_, _≤_, _<_}
 use native.Mathlib.Nat.{add-zero, add-assoc}
 use native.Mathlib.Numerals.{add-one}
 use native.Mathlib.Omega.{arith}
 use lib.Dec.{T, leb, leb→le}
-use lib.ListN.{length, getD, take, drop, set}
-use lib.Seq.{take-suc, drop-cons, set-at, length-take-le}
+use lib.ListN.{length, getD, take, drop, set, length-append, length-drop, take-append-drop}
+use lib.Seq.{take-suc, take-at, drop-cons, drop-append-add, drop-drop, set-at, length-take-le}
 use mir.Facts.{and-yes}
 use Rattle.bits.specs.Bits.{fieldAt}
 use Rattle.bits.specs.BitLaws.{Agree, agree-join, agree-field, agree-take, field-lt, field-bits}
-use Rattle.bits.specs.Table.{total, fieldsAt, Valid, narrow}
+use Rattle.bits.specs.Table.{total, fieldsAt, laid, Valid, narrow}
 
 pub total-append : (ws vs : List ℕ) → total (ws ++ vs) ≡ total ws + total vs
 total-append [] vs = omega arith
@@ -66,6 +66,17 @@ width-in (w ∷ ws) zero t h =
     (leb→le 1 w (a .0), leb→le w 42 (a .1))
 width-in (w ∷ ws) (suc i) t h = width-in ws i (and-yes (leb 1 w && leb w 42) (narrow ws) t .1) (omega arith)
 
+both-yes : (a b : Bool) → T a → T b → T (a && b)
+both-yes true b t u = u
+both-yes false b t u = absurd t
+
+pub narrow-split : (ws us : List ℕ) → T (narrow (ws ++ us)) → T (narrow ws) × T (narrow us)
+narrow-split [] us t = (tt, t)
+narrow-split (w ∷ ws) us t =
+    let a = and-yes (leb 1 w && leb w 42) (narrow (ws ++ us)) t in
+    let r = narrow-split ws us (a .1) in
+    (both-yes (leb 1 w && leb w 42) (narrow ws) (a .0) (r .0), r .1)
+
 -- the field at index i ends within the table's bits
 pub total-in : (ws : List ℕ) (i : ℕ) → i < length ws → total (take i ws) + getD ws i 0 ≤ total ws
 total-in [] i h = absurd (omega arith)
@@ -81,19 +92,44 @@ pub fields-more : (xs : List ℕ) (p : ℕ) (ws : List ℕ) (i : ℕ) → i < le
     → fieldsAt xs p (take (i + 1) ws) ≡ fieldsAt xs p (take i ws) ++ (fieldAt xs (p + total (take i ws)) (getD ws i 0) ∷ [])
 fields-more xs p ws i h = rw (add-one, take-suc ws i 0, fields-append)
 
--- one more element behind those that are written over the front of old
-pub set-more : (front old out : List ℕ) (n x : ℕ) → length front ≡ n → n < length old → out ≡ front ++ drop n old → set out n x ≡ (front ++ (x ∷ [])) ++ drop (n + 1) old
-set-more front old out n x l h e =
-    let d : drop n old ≡ getD old n 0 ∷ drop (n + 1) old = rw add-one (drop-cons old n 0 h) in
-    rw (e, d, set-at front (getD old n 0) (drop (n + 1) old) x n l, append-assoc)
+-- values laid over a list: none, one more, and more behind them
+pub laid-none : (to : ℕ) (old : List ℕ) → old ≡ laid to [] old
+laid-none to old = rw (append-nil (take to old), add-zero to) (sym (take-append-drop to old))
 
--- one more field read into out, whose other elements are as in old
-pub out-more : (xs : List ℕ) (p : ℕ) (ws out old : List ℕ) (i : ℕ) → i < length ws → length ws ≤ length old
-    → out ≡ fieldsAt xs p (take i ws) ++ drop i old
-    → set out i (fieldAt xs (p + total (take i ws)) (getD ws i 0)) ≡ fieldsAt xs p (take (i + 1) ws) ++ drop (i + 1) old
-out-more xs p ws out old i h n e =
-    let l : length (fieldsAt xs p (take i ws)) ≡ i = length-fields xs p (take i ws) ∙ length-take-le i ws (omega arith) in
-    rw (fields-more xs p ws i h) (set-more (fieldsAt xs p (take i ws)) old out i _ l (omega arith) e)
+module _ (to : ℕ) (vs old : List ℕ) where
+  length-front : to + length vs ≤ length old → length (take to old ++ vs) ≡ to + length vs
+  length-front h = omega (arith, length-append (take to old) vs, length-take-le to old (omega arith))
+
+  pub length-laid : to + length vs ≤ length old → length (laid to vs old) ≡ length old
+  length-laid h = omega (arith, length-append (take to old ++ vs) (drop (to + length vs) old), length-front h, length-drop (to + length vs) old)
+
+  pub laid-more : (x : ℕ) → to + length vs < length old → set (laid to vs old) (to + length vs) x ≡ laid to (vs ++ (x ∷ [])) old
+  laid-more x h =
+      let d : drop (to + length vs) old ≡ getD old (to + length vs) 0 ∷ drop (to + length vs + 1) old = rw add-one (drop-cons old (to + length vs) 0 h) in
+      let next : to + length (vs ++ (x ∷ [])) ≡ to + length vs + 1 = omega (arith, length-append vs (x ∷ [])) in
+      rw (d, set-at (take to old ++ vs) (getD old (to + length vs) 0) (drop (to + length vs + 1) old) x (to + length vs) (length-front (omega arith)), next, append-assoc, append-assoc, append-assoc)
+
+  pub laid-again : (us : List ℕ) → to + length vs ≤ length old → laid (to + length vs) us (laid to vs old) ≡ laid to (vs ++ us) old
+  laid-again us h =
+      let n = length-front h in
+      let rest = drop (to + length vs) old in
+      let front : take (to + length vs) (laid to vs old) ≡ take to old ++ vs = take-at (take to old ++ vs) rest (to + length vs) n in
+      let at : to + length vs + length us ≡ length (take to old ++ vs) + length us = omega arith in
+      let end : to + length vs + length us ≡ to + length (vs ++ us) = omega (arith, length-append vs us) in
+      let back : drop (to + length vs + length us) (laid to vs old) ≡ drop (to + length (vs ++ us)) old =
+      ap (λ (k : ℕ). drop k (laid to vs old)) at ∙ drop-append-add (take to old ++ vs) rest (length us) ∙ drop-drop (length us) (to + length vs) old ∙ ap (λ (k : ℕ). drop k old) end in
+      rw (front, back, append-assoc (take to old) vs us)
+
+-- one more field read into out from a place on, whose other elements are as in old
+pub out-more : (xs : List ℕ) (p to : ℕ) (ws out old : List ℕ) (i : ℕ) → i < length ws → to + length ws ≤ length old
+    → out ≡ laid to (fieldsAt xs p (take i ws)) old
+    → set out (to + i) (fieldAt xs (p + total (take i ws)) (getD ws i 0)) ≡ laid to (fieldsAt xs p (take (i + 1) ws)) old
+out-more xs p to ws out old i h n e =
+    let fs = fieldsAt xs p (take i ws) in
+    let x = fieldAt xs (p + total (take i ws)) (getD ws i 0) in
+    let l : length fs ≡ i = length-fields xs p (take i ws) ∙ length-take-le i ws (omega arith) in
+    ap (λ (l : List ℕ). set l (to + i) x) e ∙ ap (λ (k : ℕ). set (laid to fs old) (to + k) x) (sym l) ∙ laid-more to fs old x (omega arith)
+    ∙ ap (λ (l : List ℕ). laid to l old) (sym (fields-more xs p ws i h))
 
 -- a table's fields depend on their own bits alone
 pub fields-cong : (xs ys : List ℕ) (p : ℕ) (ws : List ℕ) → Agree xs ys p (p + total ws) → fieldsAt xs p ws ≡ fieldsAt ys p ws

@@ -1,20 +1,20 @@
 -- Laws of the writer: one number written after another, tables of values as one number, and that what is finished is the encoding.
-use mathlib.Core.Path.{_≡_, refl, sym, ap, _∙_}
+use mathlib.Core.Path.{_≡_, refl, sym, ap, subst, _∙_}
 use mathlib.Core.List.{List, [], _∷_, _++_}
 use Prim.Native.Nat.{ℕ, _+_, _-_, _*_, _/_, _%_, _^_, _≤_, _<_}
 use native.Mathlib.Nat.{add-zero, zero-add}
 use native.Mathlib.Numerals.{add-one}
 use native.Mathlib.Omega.{arith}
 use lib.Arith.{digits-lt}
-use lib.ListN.{length, getD, take, drop}
+use lib.ListN.{length, getD, take, drop, length-append, length-drop, take-append-drop}
 use lib.Pow.{pow-pos, pow-add, high, low}
-use lib.Seq.{take-suc, length-take-le}
+use lib.Seq.{take-add, take-suc, length-take-le}
 use Rattle.bits.specs.declared.writer.Writer.{Writer}
 use Rattle.bits.specs.Bits.{Bytes, bitAt, number, fieldAt}
 use Rattle.bits.specs.BitLaws.{field-lt, field-split}
-use Rattle.bits.specs.Table.{total, pairs, fieldsAt, Valid}
-use Rattle.bits.specs.TableLaws.{total-append}
-use Rattle.bits.specs.PairLaws.{length-pairs, pairs-first, pairs-second}
+use Rattle.bits.specs.Table.{total, times, fieldsAt, Valid}
+use Rattle.bits.specs.TableLaws.{total-append, valid-split}
+use Rattle.bits.specs.ItemLaws.{length-item, times-more, times-split}
 use Rattle.bits.specs.Pack.{bytesFor, encode, filling}
 use Rattle.bits.specs.PackLaws.{encode-unique}
 use Rattle.bits.specs.Written.{joined, writtenBits, written, Ready, Wrote, Finished}
@@ -42,23 +42,30 @@ joined-more ws vs i h k =
     let n : length (take i vs) ≡ length (take i ws) = length-take-le i vs (omega arith) ∙ sym (length-take-le i ws (omega arith)) in
     rw (add-one, take-suc ws i 0, take-suc vs i 0, joined-append (take i ws) (take i vs) (getD ws i 0 ∷ []) (getD vs i 0 ∷ []) n, add-zero (getD ws i 0)) (omega arith)
 
--- one more pair of n
-pub joined-pair : (a b n : ℕ) (vs : List ℕ) (k : ℕ) → k < n → length vs ≡ 2 * n
-    → joined (take (2 * (k + 1)) (pairs a b n)) (take (2 * (k + 1)) vs)
-    ≡ joined (take (2 * k) (pairs a b n)) (take (2 * k) vs) * 2 ^ (a + b) + (getD vs (2 * k) 0 * 2 ^ b + getD vs (2 * k + 1) 0)
-joined-pair a b n vs k h e =
-    let ws = pairs a b n in
-    let l = length-pairs a b n in
-    let next : 2 * (k + 1) ≡ 2 * k + 1 + 1 = omega arith in
-    rw (
-      next,
-      joined-more ws vs (2 * k + 1) (omega arith) (omega arith),
-      joined-more ws vs (2 * k) (omega arith) (omega arith),
-      pairs-first a b n k h,
-      pairs-second a b n k h,
-      pow-add 2 a b,
-    )
-    (omega arith)
+-- one more item of n, with the values from a place on
+module _ (ws vs : List ℕ) (n k i : ℕ) (h : k < n) (e : i ≡ length (times k ws)) (all : length vs ≡ length (times n ws)) where
+  abbrev item : List ℕ
+  item = take (length ws) (drop i vs)
+
+  item-parts : (rest : List ℕ) × (vs ≡ (take i vs ++ item) ++ rest)
+  item-parts = (drop (i + length ws) vs, rw (← take-add i (length ws) vs) (sym (take-append-drop (i + length ws) vs)))
+
+  pub length-item-values : (length (take i vs) ≡ length (times k ws)) × (length item ≡ length ws)
+  length-item-values =
+      let l = length-item ws n k h in
+      (length-take-le i vs (omega arith) ∙ e, length-take-le (length ws) (drop i vs) (omega (arith, length-drop i vs)))
+
+  pub valid-item : Valid (times n ws) vs → Valid ws item
+  valid-item v =
+      let l = length-item-values in
+      let p = item-parts in
+      let r = times-split ws k n h in
+      let both : Valid ((times k ws ++ ws) ++ r .0) ((take i vs ++ item) ++ p .0) = rw (r .1) at (subst (λ (l : List ℕ). Valid (times n ws) l) (p .1) v) in
+      let front = valid-split (times k ws ++ ws) (r .0) (take i vs ++ item) (p .0) (omega (arith, length-append (take i vs) item, length-append (times k ws) ws)) both .0 in
+      valid-split (times k ws) ws (take i vs) item (l .0) front .1
+
+  pub joined-item : joined (times (k + 1) ws) (take (i + length ws) vs) ≡ joined (times k ws) (take i vs) * 2 ^ total ws + joined ws item
+  joined-item = rw (times-more ws k, take-add i (length ws) vs) (joined-append (times k ws) (take i vs) ws item (length-item-values .0))
 
 -- bits that spell the number of a table have its values in their fields
 pub joined-fields : (xs : List ℕ) (p : ℕ) (ws vs : List ℕ) → Valid ws vs → length vs ≡ length ws → fieldAt xs p (total ws) ≡ joined ws vs → fieldsAt xs p ws ≡ vs

@@ -45,37 +45,42 @@ fn gathered(bytes: &[u8], first: usize, last: usize) -> u64
     acc
 }
 
-// The width bits of a word above its lowest low.
-pub fn cut(word: u64, low: usize, width: usize) -> u64
-    requires { ⌜ low < 64 ⌝ }
-    requires { ⌜ width < 64 ⌝ }
-    ensures { λ r. ⌜ r ≡ word / 2 ^ low % 2 ^ width ⌝ }
+// The bytes from first up to last, one to eight of them, at the top of a word.
+fn top(bytes: &[u8], first: usize, last: usize) -> u64
+    requires { ⌜ first < last ⌝ }
+    requires { ⌜ last ≤ first + 8 ⌝ }
+    requires { ⌜ last ≤ length (now bytes) ⌝ }
+    ensures { λ r. ⌜ r ≡ fieldAt (now (bytes .entry)) (8 * first) (8 * (last - first)) * 2 ^ (64 - 8 * (last - first)) ⌝ }
 {
-    (word >> low) & ((1u64 << width) - 1)
+    gathered(bytes, first, last) << (64 - 8 * (last - first))
 }
 
-// The field of width bits from a bit on: out of the eight bytes from its first byte on, or, where fewer are left, out of those that it touches.
+// The width bits of a word behind its highest skip.
+pub fn cut(word: u64, skip: usize, width: usize) -> u64
+    requires { ⌜ 1 ≤ width ⌝ }
+    requires { ⌜ width ≤ 42 ⌝ }
+    requires { ⌜ skip + width ≤ 64 ⌝ }
+    ensures { λ r. ⌜ r ≡ word / 2 ^ (64 - (skip + width)) % 2 ^ width ⌝ }
+{
+    (word << skip) >> (64 - width)
+}
+
+// The eight bytes from first on, zeros behind the last where there are fewer.
+pub fn ahead(bytes: &[u8], first: usize) -> u64
+    requires { ⌜ first < length (now bytes) ⌝ }
+    ensures { λ r. ⌜ r ≡ fieldAt (now (bytes .entry)) (8 * first) 64 ⌝ }
+{
+    let n = bytes.len();
+    if 8 <= n - first {
+        return eight(bytes, first);
+    }
+    top(bytes, first, n)
+}
+
+// The field of width bits from a bit on, out of the eight bytes from its first byte on.
 pub fn field_at(bytes: &[u8], at: usize, width: usize) -> u64
     requires { ⌜ Room (now bytes) at width ⌝ }
     ensures { λ r. ⌜ r ≡ fieldAt (now (bytes .entry)) at width ⌝ }
 {
-    let first = at >> 3;
-    if first + 8 <= bytes.len() {
-        return cut(eight(bytes, first), 64 - (at & 7) - width, width);
-    }
-    let end = at + width;
-    let last = (end + 7) >> 3;
-    cut(gathered(bytes, first, last), (last << 3) - end, width)
-}
-
-// The first eight bytes, zeros behind them where there are fewer.
-pub fn front(bytes: &[u8]) -> u64
-    requires { ⌜ 1 ≤ length (now bytes) ⌝ }
-    ensures { λ r. ⌜ r ≡ fieldAt (now (bytes .entry)) 0 64 ⌝ }
-{
-    let n = bytes.len();
-    if 8 <= n {
-        return eight(bytes, 0);
-    }
-    gathered(bytes, 0, n) << (64 - 8 * n)
+    cut(ahead(bytes, at >> 3), at & 7, width)
 }

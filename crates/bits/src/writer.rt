@@ -3,7 +3,7 @@ ghost use mathlib.Core.Path.{_≡_};
 ghost use Prim.Native.Nat.{_+_, _*_, _^_, _≤_, _<_};
 ghost use lib.Dec.{T};
 ghost use lib.ListN.{length};
-ghost use Rattle.bits.specs.Table.{total, pairs, narrow, Valid};
+ghost use Rattle.bits.specs.Table.{total, times, narrow, Valid};
 ghost use Rattle.bits.specs.Written.{writtenBits, joined, Ready, Wrote, Finished};
 
 // The next byte, and the bits held back for it: how many, and the number that they spell.
@@ -66,21 +66,22 @@ impl Writer {
         p
     }
 
-    // The values in n pairs of fields of widths a and b, a pair at a time.
-    pub fn put_pairs(self, bytes: &mut [u8], a: usize, b: usize, n: usize, values: &[u64]) -> Writer
+    // The values in n items, each with fields of these widths.
+    pub fn put_items(self, bytes: &mut [u8], widths: &[u8], n: usize, values: &[u64]) -> Writer
         requires { ⌜ Ready self ⌝ }
-        requires { ⌜ a + b ≤ 42 ⌝ }
-        requires { ⌜ length (now values) ≡ 2 * n ⌝ }
-        requires { ⌜ Valid (pairs a b n) (now values) ⌝ }
-        requires { ⌜ writtenBits self + total (pairs a b n) ≤ 8 * length (now bytes) ⌝ }
-        ensures { λ r. ⌜ Wrote (now (bytes .entry)) (now (bytes .exit)) self r (total (pairs a b n)) (joined (pairs a b n) (now (values .entry))) ⌝ }
+        requires { ⌜ T (narrow (now widths)) ⌝ }
+        requires { ⌜ length (now values) ≡ length (times n (now widths)) ⌝ }
+        requires { ⌜ Valid (times n (now widths)) (now values) ⌝ }
+        requires { ⌜ writtenBits self + total (times n (now widths)) ≤ 8 * length (now bytes) ⌝ }
+        ensures { λ r. ⌜ Wrote (now (bytes .entry)) (now (bytes .exit)) self r (total (times n (now (widths .entry)))) (joined (times n (now (widths .entry))) (now (values .entry))) ⌝ }
     {
-        let width = a + b;
         let mut p = self;
+        let mut i = 0;
         let mut k = 0;
         while k < n {
-            let i = 2 * k;
-            p = p.put(bytes, width, (values[i] << b) | values[i + 1]);
+            let end = i + widths.len();
+            p = p.put_all(bytes, widths, &values[i..end]);
+            i = end;
             k += 1;
         }
         p

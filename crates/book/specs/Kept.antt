@@ -18,7 +18,8 @@ use Rattle.year.specs.Sound.{SoundRegistration, SoundEvent, SoundTest, SoundTer
 use Rattle.year.specs.Limits.{size-is}
 use Rattle.year.specs.Kept.{sound-opening, sound-registration, sound-lse, sound-event, sound-test, sound-close}
 use Rattle.owed.specs.Bound.{sound-amounts}
-use Rattle.questions.specs.Questions.{opening, registering, obliging, event, testing, closing, listingIn, placeOf, inGroup, everyListed}
+use Rattle.questions.specs.Questions.{opening, registering, obliging, event, testing, closing, listingIn, placeOf}
+use Rattle.entries.specs.Entries.{inGroup, everyListed}
 use Rattle.questions.specs.Passed.{Passed, passed-questions, not-started, event-held, in-group, not-finished, next-month}
 use Rattle.book.specs.Outcome.{valuesOf, postNumber, registrationOf, eventOf, testOf, yearWith, yearAfter}
 use Rattle.book.specs.Numbers.{all-passed}

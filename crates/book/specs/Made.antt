@@ -8,8 +8,8 @@ use native.Mathlib.Nat.{not-suc-le-zero}
 use lib.Dec.{leb}
 use borrow.Author.Tests.{leb-true}
 use Rattle.ids.specs.Ids.{at}
-use Rattle.records.specs.Layout.{hasLists, deficitsIn, entriesIn}
-use Rattle.records.specs.Questions.{kindOf, isKind}
+use Rattle.layouts.specs.Layout.{hasLists, deficitsIn, entriesIn}
+use Rattle.layouts.specs.Questions.{kindOf, isKind}
 use Rattle.records.specs.Accepted.{Accepted, kind-number}
 use Rattle.records.specs.Accepted as records
 use Rattle.year.specs.Sound.{SoundListing, Pairs}

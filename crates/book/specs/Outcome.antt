@@ -1,14 +1,13 @@
 -- The outcome of a call that takes a record: number, bytes consumed, year after, and buffer after.
 use Prim.Native.Nat.{ℕ}
-use mathlib.Core.Bool.{Bool, true, false, cond}
-use mathlib.Core.List.{List, [], _∷_, _++_}
+use mathlib.Core.Bool.{true, cond}
+use mathlib.Core.List.{List, _++_}
 use mathlib.Core.Path.{_≡_}
 use lib.ListN.{length, drop}
 use lib.Dec.{eqb}
 use Rattle.ids.specs.Ids.{at}
-use Rattle.records.specs.Questions.{firstFailed, kindOf, rulesOf, numbersOf, isKind, isWhole, permitted, isFilled, idsRise, consumed, row}
+use Rattle.layouts.specs.Questions.{firstFailed, numbersOf, recordQuestions, consumed, row}
 use Rattle.year.specs.declared.Registration.{Registration}
-use Rattle.year.specs.declared.Listing.{Listing}
 use Rattle.year.specs.declared.Event.{Event}
 use Rattle.year.specs.declared.Test.{Test}
 use Rattle.year.specs.declared.Year.{Year}
@@ -23,14 +22,7 @@ valuesOf bytes = row (numbersOf bytes)
 
 -- the number of the first of the sixteen questions that fails, 0 where none does
 unfoldable pub postNumber : Year → List ℕ → ℕ → ℕ
-postNumber y bytes room =
-    firstFailed
-    ((1, isKind (kindOf bytes))
-    ∷ (2, isWhole bytes)
-    ∷ (3, permitted (rulesOf bytes) (numbersOf bytes))
-    ∷ (4, isFilled bytes)
-    ∷ (5, idsRise (numbersOf bytes))
-    ∷ questions y (valuesOf bytes) (listingIn (valuesOf bytes)) room)
+postNumber y bytes room = firstFailed (recordQuestions bytes ++ questions y (valuesOf bytes) (listingIn (valuesOf bytes)) room)
 
 -- what a record's numbers register, and what it lists as an event or a test
 abbrev pub registrationOf : List ℕ → Registration

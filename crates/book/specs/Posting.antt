@@ -3,11 +3,10 @@ use Prim.Native.Nat.{ℕ}
 use mathlib.Core.List.{List, _++_}
 use mathlib.Core.Path.{_≡_, refl, sym, _∙_}
 use lib.ListN.{length, drop}
-use lib.Dec.{eqb}
 use borrow.Author.Tests.{eq-eqb, ne-eqb}
 use Rattle.ids.specs.Ids.{at}
 use Rattle.ids.specs.Tests.{cond-true, cond-false}
-use Rattle.records.specs.Questions.{consumed}
+use Rattle.layouts.specs.Questions.{consumed}
 use Rattle.year.specs.declared.Year.{Year}
 use Rattle.year.specs.Steps.{withClose}
 use Rattle.year.specs.Sound.{Sound}

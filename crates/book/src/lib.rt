@@ -135,10 +135,11 @@ pub fn post(year: Year, bytes: &[u8], buffer: &mut [u8]) -> Posted
     ensures sound { λ r. ⌜ Sound (r .year) ⌝ }
 {
     let parsed = records::parse(bytes);
+    let used = parsed.used;
     if parsed.number != 0 {
         return Posted {
             number: parsed.number,
-            used: parsed.used,
+            used: used,
             year: year,
         };
     }
@@ -148,7 +149,7 @@ pub fn post(year: Year, bytes: &[u8], buffer: &mut [u8]) -> Posted
     if number != 0 {
         return Posted {
             number: number,
-            used: parsed.used,
+            used: used,
             year: year,
         };
     }
@@ -156,14 +157,14 @@ pub fn post(year: Year, bytes: &[u8], buffer: &mut [u8]) -> Posted
         let next = close(year, values[1], buffer);
         return Posted {
             number: 0,
-            used: parsed.used,
+            used: used,
             year: next,
         };
     }
-    let next = year_after(year, values, listing);
+    let after = year_after(year, values, listing);
     Posted {
         number: 0,
-        used: parsed.used,
-        year: next,
+        used: used,
+        year: after,
     }
 }

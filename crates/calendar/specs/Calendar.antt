@@ -65,19 +65,3 @@ days-le {leap} k h = go (leb 9 k)
     go : (b : Bool) → getD monthEnds (min k 12 - 1) 0 + cond b leap 0 ≤ 366
     go true = omega (arith, month-end-le k)
     go false = omega (arith, month-end-le k)
-
-pub due-from : (product m : ℕ) → 5 ≤ due product m
-unfolding due
-due-from product m = go (eqb product limited)
-  where
-    go : (b : Bool) → 5 ≤ max (cond b 5 13) (m + 3)
-    go true = omega arith
-    go false = omega arith
-
-pub due-le : (product : ℕ) {m : ℕ} → m ≤ 12 → due product m ≤ 15
-unfolding due
-due-le product {m} h = go (eqb product limited)
-  where
-    go : (b : Bool) → max (cond b 5 13) (m + 3) ≤ 15
-    go true = omega arith
-    go false = omega arith

@@ -1,51 +1,14 @@
 // Prints record files as text, a line for each record: its numbers in layout order, or `N position number` where it is refused.
 // They come from standard input, or from the files that the arguments name, where `-` is standard input.
 use libc::STDIN_FILENO;
-ghost use mathlib.Core.Path.{_≡_};
-ghost use Prim.Native.Nat.{_+_, _≤_};
+ghost use Prim.Native.Nat.{_≤_};
 ghost use lib.ListN.{length};
-ghost use Rattle.records.specs.Questions.{recordNumber, consumed};
-ghost use Rattle.report.specs.Pasted.{Pasted};
 ghost use Rattle.report.specs.Text.{room};
-ghost use Rattle.records.specs.QuestionLaws.{longestRecord};
-ghost use Rattle.dump.specs.Line.{recordLine};
+ghost use Rattle.layouts.specs.QuestionLaws.{longestRecord};
 
-// What printing one record leaves: its number, its bytes, and the place after its line.
-struct Printed {
-    number: u64,
-    used: usize,
-    at: usize,
-}
-
-// The line of the record at the front of the bytes.
-fn line(position: u64, bytes: &[u8], out: &mut [u8], at: usize) -> Printed
-    requires { ⌜ at + room ≤ length (now out) ⌝ }
-    ensures { λ r. ⌜ (r .number ≡ recordNumber (now (bytes .entry))) × (r .used ≡ consumed (now (bytes .entry))) ⌝ }
-    ensures { λ r. ⌜ Pasted (now (out .entry)) (now (out .exit)) at (recordLine position (now (bytes .entry))) (r .at) ⌝ }
-{
-    let record = records::parse(bytes);
-    let number = record.number;
-    let used = record.used;
-    if number != 0 {
-        let next = report::refusal_line(position, number, out, at);
-        return Printed {
-            number: number,
-            used: used,
-            at: next,
-        };
-    }
-    let values = record.values;
-    let count = record.count;
-    let next = report::numbers_line(&values[..count], out, at);
-    Printed {
-        number: number,
-        used: used,
-        at: next,
-    }
-}
-
-// One record after another, up to the end or a number 1 or 2; answers whether all is read and written.
-// A failed read or write ends it with nothing more written.
+// One record after another, up to the end or a number that ends the file; answers whether all is read and written.
+// A failed read or write ends it with nothing more written. No contract can name what is read or written: that
+// the lines of what is at hand are the file's is a law of `line` (lines-first).
 fn dump(input: i32, buffer: &mut [u8], out: &mut [u8]) -> bool
     requires { ⌜ longestRecord ≤ length (now buffer) ⌝ }
     requires { ⌜ room ≤ length (now out) ⌝ }
@@ -61,12 +24,11 @@ fn dump(input: i32, buffer: &mut [u8], out: &mut [u8]) -> bool
         let start = window.start;
         let end = window.end;
         if start == end {
-            return !output::with_room(out, at, out.len()).failed;
+            return output::finish(out, at);
         }
-        let printed = line(position, &buffer[start..end], out, at);
-        let number = printed.number;
-        if number == 1 || number == 2 {
-            return !output::with_room(out, printed.at, out.len()).failed;
+        let printed = line::print(position, &buffer[start..end], out, at);
+        if file::ends(printed.number) {
+            return output::finish(out, printed.at);
         }
         let gathered = output::with_room(out, printed.at, report::ROOM);
         if gathered.failed {

@@ -1,9 +1,10 @@
 // Input in pieces through a lent buffer. What is still to be taken of it is moved to the front, so that a record or a line across two pieces is read as one.
 ghost use mathlib.Core.Bool.{false};
 ghost use mathlib.Core.Path.{_≡_};
-ghost use Prim.Native.Nat.{_-_, _≤_, _<_};
+ghost use Prim.Native.Nat.{_+_, _-_, _≤_, _<_, min};
 ghost use lib.ListN.{length, take, drop};
 ghost use lib.Seq.{paste};
+ghost use Rattle.text.specs.Text.{Ends};
 ghost use Rattle.feed.specs.Filled.{Filled};
 
 // The part of the input buffer that is still to be taken. Ended: no more comes; failed: a read failed.
@@ -50,6 +51,52 @@ pub fn filled(input: i32, buffer: &mut [u8], window: Window, least: usize) -> Wi
     let mut full = new_window();
     full.end = end;
     full
+}
+
+// The window with the next line at its start, and where the line ends.
+pub struct Line {
+    pub window: Window,
+    pub end: usize,
+}
+
+// The next line, up to its newline, or to the window's end where the input ends or the buffer is full before.
+pub fn next_line(input: i32, buffer: &mut [u8], window: Window) -> Line
+    requires { ⌜ window .start ≤ window .end ⌝ }
+    requires { ⌜ window .end ≤ length (now buffer) ⌝ }
+    ensures { λ r. ⌜ (r .window .start ≤ r .end) × (r .end ≤ r .window .end) × (r .window .end ≤ length (now (buffer .entry))) ⌝ }
+    ensures { λ r. ⌜ Ends (take (r .window .end) (now (buffer .exit))) (r .window .start) 10 (r .end) ⌝ }
+{
+    let end = window.end;
+    let newline = text::find(&buffer[0..end], window.start, b'\n');
+    if newline < end {
+        return Line {
+            window: window,
+            end: newline,
+        };
+    }
+    let size = buffer.len();
+    let more = filled(input, buffer, window, size);
+    let stop = more.end;
+    let newline = text::find(&buffer[0..stop], more.start, b'\n');
+    Line {
+        window: more,
+        end: newline,
+    }
+}
+
+// The window behind a line and its newline.
+pub fn past(line: Line) -> Window
+    requires { ⌜ line .end ≤ line .window .end ⌝ }
+    ensures { λ r. ⌜ (r .start ≡ min (line .end + 1) (line .window .end)) × (r .end ≡ line .window .end) ⌝ }
+    ensures { λ r. ⌜ (r .ended ≡ line .window .ended) × (r .failed ≡ line .window .failed) ⌝ }
+{
+    let mut window = line.window;
+    if line.end < window.end {
+        window.start = line.end + 1;
+    } else {
+        window.start = window.end;
+    }
+    window
 }
 
 // The bytes from `start` up to `end` to the front; answers how many they are.

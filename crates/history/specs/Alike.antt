@@ -6,9 +6,9 @@ use mathlib.Core.Path.{_≡_, refl, sym, _∙_}
 use native.Mathlib.Omega.{arith}
 use lib.ListN.{length}
 use Rattle.ids.specs.Ids.{at}
-use Rattle.records.specs.Layout.{head, hasLists, deficitsIn, entriesIn}
-use Rattle.records.specs.Questions.{row}
-use Rattle.records.specs.QuestionLaws.{at-row}
+use Rattle.layouts.specs.Layout.{head, hasLists, deficitsIn, entriesIn}
+use Rattle.layouts.specs.Questions.{row}
+use Rattle.layouts.specs.QuestionLaws.{at-row}
 use Rattle.year.specs.declared.Terms.{Terms}
 use Rattle.year.specs.Year.{seller, listed, reduction, deficit}
 use Rattle.year.specs.Listing.{listingOf}

@@ -12,7 +12,7 @@ use Rattle.ids.specs.Sums.{sum-zero}
 use Rattle.ids.specs.Tests.{any-at}
 use Rattle.units.specs.Units.{convert-zero}
 use Rattle.allotment.specs.Allot.{share-zero}
-use Rattle.records.specs.LayoutLaws.{and-parts}
+use Rattle.layouts.specs.LayoutLaws.{and-parts}
 use Rattle.year.specs.declared.Listing.{Listing}
 use Rattle.year.specs.declared.Event.{Event}
 use Rattle.year.specs.declared.Test.{Test}

@@ -11,7 +11,8 @@ use Rattle.year.specs.declared.Listing.{Listing}
 use Rattle.year.specs.declared.Year.{Year}
 use Rattle.year.specs.Year.{listed, deficit, pastTest}
 use Rattle.owed.specs.Independent.{same-called}
-use Rattle.questions.specs.Questions.{testing, placeOf, inGroup, everyListed, deficitsListed, listsExactly, q6, q7, q8, q9, q10, q11, q12, q13, q14, q15, q16, questions}
+use Rattle.questions.specs.Questions.{testing, placeOf, q6, q7, q8, q9, q10, q11, q12, q13, q14, q15, q16, questions}
+use Rattle.entries.specs.Entries.{inGroup, everyListed, deficitsListed, listsExactly}
 use Rattle.history.specs.Same.{Same, pairs-at, taken-refl}
 
 module _ (y : Year) (vs ws : List ℕ) (l m : Listing) (h : (j : ℕ) → j < 6 → at vs j ≡ at ws j) (a : l .listed ≡ m .listed)

@@ -9,7 +9,7 @@ use lib.ListN.{length, drop}
 use lib.IntN.{pos}
 use borrow.Author.Tests.{eqb-true, eqb-false}
 use Rattle.ids.specs.Ids.{at}
-use Rattle.records.specs.LayoutLaws.{and-parts}
+use Rattle.layouts.specs.LayoutLaws.{and-parts}
 use Rattle.year.specs.declared.Year.{Year}
 use Rattle.year.specs.Steps.{withClose}
 use Rattle.year.specs.Sound.{Sound}

@@ -12,7 +12,7 @@ use borrow.Author.Tests.{eqb-true, ltb-true}
 use Rattle.ids.specs.Ids.{at}
 use Rattle.ids.specs.Tables.{getD-tabulate}
 use Rattle.ids.specs.Tests.{any-some}
-use Rattle.records.specs.LayoutLaws.{and-parts}
+use Rattle.layouts.specs.LayoutLaws.{and-parts}
 use Rattle.year.specs.declared.Terms.{Terms}
 use Rattle.year.specs.declared.Amounts.{Amounts}
 use Rattle.year.specs.declared.Year.{Year}

@@ -8,8 +8,8 @@ use lib.Dec.{eqb}
 use lib.ListN.{length}
 use borrow.Author.Tests.{eqb-true, eqb-false}
 use Rattle.ids.specs.Ids.{at}
-use Rattle.records.specs.Layout.{hasLists}
-use Rattle.records.specs.Questions.{firstFailed, recordNumber}
+use Rattle.layouts.specs.Layout.{hasLists}
+use Rattle.layouts.specs.Questions.{firstFailed, recordNumber}
 use Rattle.year.specs.declared.Year.{Year}
 use Rattle.owed.specs.Owed.{amounts}
 use Rattle.statement.specs.ReadBack.{complianceIn, testIn}

@@ -20,3 +20,5 @@ pub mod Blind
 pub mod Paired
 pub mod Independence
 pub mod Proof
+pub mod Files
+pub mod FileLaws

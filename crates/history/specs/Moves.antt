@@ -9,7 +9,7 @@ use borrow.Author.Tests.{ltb-true, not-true, ne-eqb}
 use Rattle.ids.specs.Ids.{at, sumTo, anyTo}
 use Rattle.ids.specs.Sums.{sum-one}
 use Rattle.ids.specs.Tests.{all-at, any-some}
-use Rattle.records.specs.LayoutLaws.{and-parts}
+use Rattle.layouts.specs.LayoutLaws.{and-parts}
 use Rattle.year.specs.declared.Listing.{Listing}
 use Rattle.year.specs.declared.Event.{Event}
 use Rattle.year.specs.declared.Test.{Test}
@@ -18,7 +18,8 @@ use Rattle.year.specs.declared.Year.{Year}
 use Rattle.year.specs.Year.{listed, known, area, zone, product, obligation, size, lses}
 use Rattle.year.specs.Steps.{withTerms, withEvent, withTest, withClose}
 use Rattle.owed.specs.Owed.{amounts}
-use Rattle.questions.specs.Questions.{opening, obliging, event, closing, inArea, inGroup, everyListed, deficitsListed, q6, q7, q8, q10, listingIn}
+use Rattle.questions.specs.Questions.{opening, obliging, event, closing, q6, q7, q8, q10, listingIn}
+use Rattle.entries.specs.Entries.{inArea, inGroup, everyListed, deficitsListed}
 use Rattle.questions.specs.Passed.{Passed, not-started, event-held, in-group}
 use Rattle.book.specs.Outcome.{yearWith}
 use Rattle.history.specs.Passed.{Kind, opens, registers, obliges, calls, tests, closes}

@@ -4,9 +4,9 @@ use mathlib.Core.Bool.{true}
 use mathlib.Core.List.{_++_}
 use mathlib.Core.Path.{_≡_, ap, sym, _∙_}
 use lib.ListN.{length, drop}
-use Rattle.records.specs.Layout.{sizeOf}
-use Rattle.records.specs.Questions.{recordNumber, numbersOf, rulesBy, consumed}
-use Rattle.records.specs.QuestionLaws.{numbers-kind, rules-by}
+use Rattle.layouts.specs.Layout.{sizeOf}
+use Rattle.layouts.specs.Questions.{recordNumber, numbersOf, rulesBy, consumed}
+use Rattle.layouts.specs.QuestionLaws.{numbers-kind, rules-by}
 use Rattle.records.specs.Calls.{bytesBy}
 use Rattle.records.specs.Accepted.{not-failed, numbers-count}
 use Rattle.records.specs.RoundTrip.{write-reads}

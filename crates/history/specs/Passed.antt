@@ -6,7 +6,7 @@ use native.Mathlib.Omega.{arith}
 use lib.ListN.{length}
 use borrow.Author.Tests.{eqb-true}
 use Rattle.ids.specs.Ids.{at}
-use Rattle.records.specs.Questions.{firstFailed}
+use Rattle.layouts.specs.Questions.{firstFailed}
 use Rattle.records.specs.Accepted.{Accepted}
 use Rattle.year.specs.declared.Year.{Year}
 use Rattle.questions.specs.Questions.{listingIn, questions}

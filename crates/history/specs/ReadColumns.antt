@@ -1,17 +1,17 @@
 -- What is read from a statement in each column.
-use Prim.Native.Nat.{ℕ, _<_}
+use Prim.Native.Nat.{ℕ}
 use mathlib.Core.Bool.{Bool, true, false, cond}
 use mathlib.Core.List.{List}
 use mathlib.Core.Path.{_≡_, refl, ap}
 use native.Mathlib.Omega.{arith}
 use lib.Dec.{eqb}
-use lib.IntN.{ℤ, pos}
+use lib.IntN.{pos}
 use borrow.Author.Tests.{ne-eqb}
 use Rattle.year.specs.declared.Terms.{Terms}
 use Rattle.year.specs.declared.Amounts.{Amounts}
 use Rattle.year.specs.Sound.{SoundTerms, SoundAmounts}
 use Rattle.statement.specs.Statement.{hasRegistration, hasObligation}
-use Rattle.statement.specs.ReadBack.{sumℤ, sellersIn, lsesIn, lineSeller, lineLse, complianceIn, testIn, creditIn, lseIn}
+use Rattle.statement.specs.ReadBack.{sellersIn, lsesIn, lineSeller, lineLse, complianceIn, testIn, creditIn, lseIn}
 use Rattle.statement.specs.Reading.{sum-none}
 use Rattle.statement.specs.Starts.{less, Starts}
 use Rattle.statement.specs.ReadBackLaws.{compliance-reads, test-reads, credit-reads, lse-reads, line-has-seller, line-has-lse}

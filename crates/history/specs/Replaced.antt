@@ -14,10 +14,10 @@ use borrow.Author.Tests.{leb-true, ltb-true, eqb-true}
 use Rattle.ids.specs.Ids.{at}
 use Rattle.ids.specs.Tables.{length-tabulate, getD-tabulate}
 use Rattle.ids.specs.Tests.{all-same, all-at}
-use Rattle.records.specs.Layout.{noRule, head, hasLists, deficitsIn, entriesIn, sizeOf}
-use Rattle.records.specs.LayoutLaws.{and-parts, rule-entry}
-use Rattle.records.specs.Questions.{rulesBy, isKind, permits, permitted, rises, idsRise}
-use Rattle.records.specs.QuestionLaws.{lists-kind, permits-yes}
+use Rattle.layouts.specs.Layout.{noRule, head, hasLists, deficitsIn, entriesIn, sizeOf}
+use Rattle.layouts.specs.LayoutLaws.{and-parts, rule-entry}
+use Rattle.layouts.specs.Questions.{rulesBy, isKind, permits, permitted, rises, idsRise}
+use Rattle.layouts.specs.QuestionLaws.{lists-kind, permits-yes}
 use Rattle.records.specs.Calls.{writeNumber}
 use Rattle.records.specs.RoundTrip.{not-refused}
 use Rattle.year.specs.declared.Terms.{Terms}

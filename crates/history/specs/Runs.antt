@@ -7,8 +7,8 @@ use lib.ListN.{length, drop}
 use lib.Dec.{leb, ltb, eqb}
 use lib.IntN.{ℤ, pos, _+ℤ_}
 use Rattle.ids.specs.Ids.{at, tabulate}
-use Rattle.records.specs.Layout.{head, deficitsIn, entriesIn}
-use Rattle.records.specs.Questions.{numbersOf, consumed}
+use Rattle.layouts.specs.Layout.{head, deficitsIn, entriesIn}
+use Rattle.layouts.specs.Questions.{numbersOf, consumed}
 use Rattle.records.specs.Calls.{bytesBy}
 use Rattle.year.specs.declared.Terms.{Terms}
 use Rattle.year.specs.declared.Year.{Year}

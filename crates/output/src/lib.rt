@@ -1,6 +1,6 @@
 // Output gathered in a lent buffer and written in large pieces.
 use libc::STDOUT_FILENO;
-ghost use mathlib.Core.Bool.{false};
+ghost use mathlib.Core.Bool.{true, false};
 ghost use mathlib.Core.Path.{_≡_};
 ghost use Prim.Native.Nat.{_+_, _≤_};
 ghost use lib.ListN.{length};
@@ -31,4 +31,12 @@ pub fn with_room(out: &[u8], at: usize, room: usize) -> Gathered
         at: 0,
         failed: !is_written,
     }
+}
+
+// Writes all that is gathered; answers whether it is written.
+pub fn finish(out: &[u8], at: usize) -> bool
+    requires { ⌜ at ≤ length (now out) ⌝ }
+    ensures { λ r. ⌜ (at ≡ 0 → r ≡ true) ⌝ }
+{
+    !with_room(out, at, out.len()).failed
 }

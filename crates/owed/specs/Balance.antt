@@ -1,5 +1,5 @@
 -- The balance at any month: charges to date are the credits to date of sellers and LSEs.
-use Prim.Native.Nat.{ℕ, _+_, _*_, _-_, _/_, _≤_, _<_, min}
+use Prim.Native.Nat.{ℕ, _+_, _≤_, _<_, min}
 use mathlib.Core.List.{List}
 use mathlib.Core.Bool.{Bool, true, false, cond}
 use mathlib.Core.Path.{_≡_}
@@ -7,12 +7,12 @@ use native.Mathlib.Omega.{arith}
 use native.Mathlib.Nat.{le-trans, min-le-left}
 use Rattle.ids.specs.Ids.{sumTo}
 use Rattle.ids.specs.Sums.{sum-add, sum-le}
-use Rattle.allotment.specs.Allot.{share, shares-le, shares-all}
 use Rattle.year.specs.declared.Event.{Event}
 use Rattle.year.specs.declared.Terms.{Terms}
 use Rattle.year.specs.declared.Year.{Year}
-use Rattle.year.specs.Year.{accepted, listed, rate, obligation, size, lses, sellers}
-use Rattle.owed.specs.Owed.{D, charge, e, charged, creditOf, n, compliance, credit, test, charges, credits, lse}
+use Rattle.year.specs.Year.{accepted, listed, obligation, size, lses, sellers}
+use Rattle.owed.specs.Owed.{charge, charged, creditShare, creditLimit, creditOf, n, compliance, credit, test, charges, credits, lse}
+use Rattle.owed.specs.Allotments.{charged-allotted, rest-allotted}
 use Rattle.owed.specs.Events.{events-le, Sellers, ofSeller, by-sellers}
 
 module _ (T : Terms) (n : ℕ → ℕ) where
@@ -21,11 +21,10 @@ module _ (T : Terms) (n : ℕ → ℕ) where
       → sumTo (size T) (λ i. cond (listed (ev .listing) i) (creditOf T n k ev t i) 0) ≤ charged T n k ev t
   unfolding creditOf
   event-credits k ev t =
-      le-trans (sum-le (size T) (λ i l. go i (listed (ev .listing) i))) (shares-le (size T) (e T ev) (charged T n k ev t))
+      le-trans (sum-le (size T) (λ i l. go i (listed (ev .listing) i))) (charged-allotted T ev n k t .within)
     where
       go : (i : ℕ) (b : Bool)
-          → cond b (min (share (size T) (e T ev) (charged T n k ev t) i) (e T ev i * rate T i / 5 * D T k / 1000)) 0
-          ≤ share (size T) (e T ev) (charged T n k ev t) i
+          → cond b (min (creditShare T n k ev t i) (creditLimit T n k ev i)) 0 ≤ creditShare T n k ev t i
       go i true = min-le-left _ _
       go i false = omega arith
 
@@ -45,6 +44,4 @@ module _ (y : Year) (own : Sellers (y .terms)) where
 
   pub balance : 0 < sumTo (lses (y .terms)) (obligation (y .terms)) → (k : ℕ)
       → charges y k ≡ credits y k + sumTo (lses (y .terms)) (lse y k)
-  unfolding lse
-  balance l k =
-      omega (arith, credits-le-charges k, shares-all (lses (y .terms)) (obligation (y .terms)) (charges y k - credits y k) l)
+  balance l k = omega (arith, credits-le-charges k, rest-allotted y k .all l)

@@ -1,20 +1,21 @@
 -- Bounds: with every number within document 01's limits each amount to date is below 2 ^ 41, and what a closing multiplies on the way fits 64 bits.
-use Prim.Native.Nat.{ℕ, zero, suc, _+_, _*_, _-_, _/_, _≤_, _<_, min, max, _^_}
-use mathlib.Core.List.{List, [], _∷_}
+use Prim.Native.Nat.{ℕ, _+_, _*_, _-_, _≤_, _<_, min, _^_}
+use mathlib.Core.List.{List}
 use mathlib.Core.Bool.{Bool, true, false, not, _&&_, cond}
 use mathlib.Core.Path.{_≡_, refl, sym, _∙_}
 use native.Mathlib.Omega.{arith}
-use native.Mathlib.Nat.{mul-le-mul, mul-le-mul-left, mul-le-mul-right, mul-assoc, div-le-of-le-mul, div-mul-le-self, le-refl, le-trans, le-of-eq}
+use native.Mathlib.Nat.{mul-le-mul, mul-le-mul-left, mul-le-mul-right, div-le-of-le-mul, div-mul-le-self, le-refl, le-trans, le-of-eq}
 use lib.Dec.{eqb, leb}
 use lib.ListN.{getD}
 use borrow.Author.Tests.{eq-eqb}
 use Rattle.ids.specs.Ids.{sumTo, tabulate}
 use Rattle.ids.specs.Sums.{sum-le, sum-add, sum-mul, sum-one, sum-at, sum-bound}
+use Rattle.ids.specs.Tests.{cond-le}
 use Rattle.ids.specs.Tables.{length-tabulate, getD-tabulate}
 use Rattle.ids.specs.Each.{Each}
-use Rattle.units.specs.Units.{convert}
-use Rattle.calendar.specs.Calendar.{monthEnds, days, due}
-use Rattle.allotment.specs.Allot.{share, share-le, shares-le}
+use Rattle.units.specs.Units.{convert-scaled, convert-le}
+use Rattle.calendar.specs.Calendar.{due, days-le}
+use Rattle.allotment.specs.Allot.{one-share}
 use Rattle.year.specs.declared.Listing.{Listing}
 use Rattle.year.specs.declared.Event.{Event}
 use Rattle.year.specs.declared.Test.{Test}
@@ -22,25 +23,13 @@ use Rattle.year.specs.declared.Terms.{Terms}
 use Rattle.year.specs.declared.Year.{Year}
 use Rattle.year.specs.Year.{pastTest, accepted, listed, reduction, deficit, seller, zone, product, committed, rate, obligation, size, lses, sellers}
 use Rattle.year.specs.Sound.{SoundListing, SoundTerms, SoundAmounts, Sound, Fits42}
-use Rattle.owed.specs.Owed.{called, raised, D, unforced, part, total, shortfall, shortOf, u, cap, asked, daily, charge, excessOf, e, charged, creditOf, tested, base, testOf, overTests, n, compliance, credit, test, charges, credits, lse, amounts}
+use Rattle.year.specs.Limits.{seller-below, zone-below, product-below, committed-most, rate-most, reduction-most}
+use Rattle.owed.specs.Owed.{called, raised, D, unforced, part, total, shortfall, u, cap, asked, daily, charge, e, charged, creditOf, tested, base, testOf, overTests, n, compliance, credit, test, charges, credits, lse, amounts}
 use Rattle.owed.specs.Events.{Sellers, sellers-sum, ofSeller}
 use Rattle.owed.specs.Tests.{tests-le, tests-mul, tests-sum, tests-places}
+use Rattle.owed.specs.Allotments.{short-allotted, excess-allotted, rest-allotted}
 use Rattle.owed.specs.Balance.{credits-along}
 use Rattle.owed.specs.Cap.{seller-limit}
-
--- a table's entries are at most its largest
-abbrev largest : List ℕ → ℕ
-largest [] = 0
-largest (x ∷ xs) = max x (largest xs)
-
-largest-le : (l : List ℕ) (i : ℕ) → getD l i 0 ≤ largest l
-largest-le [] i = omega arith
-largest-le (x ∷ xs) zero = omega arith
-largest-le (x ∷ xs) (suc i) = omega (arith, largest-le xs i)
-
-cond-le : (b : Bool) (x m : ℕ) → x ≤ m → cond b x 0 ≤ m
-cond-le true x m h = h
-cond-le false x m h = omega arith
 
 cond-sub : (b : Bool) (v c : ℕ) → cond b v 0 ≤ cond b c 0 + cond b (v - c) 0
 cond-sub true v c = omega arith
@@ -55,33 +44,22 @@ cond-part true true d x = omega arith
 cond-part true false d x = omega arith
 cond-part false b d x = omega arith
 
--- no share exceeds the amount
-one-share : (n : ℕ) (w : ℕ → ℕ) (a i : ℕ) → i < n → share n w a i ≤ a
-one-share n w a i l = le-trans (sum-one {n = n} {i = i} (share n w a) l) (shares-le n w a)
-
 module _ (T : Terms) (S : SoundTerms T) where
   -- of a registration
   pub committed-le : (i : ℕ) → i < size T → committed T i ≤ 100000
-  unfolding committed
-  committed-le i l = S .registrations .at i (omega (arith, S .registrations .long)) .committed
+  committed-le i l = committed-most S i
 
   pub rate-le : (i : ℕ) → i < size T → rate T i ≤ 100000
-  unfolding rate
-  rate-le i l = S .registrations .at i (omega (arith, S .registrations .long)) .rate
+  rate-le i l = rate-most S i
 
   pub sellers-below : Sellers T
-  unfolding seller
-  sellers-below i l = S .registrations .at i (omega (arith, S .registrations .long)) .seller
+  sellers-below i l = seller-below S i
 
   place-below : (i : ℕ) → i < size T → 3 * zone T i + product T i < 24
-  unfolding zone product
-  place-below i l =
-      let r = S .registrations .at i (omega (arith, S .registrations .long)) in
-      omega (arith, r .zone, r .product)
+  place-below i l = omega (arith, zone-below S i, product-below S i)
 
   pub D-le : (k : ℕ) → D T k ≤ 366
-  unfolding days
-  D-le k = omega (arith, largest-le monthEnds (min k 12 - 1), cond-le (leb 9 k) (T .leap) 1 (S .factors .leap))
+  D-le k = days-le k (S .factors .leap)
 
   -- sums over registrations, each summand at most b
   all-le : (b : ℕ) (f : ℕ → ℕ) → ((i : ℕ) → i < size T → f i ≤ b) → sumTo (size T) f ≤ 64 * b
@@ -89,13 +67,10 @@ module _ (T : Terms) (S : SoundTerms T) where
 
   total-le : (b : ℕ) (p : ℕ → Bool) (s : ℕ) (f : ℕ → ℕ) → ((i : ℕ) → i < size T → f i ≤ b) → total T p s f ≤ 64 * b
   unfolding total part
-  total-le b p s f h = all-le b (part T p s f) (λ i l. cond-le (p i && eqb (seller T i) s) (f i) b (h i l))
+  total-le b p s f h = all-le b (part T p s f) (λ i l. cond-le (p i && eqb (seller T i) s) (h i l))
 
   pub committed-total : (p : ℕ → Bool) (s : ℕ) → total T p s (committed T) ≤ 6400000
   committed-total p s = total-le 100000 p s (committed T) committed-le
-
-  pub worth-total : (p : ℕ → Bool) (s : ℕ) → total T p s (λ i. committed T i * rate T i) ≤ 640000000000
-  worth-total p s = total-le 10000000000 p s (λ i. committed T i * rate T i) (λ i l. mul-le-mul (committed-le i l) (rate-le i l))
 
   pub worth-le : (p : ℕ → Bool) (s : ℕ) → total T p s (λ i. committed T i * rate T i) ≤ total T p s (committed T) * 100000
   unfolding total part
@@ -108,15 +83,9 @@ module _ (T : Terms) (S : SoundTerms T) where
         sum-le (size T) {f = g} {g = λ i. f i * 100000} (λ i l. cond-mul (p i && eqb (seller T i) s) (committed T i) (rate T i) (rate-le i l)),
       )
 
-  pub short-total : (l : Listing) (p : ℕ → Bool) (s : ℕ) → total T p s (λ i. committed T i - reduction l i) ≤ 6400000
-  short-total l p s = total-le 100000 p s (λ i. committed T i - reduction l i) (λ i b. omega (arith, committed-le i b))
-
   -- converted
   unforced-rate : (a : ℕ) → unforced T a * 100 ≤ a * 144
-  unfolding convert
-  unforced-rate a =
-      let h : a * T .factor * T .requirement ≤ a * 144000000 = rw mul-assoc (mul-le-mul-left a (mul-le-mul (S .factors .factor) (S .factors .requirement))) in
-      omega arith
+  unforced-rate a = convert-scaled a (S .factors .factor) (S .factors .requirement)
 
   pub unforced-le : (a : ℕ) → a ≤ 6400000 → unforced T a ≤ 9216000
   unforced-le a h = omega (arith, unforced-rate a)
@@ -126,22 +95,15 @@ module _ (T : Terms) (S : SoundTerms T) where
   shortfall-le l p s =
       omega (arith, unforced-le (total T p s (committed T) - total T p s (reduction l)) (omega (arith, committed-total p s)))
 
-  pub shortfall-fits : (l : Listing) (p : ℕ → Bool) (s : ℕ) → shortfall T l p s * total T p s (λ i. committed T i - reduction l i) < 2 ^ 63
-  shortfall-fits l p s = omega (arith, mul-le-mul (shortfall-le l p s) (short-total l p s))
-
   -- of an event
   pub u-le : (ev : Event) (i : ℕ) → i < size T → u T ev i ≤ 9216000
-  unfolding u shortOf
-  u-le ev i l = le-trans (one-share (size T) _ _ i l) (shortfall-le (ev .listing) (listed (ev .listing)) (seller T i))
-
-  pub u-rate : (ev : Event) (i : ℕ) → i < size T → u T ev i * rate T i ≤ 921600000000
-  u-rate ev i l = mul-le-mul (u-le ev i l) (rate-le i l)
+  unfolding u
+  u-le ev i l = le-trans (one-share (short-allotted T ev (seller T i)) l) (shortfall-le (ev .listing) (listed (ev .listing)) (seller T i))
 
   pub cap-le : (i : ℕ) → i < size T → cap T i ≤ 14400000000
   unfolding cap
   cap-le i l =
-      let h : unforced T (committed T i) ≤ 144000 = omega (arith, unforced-rate (committed T i), committed-le i l) in
-      mul-le-mul h (rate-le i l)
+      mul-le-mul (convert-le (S .factors .factor) (S .factors .requirement) (committed-le i l)) (rate-le i l)
 
   module _ (n : ℕ → ℕ) where
     pub daily-days : (k : ℕ) (ev : Event) (i t : ℕ) → i < size T → daily T n ev i t * D T k ≤ 5270400000000
@@ -153,13 +115,13 @@ module _ (T : Terms) (S : SoundTerms T) where
     pub charge-le : (k : ℕ) (ev : Event) (t : ℕ → ℕ) (i : ℕ) → i < size T → charge T n k ev t i ≤ 5270400000
     unfolding charge
     charge-le k ev t i l =
-        cond-le (leb (due (product T i) (ev .month)) k) (daily T n ev i (t i) * D T k / 1000) 5270400000 (omega (arith, daily-days k ev i (t i) l))
+        cond-le (leb (due (product T i) (ev .month)) k) (omega (arith, daily-days k ev i (t i) l))
 
     pub charged-le : (k : ℕ) (ev : Event) (t : ℕ → ℕ) → charged T n k ev t ≤ 337305600000
     unfolding charged
     charged-le k ev t =
         all-le 5270400000 (λ i. cond (listed (ev .listing) i) (charge T n k ev t i) 0)
-        (λ i l. cond-le (listed (ev .listing) i) (charge T n k ev t i) 5270400000 (charge-le k ev t i l))
+        (λ i l. cond-le (listed (ev .listing) i) (charge-le k ev t i l))
 
     -- all sellers' compliance along any events, and their credits
     pub compliance-along : (k : ℕ) (evs : List Event) → sumTo sellers (ofSeller T n (charge T n k) (λ i. 0) evs) ≤ 337305600000
@@ -181,20 +143,10 @@ module _ (T : Terms) (S : SoundTerms T) where
   -- of what a sound listing says
   module _ (l : Listing) (L : SoundListing l) where
     pub reduction-le : (i : ℕ) → i < size T → reduction l i ≤ 100000
-    unfolding reduction
-    reduction-le i b = L .reductions .at i (omega (arith, S .registrations .long))
+    reduction-le i b = reduction-most L i
 
     pub reduction-total : (p : ℕ → Bool) (s : ℕ) → total T p s (reduction l) ≤ 6400000
     reduction-total p s = total-le 100000 p s (reduction l) reduction-le
-
-    pub excess-total : (p : ℕ → Bool) (s : ℕ) → total T p s (λ i. reduction l i - committed T i) ≤ 6400000
-    excess-total p s = total-le 100000 p s (λ i. reduction l i - committed T i) (λ i b. omega (arith, reduction-le i b))
-
-    pub excess-fits : (p : ℕ → Bool) (s : ℕ)
-        → (total T p s (reduction l) - total T p s (committed T)) * total T p s (λ i. reduction l i - committed T i) < 2 ^ 63
-    excess-fits p s =
-        let h : total T p s (reduction l) - total T p s (committed T) ≤ 6400000 = omega (arith, reduction-total p s) in
-        omega (arith, mul-le-mul h (excess-total p s))
 
   -- a seller's excess is at most the sum of its weights
   excess-le : (l : Listing) (p : ℕ → Bool) (s : ℕ)
@@ -211,11 +163,11 @@ module _ (T : Terms) (S : SoundTerms T) where
 
   module _ (ev : Event) (L : SoundListing (ev .listing)) where
     pub e-le : (i : ℕ) → i < size T → e T ev i ≤ 100000
-    unfolding e excessOf total part
+    unfolding e total part
     e-le i l =
         let p : ℕ → Bool = listed (ev .listing) in
-        le-trans (share-le (size T) (part T p (seller T i) (λ j. reduction (ev .listing) j - committed T j)) _ i (excess-le (ev .listing) p (seller T i)))
-        (cond-le (p i && eqb (seller T i) (seller T i)) (reduction (ev .listing) i - committed T i) 100000 (omega (arith, reduction-le (ev .listing) L i l)))
+        le-trans (excess-allotted T ev (seller T i) .most (excess-le (ev .listing) p (seller T i)) i)
+        (cond-le (p i && eqb (seller T i) (seller T i)) (omega (arith, reduction-le (ev .listing) L i l)))
 
     pub e-sum : sumTo (size T) (e T ev) ≤ 6400000
     e-sum = all-le 100000 (e T ev) e-le
@@ -224,26 +176,11 @@ module _ (T : Terms) (S : SoundTerms T) where
     pub charged-fits : (n : ℕ → ℕ) (k : ℕ) (t : ℕ → ℕ) → charged T n k ev t * sumTo (size T) (e T ev) < 2 ^ 63
     charged-fits n k t = omega (arith, mul-le-mul (charged-le n k ev t) e-sum)
 
-    -- the limit of a credit
-    pub e-rate : (i : ℕ) → i < size T → e T ev i * rate T i ≤ 10000000000
-    e-rate i l = mul-le-mul (e-le i l) (rate-le i l)
-
-    pub e-days : (k i : ℕ) → i < size T → e T ev i * rate T i / 5 * D T k ≤ 732000000000
-    e-days k i l =
-        let h : e T ev i * rate T i / 5 ≤ 2000000000 = omega (arith, e-rate i l) in
-        mul-le-mul h (D-le k)
-
   -- of a test
   module _ (c : ℕ → Bool) where
     pub raised-le : (te : Test) (s : ℕ) → raised (base T c te s) ≤ 120000
     unfolding raised base
     raised-le te s = omega (arith, div-le-of-le-mul (total T (tested T c te) s (committed T)) (worth-le (tested T c te) s))
-
-    pub test-daily : (te : Test) (s : ℕ) → shortfall T (te .listing) (tested T c te) s * raised (base T c te s) ≤ 1105920000000
-    test-daily te s = mul-le-mul (shortfall-le (te .listing) (tested T c te) s) (raised-le te s)
-
-    pub test-fits : (te : Test) (k s : ℕ) → shortfall T (te .listing) (tested T c te) s * raised (base T c te s) * D T k < 2 ^ 63
-    test-fits te k s = omega (arith, mul-le-mul (test-daily te s) (D-le k))
 
     test-le : (k s : ℕ) (te : Test) → testOf T c k s te * 100000 ≤ total T (tested T c te) s (committed T) * 6324480000
     unfolding testOf shortfall
@@ -325,9 +262,6 @@ module _ (y : Year) (S : Sound y) where
   charges-le k =
       omega (arith, compliance-along (y .terms) (S .terms) (n y) k (accepted y), tests-all-le k, sum-add sellers (compliance y k) (test y k))
 
-  pub charges-bound : (k : ℕ) → charges y k < 2 ^ 41
-  charges-bound k = omega (arith, charges-le k)
-
   pub compliance-bound : (k s : ℕ) → s < 16 → compliance y k s < 2 ^ 41
   unfolding compliance
   compliance-bound k s l =
@@ -342,10 +276,9 @@ module _ (y : Year) (S : Sound y) where
       omega (arith, sum-one {n = sellers} {i = s} (credit y k) l, credit-along (y .terms) (S .terms) (n y) k (accepted y))
 
   pub lse-bound : (k j : ℕ) → j < 16 → lse y k j < 2 ^ 41
-  unfolding lse
   lse-bound k j l =
       let b : j < lses (y .terms) = omega (arith, S .terms .obligations .long) in
-      omega (arith, one-share (lses (y .terms)) (obligation (y .terms)) (charges y k - credits y k) j b, charges-le k)
+      omega (arith, one-share (rest-allotted y k) b, charges-le k)
 
   pub sound-amounts : (k : ℕ) → SoundAmounts (amounts y k)
   unfolding amounts

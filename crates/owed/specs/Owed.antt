@@ -2,7 +2,7 @@
 -- What belongs to an id is a function from ids. A sum or an allotment over some registrations runs over all ids, in rising order, with 0 for the others.
 use Prim.Native.Nat.{ℕ, _+_, _-_, _*_, _/_, min, max}
 use mathlib.Core.List.{List, [], _∷_}
-use mathlib.Core.Bool.{Bool, true, false, not, _&&_, _||_, cond}
+use mathlib.Core.Bool.{Bool, false, not, _&&_, _||_, cond}
 use lib.Dec.{leb, eqb}
 use Rattle.ids.specs.Ids.{sumTo, tabulate}
 use Rattle.units.specs.Units.{convert}
@@ -102,9 +102,15 @@ module _ (T : Terms) where
     unfoldable pub charged : ℕ → Event → (ℕ → ℕ) → ℕ
     charged k ev t = sumTo (size T) (λ i. cond (listed (ev .listing) i) (charge n k ev t i) 0)
 
-    -- the lesser of the share of the event's charges and the limit of one fifth of the rate
+    -- its share of the event's charges by excess; the limit, one fifth of the rate for the excess; and the credit, the lesser of the two
+    abbrev pub creditShare : ℕ → Event → (ℕ → ℕ) → ℕ → ℕ
+    creditShare k ev t i = share (size T) (e ev) (charged k ev t) i
+
+    abbrev pub creditLimit : ℕ → Event → ℕ → ℕ
+    creditLimit k ev i = e ev i * rate T i / 5 * D k / 1000
+
     unfoldable pub creditOf : ℕ → Event → (ℕ → ℕ) → ℕ → ℕ
-    creditOf k ev t i = min (share (size T) (e ev) (charged k ev t) i) (e ev i * rate T i / 5 * D k / 1000)
+    creditOf k ev t i = min (creditShare k ev t i) (creditLimit k ev i)
 
   -- test, of seller s, over the entries that no event lists: c says which registrations an event lists
   module _ (c : ℕ → Bool) where

@@ -14,8 +14,9 @@ use Rattle.year.specs.Year.{accepted, listed, product}
 use Rattle.year.specs.Sound.{SoundTerms}
 use Rattle.year.specs.Limits.{size-is}
 use Rattle.owed.specs.Owed.{called}
-use Rattle.questions.specs.Questions.{event, testing, inArea, inGroup, deficitsListed, listsExactly, inTime, q10, q11, q14}
-use Rattle.questions.specs.Passes.{every-listed}
+use Rattle.questions.specs.Questions.{event, testing, inTime, q10, q11, q14}
+use Rattle.entries.specs.Entries.{inArea, inGroup, deficitsListed, listsExactly}
+use Rattle.entries.specs.Passes.{every-listed}
 
 abbrev allPass : Listing → List Bool → Bool
 allPass l passes = allTo 64 (λ i. not (holds (l .listed) i) || holds passes i)

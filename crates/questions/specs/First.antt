@@ -3,7 +3,7 @@ use Prim.Native.Nat.{ℕ}
 use mathlib.Core.Path.{_≡_, refl}
 use mathlib.Core.Bool.{Bool, true, false}
 use mathlib.Core.List.{List, [], _∷_}
-use Rattle.records.specs.Questions.{firstFailed}
+use Rattle.layouts.specs.Questions.{firstFailed}
 
 -- r is the number: of the question that is first in the list, or of one behind it
 pub fails : {b : Bool} (n : ℕ) (qs : List (ℕ × Bool)) → b ≡ false → n ≡ firstFailed ((n, b) ∷ qs)

@@ -8,7 +8,7 @@ use lib.Dec.{ltb, eqb}
 use borrow.Author.Tests.{ne-eqb, lt-ltb}
 use Rattle.ids.specs.Ids.{at, anyTo, allTo}
 use Rattle.ids.specs.Tests.{all-at}
-use Rattle.records.specs.Questions.{firstFailed}
+use Rattle.layouts.specs.Questions.{firstFailed}
 use Rattle.year.specs.declared.Listing.{Listing}
 use Rattle.year.specs.declared.Terms.{Terms}
 use Rattle.year.specs.declared.Year.{Year}
@@ -45,25 +45,29 @@ module _ (y : Year) (vs : List ℕ) (l : Listing) (room : ℕ) where
   unfolding questions firstFailed q6 q7 q8 q9 q10 q11 q12 q13 q14 q15 q16
   to-opening e h = rw e h
 
-  pub to-registration : at vs 0 ≡ registering → {r : ℕ} → r ≡ firstFailed ((6, isOpen y) ∷ (7, q7 y vs l) ∷ (9, q9 y vs l) ∷ []) → r ≡ first
-  unfolding questions firstFailed q6 q8 q10 q11 q12 q13 q14 q15 q16
-  to-registration e h = rw e h
+  -- where there is a year to go on with
+  module _ (o : isOpen y ≡ true) where
+    pub to-registration : at vs 0 ≡ registering → {r : ℕ} → r ≡ firstFailed ((7, q7 y vs l) ∷ (9, q9 y vs l) ∷ []) → r ≡ first
+    unfolding questions firstFailed q6 q8 q10 q11 q12 q13 q14 q15 q16
+    to-registration e h = rw (e, o) h
 
-  pub to-lse : at vs 0 ≡ obliging → {r : ℕ} → r ≡ firstFailed ((6, isOpen y) ∷ (7, q7 y vs l) ∷ (9, q9 y vs l) ∷ []) → r ≡ first
-  unfolding questions firstFailed q6 q8 q10 q11 q12 q13 q14 q15 q16
-  to-lse e h = rw e h
+    pub to-lse : at vs 0 ≡ obliging → {r : ℕ} → r ≡ firstFailed ((7, q7 y vs l) ∷ (9, q9 y vs l) ∷ []) → r ≡ first
+    unfolding questions firstFailed q6 q8 q10 q11 q12 q13 q14 q15 q16
+    to-lse e h = rw (e, o) h
 
-  pub to-event : at vs 0 ≡ event → {r : ℕ} → r ≡ firstFailed ((6, isOpen y) ∷ (8, hasParties (y .terms)) ∷ (10, q10 y vs l) ∷ (11, q11 y vs l) ∷ (12, q12 y vs l) ∷ []) → r ≡ first
-  unfolding questions firstFailed q6 q7 q8 q9 q13 q14 q15 q16
-  to-event e h = rw e h
+    -- and there are a registration and an LSE
+    module _ (p : hasParties (y .terms) ≡ true) where
+      pub to-event : at vs 0 ≡ event → {r : ℕ} → r ≡ firstFailed ((10, q10 y vs l) ∷ (11, q11 y vs l) ∷ (12, q12 y vs l) ∷ []) → r ≡ first
+      unfolding questions firstFailed q6 q7 q8 q9 q13 q14 q15 q16
+      to-event e h = rw (e, o, p) h
 
-  pub to-test : at vs 0 ≡ testing → {r : ℕ} → r ≡ firstFailed ((6, isOpen y) ∷ (8, hasParties (y .terms)) ∷ (10, q10 y vs l) ∷ (11, q11 y vs l) ∷ (13, q13 y vs l) ∷ (14, q14 y vs l) ∷ []) → r ≡ first
-  unfolding questions firstFailed q6 q7 q8 q9 q12 q15 q16
-  to-test e h = rw e h
+      pub to-test : at vs 0 ≡ testing → {r : ℕ} → r ≡ firstFailed ((10, q10 y vs l) ∷ (11, q11 y vs l) ∷ (13, q13 y vs l) ∷ (14, q14 y vs l) ∷ []) → r ≡ first
+      unfolding questions firstFailed q6 q7 q8 q9 q12 q15 q16
+      to-test e h = rw (e, o, p) h
 
-  pub to-close : at vs 0 ≡ closing → {r : ℕ} → r ≡ firstFailed ((6, isOpen y) ∷ (8, hasParties (y .terms)) ∷ (15, q15 y vs l) ∷ (16, q16 y vs l room) ∷ []) → r ≡ first
-  unfolding questions firstFailed q6 q7 q8 q9 q10 q11 q12 q13 q14
-  to-close e h = rw e h
+      pub to-close : at vs 0 ≡ closing → {r : ℕ} → r ≡ firstFailed ((15, q15 y vs l) ∷ (16, q16 y vs l room) ∷ []) → r ≡ first
+      unfolding questions firstFailed q6 q7 q8 q9 q10 q11 q12 q13 q14
+      to-close e h = rw (e, o, p) h
 
   -- what fails before the kind is looked at further
   pub not-open : (at vs 0 ≡ opening → ⊥) → isOpen y ≡ false → 6 ≡ first

@@ -2,6 +2,5 @@
 pub mod Questions
 pub mod First
 pub mod Kinds
-pub mod Passes
 pub mod Answers
 pub mod Passed

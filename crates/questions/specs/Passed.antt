@@ -1,16 +1,17 @@
 -- What a record that passes questions 6 to 16 has: each question's yes, and what it says of the year.
 use Prim.Native.Nat.{ℕ, _+_, _≤_, _<_}
 use mathlib.Core.Path.{_≡_}
-use mathlib.Core.Bool.{true, false, _&&_, and-eq-true-iff}
+use mathlib.Core.Bool.{true, false, and-eq-true-iff}
 use mathlib.Core.List.{List}
 use lib.Dec.{ltb}
 use borrow.Author.Tests.{not-true, ltb-true, leb-true, eqb-true}
 use Rattle.ids.specs.Ids.{at}
-use Rattle.records.specs.Questions.{firstFailed}
+use Rattle.layouts.specs.Questions.{firstFailed}
 use Rattle.records.specs.Accepted.{passed}
 use Rattle.year.specs.declared.Listing.{Listing}
 use Rattle.year.specs.declared.Year.{Year}
-use Rattle.questions.specs.Questions.{registering, event, testing, closing, inGroup, everyListed, deficitsListed, q6, q7, q8, q9, q10, q11, q12, q13, q14, q15, q16, questions}
+use Rattle.questions.specs.Questions.{registering, event, testing, closing, q6, q7, q8, q9, q10, q11, q12, q13, q14, q15, q16, questions}
+use Rattle.entries.specs.Entries.{inGroup, everyListed, deficitsListed}
 
 pub record Passed (y : Year) (vs : List ℕ) (l : Listing) (room : ℕ) : Type 0 where
   pub six : q6 y vs l ≡ true

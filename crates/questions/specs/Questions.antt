@@ -1,18 +1,19 @@
 -- Questions 6 to 16 (document 01, 'Questions at the counter'), of a year and a record's numbers. A question that is not put to a kind is passed.
 use Prim.Native.Nat.{ℕ, _+_, _*_, max}
-use mathlib.Core.Bool.{Bool, true, not, _&&_, _||_, cond, Bool·beq}
+use mathlib.Core.Bool.{Bool, true, not, _&&_, _||_, cond}
 use mathlib.Core.List.{List, [], _∷_}
 use lib.ListN.{getD}
 use lib.Dec.{leb, ltb, eqb}
-use Rattle.ids.specs.Ids.{at, anyTo, allTo}
+use Rattle.ids.specs.Ids.{at, anyTo}
 use Rattle.calendar.specs.Calendar.{callable, testable}
-use Rattle.records.specs.Layout.{deficitsIn, entriesIn}
+use Rattle.layouts.specs.Layout.{deficitsIn, entriesIn}
 use Rattle.year.specs.declared.Listing.{Listing}
 use Rattle.year.specs.declared.Terms.{Terms}
 use Rattle.year.specs.declared.Year.{Year}
-use Rattle.year.specs.Year.{accepted, listed, deficit, known, seller, area, zone, product, obligation, size, lses, sellers, pastTest}
+use Rattle.year.specs.Year.{accepted, known, product, obligation, size, lses, pastTest}
 use Rattle.year.specs.Listing.{listingOf}
 use Rattle.owed.specs.Owed.{called}
+use Rattle.entries.specs.Entries.{inArea, inGroup, everyListed, deficitsListed, listsExactly}
 
 -- the kinds
 abbrev pub opening : ℕ
@@ -40,27 +41,6 @@ listingIn vs = listingOf vs 6 (deficitsIn (at vs 0) vs) (entriesIn (at vs 0) vs)
 -- the place of the test of a zone and product
 abbrev pub placeOf : ℕ → ℕ → ℕ
 placeOf z p = 3 * z + p
-
-module _ (T : Terms) where
-  -- is registration i known, and in the area; and of the zone and product
-  unfoldable pub inArea : ℕ → ℕ → Bool
-  inArea a i = known T i && eqb (area T i) a
-
-  unfoldable pub inGroup : ℕ → ℕ → ℕ → Bool
-  inGroup z p i = known T i && (eqb (zone T i) z && eqb (product T i) p)
-
-  -- does p hold of every listed registration
-  unfoldable pub everyListed : Listing → (ℕ → Bool) → Bool
-  everyListed l p = allTo (size T) (λ i. not (listed l i) || p i)
-
-  -- has every deficit's seller an entry
-  unfoldable pub deficitsListed : Listing → Bool
-  deficitsListed l =
-      allTo sellers (λ s. eqb (deficit l s) 0 || anyTo (size T) (λ i. listed l i && eqb (seller T i) s))
-
-  -- are exactly the registrations listed of which p holds
-  unfoldable pub listsExactly : Listing → (ℕ → Bool) → Bool
-  listsExactly l p = allTo (size T) (λ i. Bool·beq (listed l i) (p i))
 
 -- may an event of month m be taken with z months closed
 unfoldable pub inTime : ℕ → ℕ → Bool

@@ -1,67 +1,57 @@
 // Questions 6 to 16, each asked of a year and a record's numbers.
 ghost use mathlib.Core.Path.{_≡_};
-ghost use mathlib.Core.Bool.{not, _&&_, _||_, Bool·beq};
+ghost use mathlib.Core.Bool.{not};
 ghost use mathlib.Core.List.{[], _∷_};
 ghost use Prim.Native.Nat.{_+_, _≤_, _<_, max};
-ghost use Rattle.ids.specs.Ids.{at, holds, allTo};
-ghost use Rattle.records.specs.Questions.{firstFailed};
+ghost use Rattle.ids.specs.Ids.{at};
+ghost use Rattle.layouts.specs.Questions.{firstFailed};
 ghost use Rattle.year.specs.declared.Listing.{Listing};
-ghost use Rattle.year.specs.Year.{accepted};
-ghost use Rattle.year.specs.Sound.{Sound, SoundTerms};
-ghost use Rattle.owed.specs.Owed.{called};
-ghost use Rattle.questions.specs.Questions.{registering, obliging, event, testing, closing, inTime, deficitsListed, q7, q9, q10, q11, q12, q13, q14, q15, q16, questions};
+ghost use Rattle.year.specs.Sound.{Sound};
+ghost use Rattle.questions.specs.Questions.{registering, obliging, event, testing, closing, inTime, q7, q9, q10, q11, q12, q13, q14, q15, q16, questions};
 ghost use Rattle.questions.specs.Kinds.{Asked};
-use crate::listings::deficits_listed;
-use crate::listings::every_listed;
-use crate::listings::lists_exactly;
-use crate::registrations::any_lse;
-use crate::registrations::any_registration;
-use crate::registrations::callable_in;
-use crate::registrations::in_area;
-use crate::registrations::in_group;
+use entries::any_lse;
+use entries::any_registration;
+use entries::callable_in;
+use entries::entries_pass;
+use entries::every_listed;
+use entries::in_area;
+use entries::in_group;
+use entries::lists_uncalled;
 use year::Listing;
-use year::Terms;
 use year::Year;
 
-mod listings;
-mod registrations;
+// Questions 7 and 9: is a registration or an LSE too late, and is its id taken?
+fn joining_number(late: bool, taken: bool) -> u64
+    ensures { λ r. ⌜ r ≡ firstFailed ((7, not late) ∷ (9, not taken) ∷ []) ⌝ }
+{
+    if late {
+        return 7;
+    }
+    if taken { 9 } else { 0 }
+}
 
-// Questions 7 and 9 of a registration.
+// Of a registration.
 fn registration_number(year: Year, values: [u64; 166]) -> u64
     requires { ⌜ at values 0 ≡ registering ⌝ }
     requires { ⌜ at values 1 < 64 ⌝ }
     ensures { λ r. ⌜ ((l : Listing) → r ≡ firstFailed ((7, q7 year values l) ∷ (9, q9 year values l) ∷ [])) ⌝ }
 {
-    if year.started {
-        return 7;
-    }
     let id = values[1] as usize;
     let terms = year.terms;
     let r = terms.registrations[id];
-    if r.known { 9 } else { 0 }
+    joining_number(year.started, r.known)
 }
 
-// Questions 7 and 9 of an LSE.
+// Of an LSE.
 fn lse_number(year: Year, values: [u64; 166]) -> u64
     requires { ⌜ at values 0 ≡ obliging ⌝ }
     requires { ⌜ at values 1 < 16 ⌝ }
     ensures { λ r. ⌜ ((l : Listing) → r ≡ firstFailed ((7, q7 year values l) ∷ (9, q9 year values l) ∷ [])) ⌝ }
 {
-    if year.started {
-        return 7;
-    }
     let id = values[1] as usize;
     let terms = year.terms;
-    if terms.obligations[id] == 0 { 0 } else { 9 }
-}
-
-// Does every listed registration pass, and has every deficit's seller an entry?
-fn entries_pass(terms: Terms, listing: Listing, passes: [bool; 64]) -> bool
-    requires { ⌜ SoundTerms terms ⌝ }
-    ensures { λ r. ⌜ r ≡ (allTo 64 (λ i. not (holds (listing .listed) i) || holds passes i) && deficitsListed terms listing) ⌝ }
-{
-    let listed = listing.listed;
-    every_listed(listed, passes) && deficits_listed(terms, listing)
+    let obligation = terms.obligations[id];
+    joining_number(year.started, obligation != 0)
 }
 
 // The first month with which events of a month are no longer taken.
@@ -102,19 +92,6 @@ fn event_number(year: Year, values: [u64; 166], listing: Listing) -> u64
         return 11;
     }
     if year.held < 16 { 0 } else { 12 }
-}
-
-// Does a test list exactly those of its group that no event lists?
-fn lists_uncalled(year: Year, listing: Listing, group: [bool; 64]) -> bool
-    requires { ⌜ Sound year ⌝ }
-    ensures { λ r. ⌜ r ≡ allTo 64 (λ i. Bool·beq (holds (listing .listed) i) (holds group i && not (called (accepted year) i))) ⌝ }
-{
-    let events = year.events;
-    let calls = tallies::calls_of(events, year.held);
-    let called = calls.called;
-    let listed = listing.listed;
-    let uncalled = tallies::left(&group, &called);
-    lists_exactly(listed, uncalled)
 }
 
 // Questions 10, 11, 13 and 14 of a test.

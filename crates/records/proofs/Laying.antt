@@ -6,20 +6,21 @@ use native.Mathlib.Omega.{arith}
 use lib.ListN.{length, take, drop}
 use Rattle.bits.specs.declared.writer.Writer.{Writer}
 use Rattle.bits.specs.Bits.{Bytes}
-use Rattle.bits.specs.Table.{total, pairs, Valid}
+use Rattle.bits.specs.Table.{total, times, Valid}
 use Rattle.bits.specs.TableLaws.{total-append}
-use Rattle.bits.specs.PairLaws.{length-pairs}
+use Rattle.bits.specs.ItemLaws.{length-times}
 use Rattle.bits.specs.Pack.{bytesFor}
 use Rattle.bits.specs.PackLaws.{length-encode}
 use Rattle.bits.specs.Written.{joined, Wrote, Finished}
 use Rattle.bits.specs.WrittenLaws.{written-size, written-encodes}
-use Rattle.records.specs.declared.layout.Shape.{Shape}
-use Rattle.records.specs.Layout.{head, widths, sizeOf}
-use Rattle.records.specs.LayoutLaws.{length-widths, length-rules}
-use Rattle.records.specs.Questions.{rulesBy}
+use Rattle.layouts.specs.declared.Shape.{Shape}
+use Rattle.layouts.specs.Layout.{head, deficit, entry, widths, sizeOf}
+use Rattle.layouts.specs.LayoutLaws.{length-widths, length-rules}
+use Rattle.layouts.specs.Questions.{rulesBy}
 use Rattle.records.specs.Calls.{over, bytesBy}
-use Rattle.records.specs.Shapes.{rulesIn, Passed}
-use Rattle.records.specs.ShapeLaws.{widths-rules}
+use Rattle.layouts.specs.Shapes.{rulesIn}
+use Rattle.records.specs.Parsing.{Passed}
+use Rattle.layouts.specs.ShapeLaws.{widths-rules}
 use Rattle.records.specs.RoundTrip.{valid-by}
 use Rattle.records.proofs.Parts.{length-first, length-second, length-third, valid-parts, written-parts}
 
@@ -29,10 +30,10 @@ module _ {vs : List ℕ} {s : Shape} (w : Passed vs s) where
   ws = widths (head (s .kind))
 
   abbrev us : List ℕ
-  us = pairs 4 20 (s .deficits)
+  us = times (s .deficits) (widths deficit)
 
   abbrev ts : List ℕ
-  ts = pairs 6 17 (s .entries)
+  ts = times (s .entries) (widths entry)
 
   abbrev a : ℕ
   a = s .count
@@ -50,22 +51,22 @@ module _ {vs : List ℕ} {s : Shape} (w : Passed vs s) where
   ha = w .sized .count ∙ sym (length-widths (head (s .kind)))
 
   hb : b ≡ length ws + length us
-  hb = omega (arith, ha, length-pairs 4 20 (s .deficits))
+  hb = omega (arith, ha, length-times (widths deficit) (s .deficits))
 
   counted : length vs ≡ length (rulesIn s)
   counted = w .counted ∙ ap length (sym (w .rules))
 
   hc : length vs ≡ length ws + length us + length ts
-  hc = omega (arith, counted, length-rules (s .kind) (s .deficits) (s .entries), length-widths (head (s .kind)), length-pairs 4 20 (s .deficits), length-pairs 6 17 (s .entries))
+  hc = omega (arith, counted, length-rules (s .kind) (s .deficits) (s .entries), length-widths (head (s .kind)), length-times (widths deficit) (s .deficits), length-times (widths entry) (s .entries))
 
   pub laid-places : (a ≤ b) × (b ≤ length vs)
   laid-places = (omega arith, omega (arith, hb, hc))
 
-  pub laid-lengths : (length (take a vs) ≡ length ws) × (length (take (b - a) (drop a vs)) ≡ 2 * s .deficits) × (length (take (length vs - b) (drop b vs)) ≡ 2 * s .entries)
+  pub laid-lengths : (length (take a vs) ≡ length ws) × (length (take (b - a) (drop a vs)) ≡ length us) × (length (take (length vs - b) (drop b vs)) ≡ length ts)
   laid-lengths = (
     length-first ws us ts vs a b ha hb hc,
-    length-second ws us ts vs a b ha hb hc ∙ length-pairs 4 20 (s .deficits),
-    length-third ws us ts vs a b ha hb hc ∙ length-pairs 6 17 (s .entries),
+    length-second ws us ts vs a b ha hb hc,
+    length-third ws us ts vs a b ha hb hc,
   )
 
   pub laid-valid : Valid ws (take a vs) × Valid us (take (b - a) (drop a vs)) × Valid ts (take (length vs - b) (drop b vs))

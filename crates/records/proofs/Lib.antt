@@ -1,4 +1,3 @@
-pub mod Tables
 pub mod Turns
 pub mod Parts
 pub mod Reading

@@ -1,29 +1,31 @@
 -- What taking a record apart answers, from the questions' answers; and what reading it answers.
 use Prim.Native.Nat.{ℕ, _+_, _-_, _*_, _≤_, _<_}
-use mathlib.Core.Bool.{Bool, true, false, cond}
+use mathlib.Core.Bool.{true, false}
 use mathlib.Core.List.{List, [], _∷_}
 use mathlib.Core.Path.{_≡_, refl, sym, ap, _∙_}
 use native.Mathlib.Decide.{decLt}
 use native.Mathlib.Omega.{arith}
 use borrow.Author.Tests.{leb-true, lt-leb, le-leb, eq-eqb, ne-eqb}
-use lib.Dec.{leb, eqb}
-use lib.ListN.{length, take, replicate, length-append}
-use lib.Seq.{take-at}
+use lib.Dec.{T, leb, eqb}
+use lib.ListN.{length, take, drop, set, replicate, length-append}
+use lib.Seq.{take-at, drop-cons}
 use Rattle.ids.specs.Ids.{at}
 use Rattle.ids.specs.Tests.{cond-true, cond-false}
 use Rattle.bits.specs.Bits.{fieldAt}
 use Rattle.bits.specs.BitLaws.{field-past}
-use Rattle.bits.specs.Table.{total, fieldsAt}
-use Rattle.bits.specs.TableLaws.{length-fields}
+use Rattle.bits.specs.Table.{total, fieldsAt, laid, narrow}
+use Rattle.bits.specs.TableLaws.{length-fields, narrow-split}
 use Rattle.bits.specs.Pack.{bytesFor}
-use Rattle.records.specs.declared.layout.Shape.{Shape}
-use Rattle.records.specs.Layout.{head, deficitsIn, entriesIn, widths, sizeOf}
-use Rattle.records.specs.LayoutLaws.{and-parts, length-widths}
-use Rattle.records.specs.Questions.{firstFailed, kindOf, headOf, rulesOf, numbersOf, isKind, isWhole, permitted, isFilled, idsRise, recordNumber, consumed, most, row}
-use Rattle.records.specs.QuestionLaws.{at-row, permitted-same, permitted-row, rises-row, head-refused, counts-same, counts-written, few-numbers, numbers-head, numbers-kind, numbers-counts}
-use Rattle.records.specs.Calls.{Parses, readNumber, over, readBuffer, Reads}
-use Rattle.records.specs.Shapes.{rulesIn, Shaped, Sized, listsPermit, listsRise, Whole}
-use Rattle.records.specs.ShapeLaws.{lists-permit}
+use Rattle.layouts.specs.declared.Shape.{Shape}
+use Rattle.layouts.specs.Layout.{head, deficitsIn, entriesIn, widths, sizeOf}
+use Rattle.layouts.specs.LayoutLaws.{and-parts, head-small, sound-heads, narrow-sound, length-widths}
+use Rattle.layouts.specs.Questions.{firstFailed, kindOf, headOf, rulesOf, numbersOf, isKind, isWhole, permitted, isFilled, idsRise, recordQuestions, recordNumber, consumed, most, row}
+use Rattle.layouts.specs.QuestionLaws.{head-kind, at-row, permitted-same, permitted-row, rises-row, head-refused, counts-same, counts-written, few-numbers, numbers-head, numbers-kind, numbers-counts}
+use Rattle.records.specs.Accepted.{number-first, number-later, taken-numbers, taken-none}
+use Rattle.records.specs.Calls.{readNumber, over, readBuffer, Reads}
+use Rattle.layouts.specs.Shapes.{rulesIn, Shaped, Sized, listsPermit, listsRise}
+use Rattle.records.specs.Parsing.{Whole, Fills}
+use Rattle.layouts.specs.ShapeLaws.{lists-permit, row-more}
 
 pub kind-small : (k : ℕ) → isKind k ≡ true → k < 7
 unfolding isKind
@@ -37,6 +39,33 @@ kind-byte bytes e = elim (decLt (length bytes) 1) [
   | no l ↦ omega arith
 ]
 
+-- a head is its kind's four bits, and the fields behind them
+module _ (k : ℕ) (e : isKind k ≡ true) where
+  abbrev behind : List ℕ
+  behind = drop 1 (widths (head k))
+
+  pub head-split : (widths (head k) ≡ 4 ∷ behind) × (total (widths (head k)) ≡ 4 + total behind)
+  head-split =
+      let h = head-kind k e in
+      let all : widths (head k) ≡ 4 ∷ behind = rw (h .1) at (drop-cons (widths (head k)) 0 0 (omega (arith, h .0, length-widths (head k)))) in
+      (all, ap total all)
+
+  pub head-rest : T (narrow behind) × (4 + total behind ≤ 64) × (1 + length behind ≤ 8)
+  head-rest =
+      let all = head-split .0 in
+      let n : T (narrow (4 ∷ behind)) = rw all at (narrow-sound (head k) (sound-heads k)) in
+      let small = head-small k in
+      (narrow-split (4 ∷ []) behind n .1, omega (arith, head-split .1), omega (arith, ap length all, length-widths (head k)))
+
+  pub head-row : (bytes : List ℕ) {values : List ℕ} → k ≡ kindOf bytes → values ≡ replicate most 0
+      → laid 1 (fieldsAt bytes 4 behind) (set values 0 k) ≡ row (fieldsAt bytes 0 (widths (head k)))
+  unfolding row kindOf
+  head-row bytes {values} z f =
+      let one : set values 0 k ≡ row (k ∷ []) = rw f in
+      let numbers : k ∷ fieldsAt bytes 4 behind ≡ fieldsAt bytes 0 (widths (head k)) =
+      ap (λ (x : ℕ). x ∷ fieldsAt bytes 4 behind) z ∙ sym (ap (λ (l : List ℕ). fieldsAt bytes 0 l) (head-split .0)) in
+      row-more (k ∷ []) (fieldsAt bytes 4 behind) (set values 0 k) 1 refl one ∙ ap row numbers
+
 -- the first question that fails, and the bytes consumed
 pub record Fails (bytes : List ℕ) (number used : ℕ) : Type 0 where
   pub numbers : number ≡ recordNumber bytes
@@ -44,41 +73,45 @@ pub record Fails (bytes : List ℕ) (number used : ℕ) : Type 0 where
 
 module _ (bytes : List ℕ) where
   pub fails-1 : isKind (kindOf bytes) ≡ false → Fails bytes 1 0
-  unfolding recordNumber firstFailed consumed
+  unfolding recordNumber recordQuestions firstFailed consumed
   fails-1 a = record { numbers = rw a; uses = rw a }
 
   module _ (a : isKind (kindOf bytes) ≡ true) where
     pub fails-2 : isWhole bytes ≡ false → Fails bytes 2 0
-    unfolding recordNumber firstFailed consumed
+    unfolding recordNumber recordQuestions firstFailed consumed
     fails-2 b = record { numbers = rw (a, b); uses = rw (a, b) }
 
     module _ (b : isWhole bytes ≡ true) where
       pub fails-3 : permitted (rulesOf bytes) (numbersOf bytes) ≡ false → Fails bytes 3 (sizeOf (rulesOf bytes))
-      unfolding recordNumber firstFailed consumed
+      unfolding recordNumber recordQuestions firstFailed consumed
       fails-3 c = record { numbers = rw (a, b, c); uses = rw (a, b) }
 
       module _ (c : permitted (rulesOf bytes) (numbersOf bytes) ≡ true) where
         pub fails-4 : isFilled bytes ≡ false → Fails bytes 4 (sizeOf (rulesOf bytes))
-        unfolding recordNumber firstFailed consumed
+        unfolding recordNumber recordQuestions firstFailed consumed
         fails-4 d = record { numbers = rw (a, b, c, d); uses = rw (a, b) }
 
         module _ (d : isFilled bytes ≡ true) where
           pub fails-5 : idsRise (numbersOf bytes) ≡ false → Fails bytes 5 (sizeOf (rulesOf bytes))
-          unfolding recordNumber firstFailed consumed
+          unfolding recordNumber recordQuestions firstFailed consumed
           fails-5 e = record { numbers = rw (a, b, c, d, e); uses = rw (a, b) }
 
           pub fails-none : idsRise (numbersOf bytes) ≡ true → Fails bytes 0 (sizeOf (rulesOf bytes))
-          unfolding recordNumber firstFailed consumed
+          unfolding recordNumber recordQuestions firstFailed consumed
           fails-none e = record { numbers = rw (a, b, c, d, e); uses = rw (a, b) }
 
 pub row-long : (vs : List ℕ) → length vs ≤ length (row vs)
 unfolding row
 row-long vs = omega (arith, length-append vs (replicate (most - length vs) 0))
 
--- an answer with the number of a question that failed
-pub refuses : {bytes values : List ℕ} {number used n u count : ℕ} → number ≡ n → used ≡ u → (n ≡ 0 → ⊥) → Fails bytes n u → Parses bytes number used count values
-refuses e f some t =
-    record { numbers = e ∙ t .numbers; uses = f ∙ t .uses; counts = λ z. absurd (some (sym e ∙ z)); rows = λ z. absurd (some (sym e ∙ z)) }
+-- an answer with the number of a question that failed, and one with none
+pub refuses : {bytes values : List ℕ} {number used n u count : ℕ} → number ≡ n → used ≡ u → count ≡ 0 → (n ≡ 0 → ⊥) → Fails bytes n u → Fills bytes number used count values
+refuses {bytes} e f none some t =
+    let no : recordNumber bytes ≡ 0 → ⊥ = λ z. some (t .numbers ∙ z) in
+    record { numbers = e ∙ t .numbers; uses = f ∙ t .uses; counts = none ∙ ap length (sym (taken-none _ no)); rows = λ z. absurd (no z) }
+
+pub fills : {bytes values : List ℕ} {used u count : ℕ} → used ≡ u → count ≡ length (numbersOf bytes) → values ≡ row (numbersOf bytes) → Fails bytes 0 u → Fills bytes 0 used count values
+fills f n v t = record { numbers = t .numbers; uses = f ∙ t .uses; counts = n ∙ ap length (sym (taken-numbers _ (sym (t .numbers)))); rows = λ z. v }
 
 module _ {bytes : List ℕ} {s : Shape} (w : Whole bytes s) where
   pub whole-rules : rulesIn s ≡ rulesOf bytes
@@ -192,30 +225,18 @@ module _ {bytes values : List ℕ} {s : Shape} (h : Headed bytes values s) where
       }
 
 -- reading puts question 16 behind the others
-after-five : (a b c d e f : Bool)
-    → firstFailed ((1, a) ∷ (2, b) ∷ (3, c) ∷ (4, d) ∷ (5, e) ∷ (16, f) ∷ [])
-    ≡ (let n = firstFailed ((1, a) ∷ (2, b) ∷ (3, c) ∷ (4, d) ∷ (5, e) ∷ []) in cond (eqb n 0) (cond f 0 16) n)
-unfolding firstFailed
-after-five false b c d e f = refl
-after-five true false c d e f = refl
-after-five true true false d e f = refl
-after-five true true true false e f = refl
-after-five true true true true false f = refl
-after-five true true true true true f = refl
-
 module _ (bytes : List ℕ) (room : ℕ) where
-  read-is : readNumber bytes room ≡ cond (eqb (recordNumber bytes) 0) (cond (leb most room) 0 16) (recordNumber bytes)
-  unfolding readNumber recordNumber
-  read-is = after-five _ _ _ _ _ _
-
   pub read-fails : (recordNumber bytes ≡ 0 → ⊥) → recordNumber bytes ≡ readNumber bytes room
-  read-fails e = sym (read-is ∙ rw (ne-eqb (recordNumber bytes) 0 e))
+  unfolding readNumber
+  read-fails e = sym (number-first bytes _ e)
 
   pub read-short : recordNumber bytes ≡ 0 → room < most → 16 ≡ readNumber bytes room
-  read-short e l = sym (read-is ∙ rw (eq-eqb (recordNumber bytes) 0 e, lt-leb most room l))
+  unfolding readNumber firstFailed
+  read-short e l = sym (number-later bytes _ e ∙ rw (lt-leb most room l))
 
   pub read-full : recordNumber bytes ≡ 0 → most ≤ room → 0 ≡ readNumber bytes room
-  read-full e l = sym (read-is ∙ rw (eq-eqb (recordNumber bytes) 0 e, le-leb most room l))
+  unfolding readNumber firstFailed
+  read-full e l = sym (number-later bytes _ e ∙ rw (le-leb most room l))
 
 -- an answer with the number of a question that failed, and one with none
 pub rejects : {bytes before after : List ℕ} {number count used : ℕ} (n : ℕ) → number ≡ n → count ≡ 0 → used ≡ 0 → after ≡ before → (n ≡ 0 → ⊥) → n ≡ readNumber bytes (length before)

@@ -1,18 +1,11 @@
--- One more turn of the loops over a record's fields.
+-- One more turn of the loop that copies numbers.
 use Prim.Native.Nat.{ℕ, suc, _+_, _<_}
-use mathlib.Core.Bool.{Bool, true}
 use mathlib.Core.List.{List, _++_}
 use mathlib.Core.Path.{_≡_}
 use native.Mathlib.Nat.{zero-add}
 use native.Mathlib.Omega.{arith}
 use lib.ListN.{length, getD, take, drop, set}
 use lib.Seq.{paste-suc}
-use Rattle.ids.specs.Ids.{allTo}
-use Rattle.ids.specs.Tests.{all-step}
-
--- one more id at which a test holds
-pub test-turn : (p : ℕ → Bool) (j : ℕ) → allTo j p ≡ true → p j ≡ true → allTo (j + 1) p ≡ true
-test-turn p j e f = rw (all-step j p, e, f)
 
 -- one more number copied over the front
 pub front-turn : (d s : List ℕ) (j : ℕ) → j < length d → j < length s → set (take j s ++ drop j d) j (getD s j 0) ≡ take (suc j) s ++ drop (suc j) d

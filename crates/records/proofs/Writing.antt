@@ -9,14 +9,14 @@ use lib.Dec.{eqb}
 use lib.ListN.{length}
 use Rattle.ids.specs.Ids.{at}
 use Rattle.ids.specs.Tests.{cond-true, cond-false}
-use Rattle.records.specs.declared.layout.Shape.{Shape}
-use Rattle.records.specs.Layout.{head, deficitsIn, entriesIn, rulesFor, sizeOf}
-use Rattle.records.specs.LayoutLaws.{length-rules}
-use Rattle.records.specs.Questions.{firstFailed, rulesBy, isKind, permitted, idsRise}
-use Rattle.records.specs.QuestionLaws.{head-refused, counts-permitted}
+use Rattle.layouts.specs.declared.Shape.{Shape}
+use Rattle.layouts.specs.Layout.{head, deficitsIn, entriesIn, rulesFor, sizeOf}
+use Rattle.layouts.specs.LayoutLaws.{length-rules}
+use Rattle.layouts.specs.Questions.{firstFailed, rulesBy, isKind, permitted, idsRise}
+use Rattle.layouts.specs.QuestionLaws.{head-refused, counts-permitted}
 use Rattle.records.specs.Calls.{writeNumber, writeBuffer, bytesBy, over, Writes}
-use Rattle.records.specs.Shapes.{rulesIn, Shaped, Sized, listsPermit, listsRise}
-use Rattle.records.specs.ShapeLaws.{lists-permit}
+use Rattle.layouts.specs.Shapes.{rulesIn, Shaped, Sized, listsPermit, listsRise}
+use Rattle.layouts.specs.ShapeLaws.{lists-permit}
 use Rattle.records.proofs.Reading.{kind-small}
 
 module _ (vs : List ℕ) (room : ℕ) where

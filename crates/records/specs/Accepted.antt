@@ -1,17 +1,19 @@
 -- What an accepted record has: each question answered yes, its numbers within their rules, and its length consumed.
-use Prim.Native.Nat.{ℕ, suc, _+_, _*_, _%_, _≤_, _<_}
+use Prim.Native.Nat.{ℕ, zero, suc, _+_, _*_, _%_, _≤_, _<_}
 use mathlib.Core.Bool.{Bool, true, false, cond}
-use mathlib.Core.List.{List}
+use mathlib.Core.List.{List, [], _∷_, _++_}
 use mathlib.Core.Logic.{inl, inr}
 use mathlib.Core.Path.{_≡_, refl, sym, ap, _∙_}
 use native.Mathlib.Omega.{arith}
+use borrow.Author.Tests.{leb-true, eq-eqb, ne-eqb}
+use lib.Dec.{leb, eqb}
 use lib.ListN.{length, getD}
 use Rattle.ids.specs.Ids.{at}
 use Rattle.bits.specs.TableLaws.{length-fields}
-use Rattle.records.specs.Layout.{Rule, noRule, head, hasLists, deficit, entry, deficitsIn, entriesIn, rulesFor, widths, sizeOf}
-use Rattle.records.specs.LayoutLaws.{length-widths, length-rules, rule-head, rule-deficit, rule-entry}
-use Rattle.records.specs.Questions.{firstFailed, kindOf, rulesOf, numbersOf, isKind, isWhole, permitted, isFilled, idsRise, recordNumber, consumed, most, row}
-use Rattle.records.specs.QuestionLaws.{at-row, permitted-at, head-permitted, few-numbers, lists-kind, numbers-kind, numbers-counts}
+use Rattle.layouts.specs.Layout.{Rule, noRule, head, hasLists, deficit, entry, deficitsIn, entriesIn, rulesFor, widths, sizeOf}
+use Rattle.layouts.specs.LayoutLaws.{and-parts, every, length-widths, length-rules, rule-head, rule-deficit, rule-entry}
+use Rattle.layouts.specs.Questions.{firstFailed, kindOf, rulesOf, numbersOf, isKind, isWhole, permitted, isFilled, idsRise, recordQuestions, recordNumber, numbersTaken, consumed, most, row}
+use Rattle.layouts.specs.QuestionLaws.{at-row, permitted-at, head-permitted, few-numbers, lists-kind, numbers-kind, numbers-counts}
 
 -- questions 1 to 5, each answered yes
 pub record Accepted (bytes : List ℕ) : Type 0 where
@@ -26,8 +28,48 @@ pub passed : (n : ℕ) (b : Bool) (m : ℕ) → cond b m (suc n) ≡ 0 → (b �
 passed n true m e = (refl, e)
 passed n false m e = absurd (omega arith)
 
+one-more : (b : Bool) (n x y : ℕ) {z : ℕ} → leb 1 n ≡ true → z ≡ cond (eqb x 0) y x → cond b z n ≡ (let m = cond b x n in cond (eqb m 0) y m)
+one-more true n x y l e = e
+one-more false n x y l e = rw (ne-eqb n 0 (λ z. omega (arith, leb-true 1 n l)))
+
+-- two lists of questions in a row, no number of the first being 0: the first's number, and where it has none the second's
+failed-append : (qs rs : List (ℕ × Bool)) → every (λ q. leb 1 (q .0)) qs ≡ true → firstFailed (qs ++ rs) ≡ cond (eqb (firstFailed qs) 0) (firstFailed rs) (firstFailed qs)
+unfolding firstFailed every
+failed-append [] rs e = refl
+failed-append (q ∷ qs) rs e =
+    let a = and-parts (leb 1 (q .0)) (every (λ q. leb 1 (q .0)) qs) e in
+    one-more (q .1) (q .0) (firstFailed qs) (firstFailed rs) (a .0) (failed-append qs rs (a .1))
+
+both-none : (m n : ℕ) → cond (eqb m 0) n m ≡ 0 → (m ≡ 0) × (n ≡ 0)
+both-none zero n e = (refl, e)
+both-none (suc m) n e = absurd (omega (arith, rw (ne-eqb (suc m) 0 (λ z. omega arith)) at e))
+
+-- questions put behind a record's five
+module _ (bytes : List ℕ) (later : List (ℕ × Bool)) where
+  behind : firstFailed (recordQuestions bytes ++ later) ≡ cond (eqb (recordNumber bytes) 0) (firstFailed later) (recordNumber bytes)
+  unfolding recordNumber recordQuestions every
+  behind = failed-append (recordQuestions bytes) later refl
+
+  pub number-first : (recordNumber bytes ≡ 0 → ⊥) → firstFailed (recordQuestions bytes ++ later) ≡ recordNumber bytes
+  number-first e = behind ∙ rw (ne-eqb (recordNumber bytes) 0 e)
+
+  pub number-later : recordNumber bytes ≡ 0 → firstFailed (recordQuestions bytes ++ later) ≡ firstFailed later
+  number-later e = behind ∙ rw (eq-eqb (recordNumber bytes) 0 e)
+
+  pub number-none : firstFailed (recordQuestions bytes ++ later) ≡ 0 → (recordNumber bytes ≡ 0) × (firstFailed later ≡ 0)
+  number-none e = both-none (recordNumber bytes) (firstFailed later) (sym behind ∙ e)
+
+-- the numbers that a record is taken for
+pub taken-numbers : (bytes : List ℕ) → recordNumber bytes ≡ 0 → numbersTaken bytes ≡ numbersOf bytes
+unfolding numbersTaken
+taken-numbers bytes e = rw (eq-eqb (recordNumber bytes) 0 e)
+
+pub taken-none : (bytes : List ℕ) → (recordNumber bytes ≡ 0 → ⊥) → numbersTaken bytes ≡ []
+unfolding numbersTaken
+taken-none bytes e = rw (ne-eqb (recordNumber bytes) 0 e)
+
 pub accepted : (bytes : List ℕ) → recordNumber bytes ≡ 0 → Accepted bytes
-unfolding recordNumber firstFailed
+unfolding recordNumber recordQuestions firstFailed
 accepted bytes e =
     let a = passed 0 (isKind (kindOf bytes)) _ e in
     let b = passed 1 (isWhole bytes) _ (a .1) in
@@ -37,7 +79,7 @@ accepted bytes e =
     record { kind = a .0; whole = b .0; permits = c .0; filled = d .0; rise = f .0 }
 
 pub not-failed : (bytes : List ℕ) → Accepted bytes → recordNumber bytes ≡ 0
-unfolding recordNumber firstFailed
+unfolding recordNumber recordQuestions firstFailed
 not-failed bytes a = rw (a .kind, a .whole, a .permits, a .filled, a .rise)
 
 pub consumed-size : (bytes : List ℕ) → Accepted bytes → consumed bytes ≡ sizeOf (rulesOf bytes)

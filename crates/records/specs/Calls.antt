@@ -7,20 +7,12 @@ use lib.ListN.{length, drop}
 use lib.Dec.{leb, eqb}
 use Rattle.ids.specs.Ids.{at}
 use Rattle.bits.specs.Pack.{encode}
-use Rattle.records.specs.Layout.{widths, sizeOf}
-use Rattle.records.specs.Questions.{firstFailed, kindOf, rulesOf, numbersOf, rulesBy, isKind, isWhole, permitted, isFilled, idsRise, recordNumber, consumed, most, row}
+use Rattle.layouts.specs.Layout.{widths, sizeOf}
+use Rattle.layouts.specs.Questions.{firstFailed, rulesOf, numbersOf, numbersTaken, rulesBy, isKind, permitted, idsRise, recordQuestions, recordNumber, consumed, most, row}
 
 -- reading, with a buffer for so many numbers: questions 1 to 5, then 16
 unfoldable pub readNumber : List ℕ → ℕ → ℕ
-readNumber bytes room =
-    firstFailed
-    ((1, isKind (kindOf bytes))
-    ∷ (2, isWhole bytes)
-    ∷ (3, permitted (rulesOf bytes) (numbersOf bytes))
-    ∷ (4, isFilled bytes)
-    ∷ (5, idsRise (numbersOf bytes))
-    ∷ (16, leb most room)
-    ∷ [])
+readNumber bytes room = firstFailed (recordQuestions bytes ++ ((16, leb most room) ∷ []))
 
 -- the front of a buffer, and the rest as it was
 abbrev pub over : List ℕ → List ℕ → List ℕ
@@ -57,9 +49,9 @@ pub record Writes (vs before : List ℕ) (number used : ℕ) (after : List ℕ) 
   pub uses : used ≡ cond (eqb (writeNumber vs (length before)) 0) (sizeOf (rulesBy vs)) 0
   pub leaves : after ≡ writeBuffer vs before
 
--- a record that is taken apart: questions 1 to 5, and where none fails its numbers in a row
+-- a record that is taken apart: questions 1 to 5, and its numbers in a row
 pub record Parses (bytes : List ℕ) (number used count : ℕ) (values : List ℕ) : Type 0 where
   pub numbers : number ≡ recordNumber bytes
   pub uses : used ≡ consumed bytes
-  pub counts : number ≡ 0 → count ≡ length (numbersOf bytes)
-  pub rows : number ≡ 0 → values ≡ row (numbersOf bytes)
+  pub counts : count ≡ length (numbersTaken bytes)
+  pub rows : values ≡ row (numbersTaken bytes)

@@ -1,9 +1,4 @@
-pub mod Layout
-pub mod Questions
 pub mod Calls
-pub mod Shapes
-pub mod LayoutLaws
-pub mod QuestionLaws
-pub mod ShapeLaws
+pub mod Parsing
 pub mod Accepted
 pub mod RoundTrip

@@ -15,12 +15,12 @@ use Rattle.bits.specs.Table.{total, fieldsAt, Valid}
 use Rattle.bits.specs.TableLaws.{fields-take}
 use Rattle.bits.specs.Pack.{bytesFor, encode, filling}
 use Rattle.bits.specs.PackLaws.{length-encode, read-back, filling-zero, write-back}
-use Rattle.records.specs.Layout.{Rule, noRule, widths, sizeOf}
-use Rattle.records.specs.LayoutLaws.{and-parts, every, every-in, sound, sound-rules, width-at, length-widths}
-use Rattle.records.specs.Questions.{firstFailed, rulesOf, numbersOf, rulesBy, isKind, isWhole, permitted, isFilled, idsRise, recordNumber, consumed}
-use Rattle.records.specs.QuestionLaws.{permitted-at, rules-by, rules-of, numbers-kind}
-use Rattle.records.specs.Calls.{bytesBy, writeNumber}
-use Rattle.records.specs.Accepted.{Accepted, accepted, not-failed, passed, consumed-size, numbers-count}
+use Rattle.layouts.specs.Layout.{Rule, noRule, widths, sizeOf}
+use Rattle.layouts.specs.LayoutLaws.{and-parts, every, every-in, sound, sound-rules, width-at, length-widths}
+use Rattle.layouts.specs.Questions.{firstFailed, rulesOf, numbersOf, rulesBy, isKind, isWhole, permitted, isFilled, idsRise, recordNumber, consumed, most}
+use Rattle.layouts.specs.QuestionLaws.{permitted-at, rules-by, rules-of, numbers-kind}
+use Rattle.records.specs.Calls.{over, readNumber, readBuffer, Reads, bytesBy, writeNumber, writeBuffer, Writes}
+use Rattle.records.specs.Accepted.{Accepted, accepted, not-failed, passed, number-later, number-none, consumed-size, numbers-count}
 
 -- numbers that are permitted fit their fields
 valid-at : (ws vs : List ℕ) → ((j : ℕ) → j < length ws → getD vs j 0 < 2 ^ getD ws j 0) → Valid ws vs
@@ -137,6 +137,10 @@ module _ (bytes : List ℕ) (e : recordNumber bytes ≡ 0) where
       (rw rules (omega (arith, length-append (take n bytes) rest))) in
       record { accepts = r .accepts; numbers = r .numbers; uses = r .uses ∙ ap sizeOf rules ∙ sym size }
 
+length-by : (vs : List ℕ) → length vs ≡ length (rulesBy vs) → length (bytesBy vs) ≡ sizeOf (rulesBy vs)
+unfolding bytesBy
+length-by vs e = length-encode (widths (rulesBy vs)) vs (e ∙ sym (length-widths (rulesBy vs)))
+
 -- whatever is written, reading its bytes, whatever follows, gives back the numbers
 pub write-reads : (vs : List ℕ) (room : ℕ) → writeNumber vs room ≡ 0 → (rest : List ℕ) → ReadAs (bytesBy vs ++ rest) vs (length (bytesBy vs))
 unfolding bytesBy
@@ -148,3 +152,61 @@ write-reads vs room e rest =
     rw size
     (read-as (bytesBy vs ++ rest) vs (w .kind) (w .permits) (w .rise) (read-back ws vs rest (valid-by vs (w .permits)) n) (filling-zero ws vs rest n)
     (omega (arith, length-append (encode ws vs) rest)))
+
+-- The round trip of the calls. Whatever `read` accepts, `write` of its numbers, with room, accepts, and leaves the bytes that were read.
+module _ {bytes buffer out : List ℕ} {count used : ℕ} (r : Reads bytes buffer 0 count used out) where
+  unrefused : eqb (readNumber bytes (length buffer)) 0 ≡ true
+  unrefused = eq-eqb (readNumber bytes (length buffer)) 0 (sym (r .numbers))
+
+  record-read : recordNumber bytes ≡ 0
+  unfolding readNumber
+  record-read = number-none bytes _ (sym (r .numbers)) .0
+
+  size-read : used ≡ sizeOf (rulesOf bytes)
+  size-read = rw unrefused at (r .uses)
+
+  numbers-read : take count out ≡ numbersOf bytes
+  unfolding readBuffer
+  numbers-read =
+      let all : out ≡ over (numbersOf bytes) buffer = rw unrefused at (r .leaves) in
+      let n : count ≡ length (numbersOf bytes) = rw unrefused at (r .counts) in
+      rw all (take-at (numbersOf bytes) _ count (sym n))
+
+  pub read-write : {before after : List ℕ} {number written : ℕ} → Bytes bytes → used ≤ length before → Writes (take count out) before number written after
+      → (number ≡ 0) × (written ≡ used) × (after ≡ over (take used bytes) before)
+  unfolding writeBuffer
+  read-write {before} {after} {number} {written} xs room w =
+      let e = record-read in
+      let a = accepted bytes e in
+      let vs = numbersOf bytes in
+      let v : Writes vs before number written after = rw numbers-read at w in
+      let zero = read-writes bytes e (length before) (omega (arith, size-read)) in
+      let yes = eq-eqb (writeNumber vs (length before)) 0 zero in
+      let size : written ≡ sizeOf (rulesBy vs) = rw yes at (v .uses) in
+      let all : after ≡ over (bytesBy vs) before = rw yes at (v .leaves) in
+      let back : bytesBy vs ≡ take used bytes = read-back-bytes bytes e xs ∙ rw (consumed-size bytes a, size-read) in
+      (v .numbers ∙ zero, size ∙ ap sizeOf (rules-by bytes (a .kind)) ∙ sym size-read, all ∙ ap (λ (l : List ℕ). over l before) back)
+
+-- Whatever `write` accepts, `read` of its bytes, whatever follows them, with room, accepts, and leaves the numbers that were written.
+pub write-read : {vs before after : List ℕ} {used : ℕ} → Writes vs before 0 used after → (rest : List ℕ) {buffer out : List ℕ} {number count read : ℕ} → most ≤ length buffer
+    → Reads (take used after ++ rest) buffer number count read out → (number ≡ 0) × (count ≡ length vs) × (read ≡ used) × (out ≡ over vs buffer)
+unfolding writeBuffer readBuffer readNumber firstFailed
+write-read {vs} {before} {after} {used} w rest {buffer} {out} {number} {count} {read} room r =
+    let zero : writeNumber vs (length before) ≡ 0 = sym (w .numbers) in
+    let yes = eq-eqb (writeNumber vs (length before)) 0 zero in
+    let ok = writable vs (length before) zero in
+    let n = length-by vs (ok .counted) in
+    let all : after ≡ over (bytesBy vs) before = rw yes at (w .leaves) in
+    let size : used ≡ length (bytesBy vs) = rw yes at (w .uses) ∙ sym n in
+    let front : take used after ≡ bytesBy vs = rw all (take-at (bytesBy vs) _ used (sym size)) in
+    let bytes = bytesBy vs ++ rest in
+    let q : Reads bytes buffer number count read out = rw front at r in
+    let back = write-reads vs (length before) zero rest in
+    let none : readNumber bytes (length buffer) ≡ 0 = number-later bytes _ (back .accepts) ∙ rw (le-leb most (length buffer) room) in
+    let sure = eq-eqb (readNumber bytes (length buffer)) 0 none in
+    let uses : read ≡ sizeOf (rulesOf bytes) = rw sure at (q .uses) in (
+      q .numbers ∙ none,
+      rw (sure, back .numbers) at (q .counts),
+      uses ∙ sym (consumed-size bytes (accepted bytes (back .accepts))) ∙ back .uses ∙ sym size,
+      rw (sure, back .numbers) at (q .leaves),
+    )

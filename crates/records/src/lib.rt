@@ -1,37 +1,38 @@
 // Records read and written by the six layouts.
 use bits::Cursor;
+use bits::Field;
 use bits::writer::Writer;
 ghost use mathlib.Core.Path.{_≡_};
+ghost use mathlib.Core.Bool.{true};
 ghost use mathlib.Core.List.{_++_};
 ghost use Prim.Native.Nat.{_≤_, _<_};
 ghost use lib.ListN.{length, take, drop, replicate};
-ghost use Rattle.bits.specs.Table.{fieldsAt};
+ghost use Rattle.bits.specs.Table.{total, fieldsAt};
 ghost use Rattle.ids.specs.Ids.{at};
-ghost use Rattle.records.specs.Layout.{head, widths, sizeOf};
-ghost use Rattle.records.specs.Questions.{kindOf, rulesBy, most, row};
-ghost use Rattle.records.specs.Shapes.{rulesIn, Sized, Whole, Passed};
+ghost use Rattle.layouts.specs.Layout.{head, widths, sizeOf};
+ghost use Rattle.layouts.specs.Questions.{isKind, kindOf, rulesBy, most, row};
+ghost use Rattle.layouts.specs.Shapes.{rulesIn, Sized};
+ghost use Rattle.records.specs.Parsing.{Whole, Fills, Passed};
 ghost use Rattle.records.specs.Calls.{over, bytesBy, Parses, Reads, Writes};
-use crate::checks::head_permitted;
-use crate::checks::is_filled;
-use crate::checks::is_kind;
-use crate::checks::lists_permitted;
-use crate::checks::lists_rise;
-use crate::layout::Shape;
-use crate::layout::bits_of;
-use crate::layout::count_at;
-use crate::layout::count_of;
-use crate::layout::shape_of;
-use crate::layout::size_of;
-use crate::layout::start_at;
-use crate::layout::widths_of_heads;
-
-mod checks;
-mod layout;
+use layouts::Shape;
+use layouts::checks::head_permitted;
+use layouts::checks::is_filled;
+use layouts::checks::is_kind;
+use layouts::checks::lists_permitted;
+use layouts::checks::lists_rise;
+use layouts::count_at;
+use layouts::count_of;
+use layouts::shape_of;
+use layouts::size_of;
+use layouts::start_at;
+use layouts::widths_of_deficit;
+use layouts::widths_of_entry;
+use layouts::widths_of_heads;
 
 // The bytes of the longest record, by its counts as written: 25 bits, 31 deficits of 24 and 127 entries of 23.
 pub const LONGEST: usize = 462;
 
-// A record's numbers, in a row with zeros behind them, or the number of the question that failed.
+// A record's numbers, in a row with zeros behind them; or the number of the question that failed, and a row of zeros.
 pub struct Parsed {
     pub number: u64,
     pub used: usize,
@@ -51,38 +52,48 @@ pub struct WriteAnswer {
 }
 
 // The kind, 0 where there is no byte.
-fn kind_of(bytes: &[u8]) -> u64
-    ensures { λ r. ⌜ r ≡ kindOf (now (bytes .entry)) ⌝ }
+fn kind_of(bytes: &[u8]) -> Field
+    ensures { λ r. ⌜ (r .value ≡ kindOf (now (bytes .entry))) × (r .next .at ≡ 4) ⌝ }
 {
+    let c = Cursor::first();
     if bytes.len() == 0 {
-        return 0;
+        return c.field(0, 4);
     }
-    Cursor { at: 0 }.take(bytes, 4).value
+    c.take(bytes, 4)
 }
 
-// The numbers of the head, over the front of a row of zeros.
-fn take_head(bytes: &[u8], kind: usize, values: &mut [u64])
-    requires { ⌜ 1 ≤ length (now bytes) ⌝ }
-    requires { ⌜ kind < 7 ⌝ }
+// The numbers of the head, from its kind on, over the front of a row of zeros; the cursor behind it.
+fn take_head(kind: Field, bytes: &[u8], values: &mut [u64]) -> Cursor
+    requires { ⌜ kind .value ≡ kindOf (now bytes) ⌝ }
+    requires { ⌜ kind .next .at ≡ 4 ⌝ }
+    requires { ⌜ isKind (kind .value) ≡ true ⌝ }
     requires { ⌜ now values ≡ replicate most 0 ⌝ }
-    ensures { λ r. ⌜ now (values .exit) ≡ row (fieldsAt (now (bytes .entry)) 0 (widths (head kind))) ⌝ }
+    ensures { λ r. ⌜ r .at ≡ total (widths (head (kind .value))) ⌝ }
+    ensures { λ r. ⌜ now (values .exit) ≡ row (fieldsAt (now (bytes .entry)) 0 (widths (head (kind .value)))) ⌝ }
 {
-    let start = start_at(kind);
-    let end = start + count_at(kind);
+    let k = kind.value as usize;
+    let start = start_at(k);
+    let end = start + count_at(k);
     let ws = widths_of_heads();
-    bits::take_front(bytes, &ws[start..end], values);
+    values[0] = kind.value;
+    kind.next.take_all(bytes, &ws[start + 1..end], values, 1)
 }
 
-// The numbers of the lists, behind those of the head.
-fn take_lists(bytes: &[u8], s: Shape, values: &mut [u64])
+// The numbers of the lists, behind those of the head; the cursor behind them.
+fn take_lists(c: Cursor, bytes: &[u8], s: Shape, values: &mut [u64]) -> Cursor
     requires { ⌜ Sized s ⌝ }
     requires { ⌜ length (rulesIn s) ≤ most ⌝ }
     requires { ⌜ sizeOf (rulesIn s) ≤ length (now bytes) ⌝ }
+    requires { ⌜ c .at ≡ total (widths (head (s .kind))) ⌝ }
     requires { ⌜ now values ≡ row (fieldsAt (now bytes) 0 (widths (head (s .kind)))) ⌝ }
+    ensures { λ r. ⌜ r .at ≡ total (widths (rulesIn s)) ⌝ }
     ensures { λ r. ⌜ now (values .exit) ≡ row (fieldsAt (now (bytes .entry)) 0 (widths (rulesIn s))) ⌝ }
 {
-    let c = Cursor { at: s.bits }.take_pairs(bytes, 4, 20, s.deficits, values, s.count);
-    c.take_pairs(bytes, 6, 17, s.entries, values, s.count + 2 * s.deficits);
+    let deficit = widths_of_deficit();
+    let entry = widths_of_entry();
+    let second = s.count + 2 * s.deficits;
+    let d = c.take_items(bytes, &deficit, s.deficits, values, s.count);
+    d.take_items(bytes, &entry, s.entries, values, second)
 }
 
 // The first n of the numbers over the front of a buffer.
@@ -108,18 +119,19 @@ fn refused(number: u64, used: usize) -> ReadAnswer
     }
 }
 
-// A whole record of the shape, its head permitted and in front of the row: questions 3 to 5.
-fn parse_whole(bytes: &[u8], s: Shape, values: &mut [u64]) -> ReadAnswer
+// A whole record of the shape, its head permitted and in front of the row, from the cursor behind the head on: questions 3 to 5.
+fn parse_whole(c: Cursor, bytes: &[u8], s: Shape, values: &mut [u64]) -> ReadAnswer
     requires { ⌜ Whole (now bytes) s ⌝ }
+    requires { ⌜ c .at ≡ total (widths (head (s .kind))) ⌝ }
     requires { ⌜ now values ≡ row (fieldsAt (now bytes) 0 (widths (head (s .kind)))) ⌝ }
-    ensures { λ r. ⌜ Parses (now (bytes .entry)) (r .number) (r .used) (r .count) (now (values .exit)) ⌝ }
+    ensures { λ r. ⌜ Fills (now (bytes .entry)) (r .number) (r .used) (r .count) (now (values .exit)) ⌝ }
 {
     let size = size_of(s);
-    take_lists(bytes, s, values);
+    let end = take_lists(c, bytes, s, values);
     if !lists_permitted(s, values) {
         return refused(3, size);
     }
-    if !is_filled(bytes, bits_of(s)) {
+    if !is_filled(end, bytes) {
         return refused(4, size);
     }
     if !lists_rise(s, values) {
@@ -136,14 +148,14 @@ fn parse_whole(bytes: &[u8], s: Shape, values: &mut [u64]) -> ReadAnswer
 // Takes a record apart into a row of zeros: questions 1 to 5. The head goes first, since it has the counts.
 fn parse_into(bytes: &[u8], values: &mut [u64]) -> ReadAnswer
     requires { ⌜ now values ≡ replicate most 0 ⌝ }
-    ensures { λ r. ⌜ Parses (now (bytes .entry)) (r .number) (r .used) (r .count) (now (values .exit)) ⌝ }
+    ensures { λ r. ⌜ Fills (now (bytes .entry)) (r .number) (r .used) (r .count) (now (values .exit)) ⌝ }
 {
     let kind = kind_of(bytes);
-    if !is_kind(kind) {
+    if !is_kind(kind.value) {
         return refused(1, 0);
     }
-    let k = kind as usize;
-    take_head(bytes, k, values);
+    let k = kind.value as usize;
+    let c = take_head(kind, bytes, values);
     let s = shape_of(k, values);
     let size = size_of(s);
     if bytes.len() < size {
@@ -152,7 +164,7 @@ fn parse_into(bytes: &[u8], values: &mut [u64]) -> ReadAnswer
     if !head_permitted(k, values) {
         return refused(3, size);
     }
-    parse_whole(bytes, s, values)
+    parse_whole(c, bytes, s, values)
 }
 
 // Takes a record apart: questions 1 to 5.
@@ -161,6 +173,9 @@ pub fn parse(bytes: &[u8]) -> Parsed
 {
     let mut values = [0u64; 166];
     let a = parse_into(bytes, &mut values);
+    if a.number != 0 {
+        values = [0u64; 166];
+    }
     Parsed {
         number: a.number,
         used: a.used,
@@ -204,11 +219,13 @@ fn put_record(numbers: &[u64], bytes: &mut [u8], s: Shape) -> usize
     let start = start_at(s.kind);
     let end = start + s.count;
     let ws = widths_of_heads();
+    let deficit = widths_of_deficit();
+    let entry = widths_of_entry();
     let first = s.count;
     let second = first + 2 * s.deficits;
     let head = Writer::new().put_all(bytes, &ws[start..end], &numbers[..first]);
-    let deficits = head.put_pairs(bytes, 4, 20, s.deficits, &numbers[first..second]);
-    let entries = deficits.put_pairs(bytes, 6, 17, s.entries, &numbers[second..]);
+    let deficits = head.put_items(bytes, &deficit, s.deficits, &numbers[first..second]);
+    let entries = deficits.put_items(bytes, &entry, s.entries, &numbers[second..]);
     entries.finish(bytes)
 }
 

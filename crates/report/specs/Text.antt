@@ -58,12 +58,12 @@ unfoldable pub linesFrom : (ℕ → List ℕ) → ℕ → ℕ → ℕ → List �
 linesFrom line bits p zero = []
 linesFrom line bits p (suc n) = linesFrom line bits p n ++ line (p + bits * n)
 
+-- `M month`
+unfoldable pub monthLine : ℕ → List ℕ
+monthLine month = 77 ∷ (word (decimal month) ++ (10 ∷ []))
+
 -- of a statement's bytes
 module _ (xs : List ℕ) where
-  -- `M month`
-  unfoldable pub monthLine : List ℕ
-  monthLine = 77 ∷ (word (decimal (fieldAt xs 0 4)) ++ (10 ∷ []))
-
   -- the amount in the 42 bits from p on
   abbrev pub amountAt : ℕ → List ℕ
   amountAt p = word (cents (value42 (fieldAt xs p 42)))
@@ -79,7 +79,7 @@ module _ (xs : List ℕ) where
   -- a statement's lines, in its order
   unfoldable pub statementLines : List ℕ
   statementLines =
-      monthLine
+      monthLine (fieldAt xs 0 4)
       ++ (linesFrom sellerLine 130 14 (fieldAt xs 4 5)
       ++ linesFrom lseLine 46 (14 + 130 * fieldAt xs 4 5) (fieldAt xs 9 5))
 

@@ -3,12 +3,12 @@
 use bits::Cursor;
 ghost use mathlib.Core.Path.{_≡_};
 ghost use mathlib.Core.List.{[], _∷_};
-ghost use Prim.Native.Nat.{_+_, _*_, _≤_, _<_};
+ghost use Prim.Native.Nat.{_+_, _*_, _^_, _≤_, _<_};
 ghost use lib.ListN.{length};
-ghost use Rattle.bits.specs.Bits.{Room, fieldAt};
+ghost use Rattle.statement.specs.Value42.{value42};
 ghost use Rattle.report.specs.Pasted.{Pasted};
 ghost use Rattle.report.specs.Lies.{Lies};
-ghost use Rattle.report.specs.Text.{amountAt, answerLines, callLine, decimal, hexadecimal, linesFrom, lseLine, monthLine, numbersLine, refusalLine, room, sellerLine, statementLines, statementRoom, word};
+ghost use Rattle.report.specs.Text.{answerLines, callLine, cents, decimal, hexadecimal, linesFrom, lseLine, monthLine, numbersLine, refusalLine, room, sellerLine, statementLines, statementRoom, word};
 
 // The bytes that a caller leaves free for one report.
 pub const ROOM: usize = 4177;
@@ -20,16 +20,6 @@ pub const STATEMENT: usize = 684;
 const NEGATIVE: u64 = 0x200_0000_0000;
 
 const WHOLE: u64 = 0x400_0000_0000;
-
-// The count of 5 bits at bit `from` of a statement.
-fn count(statement: &[u8], from: usize) -> usize
-    requires { ⌜ Room (now statement) from 5 ⌝ }
-    ensures { λ r. ⌜ r ≡ fieldAt (now (statement .entry)) from 5 ⌝ }
-    ensures { λ r. ⌜ r ≤ 31 ⌝ }
-{
-    let field = (Cursor { at: from }).take(statement, 5);
-    field.value as usize
-}
 
 fn put_byte(out: &mut [u8], at: usize, byte: u8) -> usize
     requires { ⌜ at < length (now out) ⌝ }
@@ -60,15 +50,13 @@ fn put_number(out: &mut [u8], at: usize, n: u64) -> usize
     put_decimal(out, p, n)
 }
 
-// The amount at bit `from` of a statement, as a further word of a line.
-fn put_amount(statement: &[u8], from: usize, out: &mut [u8], at: usize) -> usize
-    requires { ⌜ Room (now statement) from 42 ⌝ }
+// An amount, as a further word of a line.
+fn put_amount(bits: u64, out: &mut [u8], at: usize) -> usize
+    requires { ⌜ bits < 2 ^ 42 ⌝ }
     requires { ⌜ at + 22 ≤ length (now out) ⌝ }
-    ensures { λ r. ⌜ Pasted (now (out .entry)) (now (out .exit)) at (amountAt (now (statement .entry)) from) r ⌝ }
+    ensures { λ r. ⌜ Pasted (now (out .entry)) (now (out .exit)) at (word (cents (value42 bits))) r ⌝ }
     ensures { λ r. ⌜ r ≤ at + 22 ⌝ }
 {
-    let amount = (Cursor { at: from }).take(statement, 42);
-    let bits = amount.value;
     let p = put_byte(out, at, b' ');
     if bits < NEGATIVE {
         return put_decimal(out, p, bits);
@@ -77,88 +65,101 @@ fn put_amount(statement: &[u8], from: usize, out: &mut [u8], at: usize) -> usize
     put_decimal(out, q, WHOLE - bits)
 }
 
-fn put_month(statement: &[u8], out: &mut [u8], at: usize) -> usize
-    requires { ⌜ Room (now statement) 0 4 ⌝ }
+fn put_month(month: u64, out: &mut [u8], at: usize) -> usize
     requires { ⌜ at + 23 ≤ length (now out) ⌝ }
-    ensures { λ r. ⌜ Pasted (now (out .entry)) (now (out .exit)) at (monthLine (now (statement .entry))) r ⌝ }
+    ensures { λ r. ⌜ Pasted (now (out .entry)) (now (out .exit)) at (monthLine month) r ⌝ }
     ensures { λ r. ⌜ r ≤ at + 23 ⌝ }
 {
-    let month = (Cursor { at: 0 }).take(statement, 4);
     let mut p = put_byte(out, at, b'M');
-    p = put_number(out, p, month.value);
+    p = put_number(out, p, month);
     put_byte(out, p, b'\n')
 }
 
-fn put_seller(statement: &[u8], from: usize, out: &mut [u8], at: usize) -> usize
-    requires { ⌜ Lies (now statement) from 130 ⌝ }
+// The place after lines that are put, and the cursor behind what they are read from.
+struct Lines {
+    at: usize,
+    next: Cursor,
+}
+
+fn put_seller(statement: &[u8], c: Cursor, out: &mut [u8], at: usize) -> Lines
+    requires { ⌜ Lies (now statement) (c .at) 130 ⌝ }
     requires { ⌜ at + 89 ≤ length (now out) ⌝ }
-    ensures { λ r. ⌜ Pasted (now (out .entry)) (now (out .exit)) at (sellerLine (now (statement .entry)) from) r ⌝ }
-    ensures { λ r. ⌜ r ≤ at + 89 ⌝ }
+    ensures { λ r. ⌜ Pasted (now (out .entry)) (now (out .exit)) at (sellerLine (now (statement .entry)) (c .at)) (r .at) ⌝ }
+    ensures { λ r. ⌜ (r .at ≤ at + 89) × (r .next .at ≡ c .at + 130) ⌝ }
 {
-    let seller = (Cursor { at: from }).take(statement, 4);
+    let seller = c.take(statement, 4);
+    let compliance = seller.next.take(statement, 42);
+    let test = compliance.next.take(statement, 42);
+    let credit = test.next.take(statement, 42);
     let mut p = put_byte(out, at, b'S');
     p = put_number(out, p, seller.value);
-    p = put_amount(statement, from + 4, out, p);
-    p = put_amount(statement, from + 46, out, p);
-    p = put_amount(statement, from + 88, out, p);
-    put_byte(out, p, b'\n')
+    p = put_amount(compliance.value, out, p);
+    p = put_amount(test.value, out, p);
+    p = put_amount(credit.value, out, p);
+    p = put_byte(out, p, b'\n');
+    let next = credit.next;
+    Lines { at: p, next: next }
 }
 
-fn put_lse(statement: &[u8], from: usize, out: &mut [u8], at: usize) -> usize
-    requires { ⌜ Lies (now statement) from 46 ⌝ }
+fn put_lse(statement: &[u8], c: Cursor, out: &mut [u8], at: usize) -> Lines
+    requires { ⌜ Lies (now statement) (c .at) 46 ⌝ }
     requires { ⌜ at + 45 ≤ length (now out) ⌝ }
-    ensures { λ r. ⌜ Pasted (now (out .entry)) (now (out .exit)) at (lseLine (now (statement .entry)) from) r ⌝ }
-    ensures { λ r. ⌜ r ≤ at + 45 ⌝ }
+    ensures { λ r. ⌜ Pasted (now (out .entry)) (now (out .exit)) at (lseLine (now (statement .entry)) (c .at)) (r .at) ⌝ }
+    ensures { λ r. ⌜ (r .at ≤ at + 45) × (r .next .at ≡ c .at + 46) ⌝ }
 {
-    let lse = (Cursor { at: from }).take(statement, 4);
+    let lse = c.take(statement, 4);
+    let credit = lse.next.take(statement, 42);
     let mut p = put_byte(out, at, b'L');
     p = put_number(out, p, lse.value);
-    p = put_amount(statement, from + 4, out, p);
-    put_byte(out, p, b'\n')
+    p = put_amount(credit.value, out, p);
+    p = put_byte(out, p, b'\n');
+    let next = credit.next;
+    Lines { at: p, next: next }
 }
 
-fn put_sellers(statement: &[u8], sellers: usize, out: &mut [u8], at: usize) -> usize
+fn put_sellers(statement: &[u8], c: Cursor, sellers: u64, out: &mut [u8], at: usize) -> Lines
     requires { ⌜ sellers ≤ 31 ⌝ }
-    requires { ⌜ Lies (now statement) 14 (130 * sellers) ⌝ }
+    requires { ⌜ Lies (now statement) (c .at) (130 * sellers) ⌝ }
     requires { ⌜ at + 89 * sellers ≤ length (now out) ⌝ }
-    ensures { λ r. ⌜ Pasted (now (out .entry)) (now (out .exit)) at (linesFrom (sellerLine (now (statement .entry))) 130 14 sellers) r ⌝ }
-    ensures { λ r. ⌜ r ≤ at + 89 * sellers ⌝ }
+    ensures { λ r. ⌜ Pasted (now (out .entry)) (now (out .exit)) at (linesFrom (sellerLine (now (statement .entry))) 130 (c .at) sellers) (r .at) ⌝ }
+    ensures { λ r. ⌜ (r .at ≤ at + 89 * sellers) × (r .next .at ≡ c .at + 130 * sellers) ⌝ }
 {
-    let mut p = at;
-    let mut s: usize = 0;
+    let mut lines = Lines { at: at, next: c };
+    let mut s: u64 = 0;
     while s < sellers {
-        p = put_seller(statement, 14 + 130 * s, out, p);
+        lines = put_seller(statement, lines.next, out, lines.at);
         s += 1;
     }
-    p
+    lines
 }
 
-fn put_lses(statement: &[u8], from: usize, lses: usize, out: &mut [u8], at: usize) -> usize
+fn put_lses(statement: &[u8], c: Cursor, lses: u64, out: &mut [u8], at: usize) -> Lines
     requires { ⌜ lses ≤ 31 ⌝ }
-    requires { ⌜ Lies (now statement) from (46 * lses) ⌝ }
+    requires { ⌜ Lies (now statement) (c .at) (46 * lses) ⌝ }
     requires { ⌜ at + 45 * lses ≤ length (now out) ⌝ }
-    ensures { λ r. ⌜ Pasted (now (out .entry)) (now (out .exit)) at (linesFrom (lseLine (now (statement .entry))) 46 from lses) r ⌝ }
+    ensures { λ r. ⌜ Pasted (now (out .entry)) (now (out .exit)) at (linesFrom (lseLine (now (statement .entry))) 46 (c .at) lses) (r .at) ⌝ }
 {
-    let mut p = at;
-    let mut j: usize = 0;
+    let mut lines = Lines { at: at, next: c };
+    let mut j: u64 = 0;
     while j < lses {
-        p = put_lse(statement, from + 46 * j, out, p);
+        lines = put_lse(statement, lines.next, out, lines.at);
         j += 1;
     }
-    p
+    lines
 }
 
-// The lines of a statement: `M month`, `S seller compliance test credit`, `L lse credit`.
+// The lines of a statement: `M month`, `S seller compliance test credit`, `L lse credit`. One cursor goes through its fields.
 fn statement_lines(statement: &[u8], out: &mut [u8], at: usize) -> usize
     requires { ⌜ statementRoom ≤ length (now statement) ⌝ }
     requires { ⌜ at + room ≤ length (now out) ⌝ }
     ensures { λ r. ⌜ Pasted (now (out .entry)) (now (out .exit)) at (statementLines (now (statement .entry))) r ⌝ }
 {
-    let sellers = count(statement, 4);
-    let lses = count(statement, 9);
-    let mut p = put_month(statement, out, at);
-    p = put_sellers(statement, sellers, out, p);
-    put_lses(statement, 14 + 130 * sellers, lses, out, p)
+    let month = Cursor::first().take(statement, 4);
+    let sellers = month.next.take(statement, 5);
+    let lses = sellers.next.take(statement, 5);
+    let p = put_month(month.value, out, at);
+    let lines = put_sellers(statement, lses.next, sellers.value, out, p);
+    put_lses(statement, lines.next, lses.value, out, lines.at).at
 }
 
 // The line of a refusal: `N position number`.

@@ -18,7 +18,7 @@ use Rattle.owed.specs.Owed.{called, calls, charge, creditOf, testOf, overTests,
 use Rattle.owed.specs.Events.{ofSeller}
 use Rattle.owed.specs.Balance.{credits-le-charges}
 use Rattle.owed.specs.Bound.{sellers-below, charges-le, obligations-le, lse-fits}
-use Rattle.settlement.specs.Past.{reads-called, reads-calls}
+use Rattle.events.specs.Past.{reads-called, reads-calls}
 
 -- the sum of an array
 abbrev pub sumOf : List ℕ → ℕ

@@ -2,6 +2,7 @@
 pub mod Statement
 pub mod Lines
 pub mod Sizes
+pub mod Columns
 pub mod Code
 pub mod Turns
 pub mod Value42

@@ -1,14 +1,15 @@
--- Laws of lines: one more id, equal tests, and what adds up over them.
+-- Laws of lines: equal tests, and the bits that they take.
 use Prim.Native.Nat.{ℕ, zero, suc, _+_, _*_, _≤_, _<_}
 use mathlib.Core.Bool.{Bool, true, false, cond}
-use mathlib.Core.List.{List, [], _++_, append-nil}
+use mathlib.Core.List.{List, [], _∷_, _++_, map-append}
 use mathlib.Core.Path.{_≡_, refl, _∙_}
 use native.Mathlib.Omega.{arith}
-use native.Mathlib.Nat.{mul-add}
-use native.Mathlib.Numerals.{add-one}
-use Rattle.ids.specs.Ids.{sumTo}
+use native.Mathlib.Nat.{mul-add, mul-suc, mul-le-mul-left}
+use Rattle.ids.specs.Ids.{sumTo, tabulate}
 use Rattle.ids.specs.Sums.{sum-same, sum-bound}
-use Rattle.statement.specs.Statement.{Field, countTo, linesTo}
+use Rattle.bits.specs.Table.{total}
+use Rattle.bits.specs.TableLaws.{total-append}
+use Rattle.statement.specs.Statement.{Field, widthsOf, amountField, lineFields, countTo, linesTo}
 
 pub count-same : (n : ℕ) {p q : ℕ → Bool} → ((i : ℕ) → i < n → p i ≡ q i) → countTo n p ≡ countTo n q
 unfolding countTo
@@ -22,28 +23,39 @@ pub count-most : (n : ℕ) (p : ℕ → Bool) → countTo n p ≤ n
 unfolding countTo
 count-most n p = omega (arith, sum-bound n 1 (λ i. cond (p i) 1 0) (λ i l. one-most (p i)))
 
-module _ (p : ℕ → Bool) (f : ℕ → List Field) where
-  -- one more id, as a loop says it
-  pub lines-take : (i : ℕ) → p i ≡ true → linesTo (i + 1) p f ≡ linesTo i p f ++ f i
-  unfolding linesTo
-  lines-take i e = rw (add-one i, e)
-
-  pub lines-skip : (i : ℕ) → p i ≡ false → linesTo (i + 1) p f ≡ linesTo i p f
-  unfolding linesTo
-  lines-skip i e = rw (add-one i, e, append-nil)
-
 pub lines-same : (n : ℕ) {p q : ℕ → Bool} (f : ℕ → List Field) → ((i : ℕ) → i < n → p i ≡ q i) → linesTo n p f ≡ linesTo n q f
 unfolding linesTo
 lines-same zero f h = refl
 lines-same (suc n) f h = rw (lines-same n f (λ i l. h i (omega arith)), h n (omega arith))
 
--- what adds up over fields, and is k for each line, is k times the number of lines
-pub lines-measure : (m : List Field → ℕ) → m [] ≡ 0 → ((a b : List Field) → m (a ++ b) ≡ m a + m b)
-    → (n k : ℕ) (p : ℕ → Bool) (f : ℕ → List Field) → ((i : ℕ) → m (f i) ≡ k) → m (linesTo n p f) ≡ k * countTo n p
-unfolding linesTo countTo sumTo
-lines-measure m e add zero k p f h = omega (arith, e)
-lines-measure m e add (suc n) k p f h = add (linesTo n p f) (cond (p n) (f n) []) ∙ go (p n) (lines-measure m e add n k p f h)
-  where
-    go : (b : Bool) → m (linesTo n p f) ≡ k * countTo n p → m (linesTo n p f) + m (cond b (f n) []) ≡ k * (countTo n p + cond b 1 0)
-    go true r = omega (arith, r, h n, mul-add k (countTo n p) 1)
-    go false r = omega (arith, r, e, mul-add k (countTo n p) 0)
+-- how many bits the fields take
+abbrev pub bitsIn : List Field → ℕ
+bitsIn fs = total (widthsOf fs)
+
+pub bits-append : (a b : List Field) → bitsIn (a ++ b) ≡ bitsIn a + bitsIn b
+bits-append a b = rw (map-append (λ f. f .0) a b) (total-append (widthsOf a) (widthsOf b))
+
+-- amounts have 42 bits each, and an id before them four
+pub amounts-bits : (n : ℕ) (now before : List ℕ) (i : ℕ) → bitsIn (tabulate n (amountField now before i)) ≡ 42 * n
+unfolding tabulate
+amounts-bits zero now before i = refl
+amounts-bits (suc n) now before i =
+    bits-append (tabulate n (amountField now before i)) (amountField now before i n ∷ []) ∙ omega (arith, amounts-bits n now before i)
+
+module _ (n : ℕ) (now before : List ℕ) where
+  pub lines-bits : (p : ℕ → Bool) (m : ℕ) → bitsIn (linesTo m p (lineFields n now before)) ≡ (4 + 42 * n) * countTo m p
+  unfolding linesTo lineFields countTo sumTo
+  lines-bits p zero = omega arith
+  lines-bits p (suc m) =
+      bits-append (linesTo m p (lineFields n now before)) (cond (p m) (lineFields n now before m) []) ∙ go (p m) (lines-bits p m)
+    where
+      go : (b : Bool) → bitsIn (linesTo m p (lineFields n now before)) ≡ (4 + 42 * n) * countTo m p
+          → bitsIn (linesTo m p (lineFields n now before)) + bitsIn (cond b (lineFields n now before m) []) ≡ (4 + 42 * n) * (countTo m p + cond b 1 0)
+      go true r = omega (arith, r, amounts-bits n now before m, mul-add (4 + 42 * n) (countTo m p) 1)
+      go false r = omega (arith, r, mul-add (4 + 42 * n) (countTo m p) 0)
+
+  -- behind the lines of the ids before i there is room for one more, where there is for m
+  pub lines-room : (p : ℕ → Bool) (i m : ℕ) → i < m → bitsIn (linesTo i p (lineFields n now before)) + (4 + 42 * n) ≤ (4 + 42 * n) * m
+  lines-room p i m l =
+      let few : suc (countTo i p) ≤ m = omega (arith, count-most i p) in
+      omega (arith, lines-bits p i, mul-suc (4 + 42 * n) (countTo i p), mul-le-mul-left (4 + 42 * n) few)

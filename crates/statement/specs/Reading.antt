@@ -11,13 +11,12 @@ use native.Mathlib.Numerals.{add-one}
 use lib.Dec.{eqb}
 use lib.IntN.{ℤ, pos, _+ℤ_, +ℤ-idl, +ℤ-idr}
 use borrow.Author.Tests.{eq-eqb, ne-eqb}
-use Rattle.ids.specs.Ids.{sumTo}
+use Rattle.ids.specs.Ids.{sumTo, tabulate}
 use Rattle.ids.specs.Sums.{sum-mono}
 use Rattle.bits.specs.Bits.{fieldAt}
 use Rattle.bits.specs.Table.{fieldsAt}
-use Rattle.statement.specs.Statement.{Field, countTo, linesTo}
-use Rattle.statement.specs.Lines.{lines-measure}
-use Rattle.statement.specs.Sizes.{widthsOf, valuesOf, bitsIn, bits-append}
+use Rattle.statement.specs.Statement.{Field, widthsOf, valuesOf, countTo, amountField, lineFields, linesTo}
+use Rattle.statement.specs.Lines.{bitsIn, lines-bits, amounts-bits}
 use Rattle.statement.specs.ReadBack.{sumℤ, sumOf}
 
 -- the fields from p on have these values
@@ -39,18 +38,30 @@ module _ (xs : List ℕ) where
       let r = holds-split (p + f .0) a b (h .1) in
       ((h .0, r .0), rw (← add-assoc p (f .0) (bitsIn a)) (r .1))
 
-  -- lines of k bits each, from p on
-  pub holds-line : (p k n : ℕ) (q : ℕ → Bool) (f : ℕ → List Field) → ((i : ℕ) → bitsIn (f i) ≡ k) → Holds xs p (linesTo n q f)
-      → (i : ℕ) → i < n → q i ≡ true → Holds xs (p + k * countTo i q) (f i)
+  -- lines from p on
+  pub holds-line : (p n : ℕ) (now before : List ℕ) (q : ℕ → Bool) (m : ℕ) → Holds xs p (linesTo m q (lineFields n now before))
+      → (i : ℕ) → i < m → q i ≡ true → Holds xs (p + (4 + 42 * n) * countTo i q) (lineFields n now before i)
   unfolding linesTo
-  holds-line p k zero q f size h i l e = absurd (not-suc-le-zero l)
-  holds-line p k (suc n) q f size h i l e =
-      let r = holds-split p (linesTo n q f) (cond (q n) (f n) []) h in
+  holds-line p n now before q zero h i l e = absurd (not-suc-le-zero l)
+  holds-line p n now before q (suc m) h i l e =
+      let r = holds-split p (linesTo m q (lineFields n now before)) (cond (q m) (lineFields n now before m) []) h in
       elim (eq-or-lt-of-le (le-of-suc-le-suc l)) [
         | inl z ↦
-            let last : q n ≡ true = ap q (sym z) ∙ e in
-            rw z (rw (lines-measure bitsIn refl bits-append n k q f size, last) at (r .1))
-        | inr m ↦ holds-line p k n q f size (r .0) i m e
+            let last : q m ≡ true = ap q (sym z) ∙ e in
+            rw z (rw (lines-bits n now before q m, last) at (r .1))
+        | inr k ↦ holds-line p n now before q m (r .0) i k e
+      ]
+
+  -- amounts from p on
+  pub holds-amount : (p n : ℕ) (now before : List ℕ) (i : ℕ) → Holds xs p (tabulate n (amountField now before i))
+      → (k : ℕ) → k < n → fieldAt xs (p + 42 * k) 42 ≡ amountField now before i k .1
+  unfolding tabulate
+  holds-amount p zero now before i h k l = absurd (not-suc-le-zero l)
+  holds-amount p (suc n) now before i h k l =
+      let r = holds-split p (tabulate n (amountField now before i)) (amountField now before i n ∷ []) h in
+      elim (eq-or-lt-of-le (le-of-suc-le-suc l)) [
+        | inl z ↦ rw z (rw (amounts-bits n now before i) at (r .1 .0))
+        | inr m ↦ holds-amount p n now before i (r .0) k m
       ]
 
 -- as many pass before one that passes as its place among them

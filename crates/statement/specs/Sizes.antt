@@ -1,14 +1,12 @@
--- The sizes of a statement: each value fits its field, and the largest statement has 99 fields and 2830 bits.
+-- The sizes of a statement: each value fits its field, and the largest statement has 2830 bits.
 use Prim.Native.Nat.{ℕ, zero, suc, _+_, _*_, _^_, _≤_, _<_}
 use mathlib.Core.Bool.{Bool, true, false, cond}
-use mathlib.Core.List.{List, [], _∷_, _++_, map, map-append}
-use mathlib.Core.Path.{_≡_, refl}
+use mathlib.Core.List.{List, [], _∷_, _++_}
+use mathlib.Core.Path.{_≡_}
 use native.Mathlib.Omega.{arith}
-use lib.Dec.{T}
-use lib.ListN.{length, length-append, length-map}
-use borrow.Author.Tests.{le-leb}
-use Rattle.bits.specs.Table.{total, Valid, narrow}
-use Rattle.bits.specs.TableLaws.{total-append}
+use lib.ListN.{length, length-map}
+use Rattle.ids.specs.Ids.{tabulate}
+use Rattle.bits.specs.Table.{Valid}
 use Rattle.bits.specs.Pack.{bytesFor}
 use Rattle.bits.specs.PackLaws.{length-encode}
 use Rattle.year.specs.declared.Terms.{Terms}
@@ -16,100 +14,52 @@ use Rattle.year.specs.declared.Amounts.{Amounts}
 use Rattle.year.specs.Year.{lses, sellers}
 use Rattle.year.specs.Sound.{SoundTerms}
 use Rattle.year.specs.Limits.{lses-is}
-use Rattle.statement.specs.Statement.{largest, Field, countTo, difference, hasRegistration, hasObligation, sellerFields, lseFields, linesTo, statementFields, statementOf}
-use Rattle.statement.specs.Lines.{count-most, lines-measure}
+use Rattle.statement.specs.Statement.{largest, Field, widthsOf, valuesOf, countTo, difference, hasRegistration, hasObligation, sellerColumns, amountField, lineFields, sellerFields, lseFields, linesTo, statementFields, statementOf}
+use Rattle.statement.specs.Lines.{count-most, bitsIn, bits-append, lines-bits}
 
-abbrev pub widthsOf : List Field → List ℕ
-widthsOf fs = map (λ f. f .0) fs
+-- each value fits its width
+abbrev pub Fitting : List Field → Type 0
+Fitting fs = Valid (widthsOf fs) (valuesOf fs)
 
-abbrev pub valuesOf : List Field → List ℕ
-valuesOf fs = map (λ f. f .1) fs
-
--- how many bits the fields take
-abbrev pub bitsIn : List Field → ℕ
-bitsIn fs = total (widthsOf fs)
-
-pub bits-append : (a b : List Field) → bitsIn (a ++ b) ≡ bitsIn a + bitsIn b
-bits-append a b = rw (map-append (λ f. f .0) a b) (total-append (widthsOf a) (widthsOf b))
-
--- each width is from 1 to 42, and each value fits its width
-pub record Proper (f : Field) : Type 0 where
-  pub some : 1 ≤ f .0
-  pub narrow : f .0 ≤ 42
-  pub fits : f .1 < 2 ^ f .0
-
-abbrev pub AllProper : List Field → Type 0
-AllProper [] = Unit
-AllProper (f ∷ fs) = Proper f × AllProper fs
-
-proper-append : (a b : List Field) → AllProper a → AllProper b → AllProper (a ++ b)
-proper-append [] b h k = k
-proper-append (f ∷ a) b h k = (h .0, proper-append a b (h .1) k)
-
-pub proper-narrow : (fs : List Field) → AllProper fs → T (narrow (widthsOf fs))
-proper-narrow [] h = tt
-proper-narrow (f ∷ fs) h = rw (le-leb 1 (f .0) (h .0 .some), le-leb (f .0) 42 (h .0 .narrow)) (proper-narrow fs (h .1))
-
-pub proper-valid : (fs : List Field) → AllProper fs → Valid (widthsOf fs) (valuesOf fs)
-proper-valid [] h = tt
-proper-valid (f ∷ fs) h = (h .0 .fits, proper-valid fs (h .1))
+fitting-append : (a b : List Field) → Fitting a → Fitting b → Fitting (a ++ b)
+fitting-append [] b h k = k
+fitting-append (f ∷ a) b h k = (h .0, fitting-append a b (h .1) k)
 
 pub same-length : (fs : List Field) → length (valuesOf fs) ≡ length (widthsOf fs)
 same-length fs = rw (length-map fs (λ f. f .1), length-map fs (λ f. f .0))
-
-proper-lines : (n : ℕ) (p : ℕ → Bool) (f : ℕ → List Field) → ((i : ℕ) → i < n → AllProper (f i)) → AllProper (linesTo n p f)
-unfolding linesTo
-proper-lines zero p f h = tt
-proper-lines (suc n) p f h = proper-append (linesTo n p f) (cond (p n) (f n) []) (proper-lines n p f (λ i l. h i (omega arith))) (go (p n))
-  where
-    go : (b : Bool) → AllProper (cond b (f n) [])
-    go true = h n (omega arith)
-    go false = tt
 
 pub difference-below : (now before : ℕ) → difference now before < 2 ^ 42
 unfolding difference
 difference-below now before = omega arith
 
-id-proper : (i : ℕ) → i < 16 → Proper (4, i)
-id-proper i l = record { some = omega arith; narrow = omega arith; fits = omega arith }
+fitting-amounts : (n : ℕ) (now before : List ℕ) (i : ℕ) → Fitting (tabulate n (amountField now before i))
+unfolding tabulate
+fitting-amounts zero now before i = tt
+fitting-amounts (suc n) now before i =
+    fitting-append (tabulate n (amountField now before i)) (amountField now before i n ∷ []) (fitting-amounts n now before i) (difference-below _ _, tt)
 
-amount-proper : (now before : ℕ) → Proper (42, difference now before)
-amount-proper now before = record { some = omega arith; narrow = omega arith; fits = difference-below now before }
-
-count-proper : (n : ℕ) (p : ℕ → Bool) → n ≤ 16 → Proper (5, countTo n p)
-count-proper n p l = record { some = omega arith; narrow = omega arith; fits = omega (arith, count-most n p) }
-
-module _ (now before : Amounts) (p : ℕ → Bool) (n : ℕ) where
-  -- lines of sellers: four fields of 130 bits in all
-  pub seller-lines-length : length (linesTo n p (sellerFields now before)) ≡ 4 * countTo n p
-  unfolding sellerFields
-  seller-lines-length = lines-measure length refl length-append n 4 p (sellerFields now before) (λ i. refl)
-
-  pub seller-lines-bits : bitsIn (linesTo n p (sellerFields now before)) ≡ 130 * countTo n p
-  unfolding sellerFields
-  seller-lines-bits = lines-measure bitsIn refl bits-append n 130 p (sellerFields now before) (λ i. refl)
-
-  -- lines of LSEs: two fields of 46 bits in all
-  pub lse-lines-length : length (linesTo n p (lseFields now before)) ≡ 2 * countTo n p
-  unfolding lseFields
-  lse-lines-length = lines-measure length refl length-append n 2 p (lseFields now before) (λ i. refl)
-
-  pub lse-lines-bits : bitsIn (linesTo n p (lseFields now before)) ≡ 46 * countTo n p
-  unfolding lseFields
-  lse-lines-bits = lines-measure bitsIn refl bits-append n 46 p (lseFields now before) (λ i. refl)
+fitting-lines : (m n : ℕ) (p : ℕ → Bool) (now before : List ℕ) → m ≤ 16 → Fitting (linesTo m p (lineFields n now before))
+unfolding linesTo lineFields
+fitting-lines zero n p now before l = tt
+fitting-lines (suc m) n p now before l =
+    fitting-append (linesTo m p (lineFields n now before)) (cond (p m) (lineFields n now before m) []) (fitting-lines m n p now before (omega arith)) (go (p m))
+  where
+    go : (b : Bool) → Fitting (cond b (lineFields n now before m) [])
+    go true = (omega arith, fitting-amounts n now before m)
+    go false = tt
 
 module _ {T : Terms} (s : SoundTerms T) (k : ℕ) (now before : Amounts) where
-  pub statement-proper : k < 16 → AllProper (statementFields T k now before)
-  unfolding statementFields sellerFields lseFields
-  statement-proper l =
+  pub statement-fits : k < 16 → Fitting (statementFields T k now before)
+  unfolding statementFields
+  statement-fits l =
       let m = lses-is s in
       let p = hasRegistration T in
       let q = hasObligation T in
       let A = linesTo sellers p (sellerFields now before) in
       let B = linesTo (lses T) q (lseFields now before) in
-      let a : AllProper A = proper-lines sellers p (sellerFields now before) (λ i b. (id-proper i b, (amount-proper _ _, (amount-proper _ _, (amount-proper _ _, tt))))) in
-      let b : AllProper B = proper-lines (lses T) q (lseFields now before) (λ j b. (id-proper j (omega arith), (amount-proper _ _, tt))) in
-      (id-proper k l, (count-proper sellers p (omega arith), (count-proper (lses T) q (omega arith), proper-append A B a b)))
+      let a : Fitting A = fitting-lines sellers 3 p (sellerColumns now) (sellerColumns before) (omega arith) in
+      let b : Fitting B = fitting-lines (lses T) 1 q (now .lse) (before .lse) (omega arith) in
+      (omega arith, (omega (arith, count-most sellers p), (omega (arith, count-most (lses T) q), fitting-append A B a b)))
 
   -- a month of 4 bits and two counts of 5, and the lines
   pub bits-counted : bitsIn (statementFields T k now before) ≡ 14 + 130 * countTo sellers (hasRegistration T) + 46 * countTo (lses T) (hasObligation T)
@@ -119,7 +69,7 @@ module _ {T : Terms} (s : SoundTerms T) (k : ℕ) (now before : Amounts) where
       let q = hasObligation T in
       let A = linesTo sellers p (sellerFields now before) in
       let B = linesTo (lses T) q (lseFields now before) in
-      omega (arith, bits-append A B, seller-lines-bits now before p sellers, lse-lines-bits now before q (lses T))
+      omega (arith, bits-append A B, lines-bits 3 (sellerColumns now) (sellerColumns before) p sellers, lines-bits 1 (now .lse) (before .lse) q (lses T))
 
   pub statement-bits : bitsIn (statementFields T k now before) ≤ 2830
   statement-bits =

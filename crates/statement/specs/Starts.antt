@@ -3,7 +3,7 @@ use Prim.Native.Nat.{ℕ, _+_, _*_, _<_}
 use mathlib.Core.Bool.{true}
 use mathlib.Core.List.{List, _++_}
 use mathlib.Core.Path.{_≡_, refl, ap, _∙_}
-use native.Mathlib.Nat.{add-assoc}
+use native.Mathlib.Nat.{zero-add, add-assoc}
 use native.Mathlib.Omega.{arith}
 use lib.IntN.{ℤ, pos, _-ℤ_}
 use Rattle.ids.specs.Ids.{at}
@@ -13,11 +13,13 @@ use Rattle.year.specs.declared.Amounts.{Amounts}
 use Rattle.year.specs.Year.{lses, sellers}
 use Rattle.year.specs.Sound.{SoundTerms, SoundAmounts}
 use Rattle.year.specs.Limits.{lses-is}
-use Rattle.statement.specs.Statement.{countTo, hasRegistration, hasObligation, sellerFields, lseFields, linesTo, statementFields, statementOf}
-use Rattle.statement.specs.Sizes.{widthsOf, valuesOf, bitsIn, proper-valid, same-length, statement-proper, seller-lines-bits}
+use Rattle.statement.specs.Statement.{widthsOf, valuesOf, countTo, hasRegistration, hasObligation, sellerColumns, lineFields, sellerFields, lseFields, linesTo, statementFields, statementOf}
+use Rattle.statement.specs.Lines.{bitsIn, lines-bits}
+use Rattle.statement.specs.Sizes.{same-length, statement-fits}
+use Rattle.statement.specs.Columns.{Columns, columns-sound, compliance-at, test-at, credit-at}
 use Rattle.statement.specs.Value42.{value42, value-difference}
 use Rattle.statement.specs.ReadBack.{monthIn, sellersIn, lsesIn, idAt, amountAt, sellerLine, lseLine, lineSeller, lineCompliance, lineTest, lineCredit, lineLse, lineLseCredit}
-use Rattle.statement.specs.Reading.{Holds, holds-all, holds-split, holds-line}
+use Rattle.statement.specs.Reading.{Holds, holds-all, holds-split, holds-line, holds-amount}
 
 -- one amount less another, at an id
 abbrev pub less : List ℕ → List ℕ → ℕ → ℤ
@@ -32,20 +34,21 @@ pub record Starts (T : Terms) (k : ℕ) (now before : Amounts) (xs : List ℕ) :
   pub lse : (j : ℕ) → j < 16 → hasObligation T j ≡ true → Holds xs (lseLine xs (countTo j (hasObligation T))) (lseFields now before j)
 
 starts-with : {T : Terms} {k : ℕ} {now before : Amounts} (xs : List ℕ) → SoundTerms T → Holds xs 0 (statementFields T k now before) → Starts T k now before xs
-unfolding statementFields sellerFields lseFields monthIn sellersIn lsesIn
+unfolding statementFields monthIn sellersIn lsesIn
 starts-with {T} {k} {now} {before} xs s all =
     let p = hasRegistration T in
     let q = hasObligation T in
-    let lines = holds-split xs 14 (linesTo sellers p (sellerFields now before)) (linesTo (lses T) q (lseFields now before)) (all .1 .1 .1) in
-    let start : 14 + bitsIn (linesTo sellers p (sellerFields now before)) ≡ 14 + 130 * sellersIn xs =
-    omega (arith, seller-lines-bits now before p sellers, all .1 .0) in
-    let later : Holds xs (14 + 130 * sellersIn xs) (linesTo (lses T) q (lseFields now before)) = rw start at (lines .1) in
+    let A = linesTo sellers p (sellerFields now before) in
+    let B = linesTo (lses T) q (lseFields now before) in
+    let lines = holds-split xs 14 A B (all .1 .1 .1) in
+    let start : 14 + bitsIn A ≡ 14 + 130 * sellersIn xs = omega (arith, lines-bits 3 (sellerColumns now) (sellerColumns before) p sellers, all .1 .0) in
+    let later : Holds xs (14 + 130 * sellersIn xs) B = rw start at (lines .1) in
     record {
       month = all .0;
       sellers = all .1 .0;
       lses = all .1 .1 .0 ∙ ap (λ n. countTo n q) (lses-is s);
-      seller = holds-line xs 14 130 sellers p (sellerFields now before) (λ i. refl) (lines .0);
-      lse = λ j l. holds-line xs (14 + 130 * sellersIn xs) 46 (lses T) q (lseFields now before) (λ i. refl) later j (omega (arith, lses-is s));
+      seller = holds-line xs 14 3 (sellerColumns now) (sellerColumns before) p sellers (lines .0);
+      lse = λ j l. holds-line xs (14 + 130 * sellersIn xs) 1 (now .lse) (before .lse) q (lses T) later j (omega (arith, lses-is s));
     }
 
 pub starts : {T : Terms} {k : ℕ} (now before : Amounts) (rest : List ℕ) → SoundTerms T → k < 16 → Starts T k now before (statementOf T k now before ++ rest)
@@ -53,7 +56,20 @@ unfolding statementOf
 starts {T} {k} now before rest s l =
     let fs = statementFields T k now before in
     starts-with (statementOf T k now before ++ rest) s
-    (holds-all _ 0 fs (read-back (widthsOf fs) (valuesOf fs) rest (proper-valid fs (statement-proper s k now before l)) (same-length fs)))
+    (holds-all _ 0 fs (read-back (widthsOf fs) (valuesOf fs) rest (statement-fits s k now before l) (same-length fs)))
+
+-- what the line of party i at p says: its id, and in each column what is due now less what was before
+pub record Line (xs : List ℕ) (p n : ℕ) (now before : List ℕ) (i : ℕ) : Type 0 where
+  pub id : idAt xs p ≡ i
+  pub amount : (k : ℕ) → k < n → amountAt xs (p + (4 + 42 * k)) ≡ less now before (16 * k + i)
+
+line-reads : {xs : List ℕ} {p n : ℕ} {now before : List ℕ} {i : ℕ} → Columns n now → Columns n before → i < 16 → Holds xs p (lineFields n now before i) → Line xs p n now before i
+unfolding lineFields idAt amountAt
+line-reads {xs} {p} {n} {now} {before} {i} a b l h =
+    record {
+      id = h .0;
+      amount = λ k m. ap value42 (rw (add-assoc p 4 (42 * k)) at (holds-amount xs (p + 4) n now before i (h .1) k m)) ∙ value-difference _ _ (a .at (16 * k + i) (omega arith)) (b .at (16 * k + i) (omega arith));
+    }
 
 -- the lines of sellers and of LSEs
 pub record SellerLine (xs : List ℕ) (now before : Amounts) (s i : ℕ) : Type 0 where
@@ -68,19 +84,16 @@ pub record LseLine (xs : List ℕ) (now before : Amounts) (j i : ℕ) : Type 0 w
 
 module _ {T : Terms} {k : ℕ} {now before : Amounts} {xs : List ℕ} (f : Starts T k now before xs) (a : SoundAmounts now) (b : SoundAmounts before) where
   pub seller-line : (s : ℕ) → s < 16 → hasRegistration T s ≡ true → SellerLine xs now before s (countTo s (hasRegistration T))
-  unfolding sellerFields idAt amountAt
   seller-line s l e =
-      let h = f .seller s l e in
-      let p = sellerLine xs (countTo s (hasRegistration T)) in
+      let h = line-reads (columns-sound a) (columns-sound b) l (f .seller s l e) in
       record {
-        id = h .0;
-        compliance = ap value42 (h .1 .0) ∙ value-difference _ _ (a .compliance .at s l) (b .compliance .at s l);
-        test = ap value42 (rw (add-assoc p 4 42) at (h .1 .1 .0)) ∙ value-difference _ _ (a .test .at s l) (b .test .at s l);
-        credit = ap value42 (rw (add-assoc p 4 42, add-assoc p 46 42) at (h .1 .1 .1 .0)) ∙ value-difference _ _ (a .credit .at s l) (b .credit .at s l);
+        id = h .id;
+        compliance = h .amount 0 (omega arith) ∙ rw (compliance-at a (0 + s) s l (omega arith), compliance-at b (0 + s) s l (omega arith));
+        test = h .amount 1 (omega arith) ∙ rw (test-at a (16 + s) s l refl, test-at b (16 + s) s l refl);
+        credit = h .amount 2 (omega arith) ∙ rw (credit-at a (32 + s) s l refl, credit-at b (32 + s) s l refl);
       }
 
   pub lse-line : (j : ℕ) → j < 16 → hasObligation T j ≡ true → LseLine xs now before j (countTo j (hasObligation T))
-  unfolding lseFields idAt amountAt
   lse-line j l e =
-      let h = f .lse j l e in
-      record { id = h .0; credit = ap value42 (h .1 .0) ∙ value-difference _ _ (a .lse .at j l) (b .lse .at j l) }
+      let h = line-reads (a .lse) (b .lse) l (f .lse j l e) in
+      record { id = h .id; credit = rw (zero-add j) at (h .amount 0 (omega arith)) }

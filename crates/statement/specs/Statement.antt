@@ -1,9 +1,9 @@
 -- A close's statement: its fields in order, and its bits.
-use Prim.Native.Nat.{ℕ, zero, suc, _+_, _-_, _%_, _^_}
+use Prim.Native.Nat.{ℕ, zero, suc, _+_, _-_, _*_, _%_, _^_}
 use mathlib.Core.Bool.{Bool, _&&_, cond}
 use mathlib.Core.List.{List, [], _∷_, _++_, map}
 use lib.Dec.{ltb, eqb}
-use Rattle.ids.specs.Ids.{at, sumTo, anyTo}
+use Rattle.ids.specs.Ids.{at, sumTo, anyTo, tabulate}
 use Rattle.bits.specs.Pack.{encode}
 use Rattle.year.specs.declared.Terms.{Terms}
 use Rattle.year.specs.declared.Amounts.{Amounts}
@@ -36,20 +36,31 @@ module _ (T : Terms) where
 abbrev pub Field : Type 0
 Field = ℕ × ℕ
 
--- the amounts to date of this close and of the close before
-module _ (now before : Amounts) where
-  -- seller s: compliance, test, credit
-  unfoldable pub sellerFields : ℕ → List Field
-  sellerFields s =
-      (4, s)
-      ∷ (amountBits, difference (at (now .compliance) s) (at (before .compliance) s))
-      ∷ (amountBits, difference (at (now .test) s) (at (before .test) s))
-      ∷ (amountBits, difference (at (now .credit) s) (at (before .credit) s))
-      ∷ []
+abbrev pub widthsOf : List Field → List ℕ
+widthsOf fs = map (λ f. f .0) fs
 
-  -- LSE j: credit
-  unfoldable pub lseFields : ℕ → List Field
-  lseFields j = (4, j) ∷ (amountBits, difference (at (now .lse) j) (at (before .lse) j)) ∷ []
+abbrev pub valuesOf : List Field → List ℕ
+valuesOf fs = map (λ f. f .1) fs
+
+-- amounts to date stand in columns of sixteen ids, one after another: of sellers, compliance, test and credit
+unfoldable pub sellerColumns : Amounts → List ℕ
+sellerColumns a = a .compliance ++ (a .test ++ a .credit)
+
+-- the amount of party i in column k: to date now less to date before
+abbrev pub amountField : List ℕ → List ℕ → ℕ → ℕ → Field
+amountField now before i k = (amountBits, difference (at now (16 * k + i)) (at before (16 * k + i)))
+
+-- the line of party i: its id, and its amounts in n columns
+unfoldable pub lineFields : ℕ → List ℕ → List ℕ → ℕ → List Field
+lineFields n now before i = (4, i) ∷ tabulate n (amountField now before i)
+
+-- the line of a seller: compliance, test, credit; of an LSE: credit
+module _ (now before : Amounts) where
+  abbrev pub sellerFields : ℕ → List Field
+  sellerFields = lineFields 3 (sellerColumns now) (sellerColumns before)
+
+  abbrev pub lseFields : ℕ → List Field
+  lseFields = lineFields 1 (now .lse) (before .lse)
 
 -- the lines of the ids below n that pass a test, rising
 unfoldable pub linesTo : ℕ → (ℕ → Bool) → (ℕ → List Field) → List Field
@@ -65,4 +76,4 @@ module _ (T : Terms) (k : ℕ) (now before : Amounts) where
 
   -- its bytes, zero bits filling the last
   unfoldable pub statementOf : List ℕ
-  statementOf = encode (map (λ f. f .0) statementFields) (map (λ f. f .1) statementFields)
+  statementOf = encode (widthsOf statementFields) (valuesOf statementFields)

@@ -1,22 +1,18 @@
 // A close's statement: its lines, and their bits.
 ghost use mathlib.Core.Path.{_≡_};
-ghost use mathlib.Core.List.{[], _∷_, _++_};
-ghost use Prim.Native.Nat.{ℕ, _^_, _≤_, _<_};
+ghost use mathlib.Core.List.{_++_};
+ghost use Prim.Native.Nat.{ℕ, _+_, _*_, _^_, _≤_, _<_};
 ghost use lib.ListN.{length, drop};
 ghost use Rattle.ids.specs.Ids.{holds};
 ghost use Rattle.year.specs.declared.Amounts.{Amounts};
 ghost use Rattle.year.specs.Sound.{SoundTerms, SoundAmounts};
-ghost use Rattle.statement.specs.Statement.{countTo, difference, hasRegistration, hasObligation, sellerFields, lseFields, linesTo, statementFields, statementOf};
-ghost use Rattle.statement.specs.Code.{Marks, listed, Room, Extended};
+ghost use Rattle.bits.specs.Written.{writtenBits, Ready};
+ghost use Rattle.statement.specs.Statement.{countTo, difference, hasRegistration, hasObligation, sellerColumns, lineFields, sellerFields, lseFields, linesTo, statementOf};
+ghost use Rattle.statement.specs.Columns.{Columns};
+ghost use Rattle.statement.specs.Code.{Marks, Laid};
+use bits::writer::Writer;
 use year::Amounts;
 use year::Terms;
-
-// The fields of a statement so far, in order: their widths and values.
-struct Fields {
-    count: usize,
-    widths: [u8; 99],
-    values: [u64; 99],
-}
 
 // Which sellers have a registration.
 fn present(terms: Terms) -> [bool; 16]
@@ -72,103 +68,93 @@ fn difference(owed: u64, billed: u64) -> u64
     (owed + 4398046511104 - billed) % 4398046511104
 }
 
-// One more field.
-fn with_field(f: Fields, width: u8, value: u64) -> Fields
-    requires { ⌜ Room f 1 ⌝ }
-    ensures { λ r. ⌜ Extended f r ((width, value) ∷ []) ⌝ }
+// The sellers' amounts in columns, one after another.
+fn columns(amounts: Amounts) -> [u64; 48]
+    requires { ⌜ SoundAmounts amounts ⌝ }
+    ensures { λ r. ⌜ r ≡ sellerColumns amounts ⌝ }
 {
-    let mut r = f;
-    let n = r.count;
-    r.widths[n] = width;
-    r.values[n] = value;
-    r.count = n + 1;
-    r
-}
-
-// The line of a seller.
-fn with_seller(f: Fields, s: usize, owed: Amounts, billed: Amounts) -> Fields
-    requires { ⌜ Room f 4 ⌝ }
-    requires { ⌜ s < 16 ⌝ }
-    requires { ⌜ SoundAmounts owed ⌝ }
-    requires { ⌜ SoundAmounts billed ⌝ }
-    ensures { λ r. ⌜ Extended f r (sellerFields owed billed s) ⌝ }
-{
-    let a = with_field(f, 4, s as u64);
-    let b = with_field(a, 42, difference(owed.compliance[s], billed.compliance[s]));
-    let c = with_field(b, 42, difference(owed.test[s], billed.test[s]));
-    with_field(c, 42, difference(owed.credit[s], billed.credit[s]))
-}
-
-// The line of an LSE.
-fn with_lse(f: Fields, j: usize, owed: Amounts, billed: Amounts) -> Fields
-    requires { ⌜ Room f 2 ⌝ }
-    requires { ⌜ j < 16 ⌝ }
-    requires { ⌜ SoundAmounts owed ⌝ }
-    requires { ⌜ SoundAmounts billed ⌝ }
-    ensures { λ r. ⌜ Extended f r (lseFields owed billed j) ⌝ }
-{
-    let a = with_field(f, 4, j as u64);
-    with_field(a, 42, difference(owed.lse[j], billed.lse[j]))
-}
-
-// The lines of the marked sellers.
-fn with_sellers(f: Fields, marks: [bool; 16], owed: Amounts, billed: Amounts) -> Fields
-    requires { ⌜ Room f 64 ⌝ }
-    requires { ⌜ SoundAmounts owed ⌝ }
-    requires { ⌜ SoundAmounts billed ⌝ }
-    ensures { λ r. ⌜ Extended f r (linesTo 16 (holds marks) (sellerFields owed billed)) ⌝ }
-{
-    let mut r = f;
-    let mut s: usize = 0;
-    while s < 16 {
-        if marks[s] {
-            r = with_seller(r, s, owed, billed);
-        }
-        s += 1;
+    let mut r = [0u64; 48];
+    let mut i: usize = 0;
+    while i < 48 {
+        let cents = if i < 16 {
+            amounts.compliance[i]
+        } else if i < 32 {
+            amounts.test[i - 16]
+        } else {
+            amounts.credit[i - 32]
+        };
+        r[i] = cents;
+        i += 1;
     }
     r
 }
 
-// The lines of the marked LSEs.
-fn with_lses(f: Fields, marks: [bool; 16], owed: Amounts, billed: Amounts) -> Fields
-    requires { ⌜ Room f 32 ⌝ }
-    requires { ⌜ SoundAmounts owed ⌝ }
-    requires { ⌜ SoundAmounts billed ⌝ }
-    ensures { λ r. ⌜ Extended f r (linesTo 16 (holds marks) (lseFields owed billed)) ⌝ }
+// A party's line: its id, and its n amounts.
+fn put_line(
+    w: Writer,
+    bytes: &mut [u8],
+    id: usize,
+    n: usize,
+    owed: &[u64],
+    billed: &[u64],
+) -> Writer
+    requires { ⌜ Ready w ⌝ }
+    requires { ⌜ id < 16 ⌝ }
+    requires { ⌜ Columns n (now owed) × Columns n (now billed) ⌝ }
+    requires { ⌜ writtenBits w + (4 + 42 * n) ≤ 8 * length (now bytes) ⌝ }
+    ensures { λ r. ⌜ Laid (now (bytes .entry)) (now (bytes .exit)) w r (lineFields n (now (owed .entry)) (now (billed .entry)) id) ⌝ }
 {
-    let mut r = f;
-    let mut j: usize = 0;
-    while j < 16 {
-        if marks[j] {
-            r = with_lse(r, j, owed, billed);
-        }
-        j += 1;
+    let mut r = w.put(bytes, 4, id as u64);
+    let mut k: usize = 0;
+    while k < n {
+        let place = 16 * k + id;
+        r = r.put(bytes, 42, difference(owed[place], billed[place]));
+        k += 1;
     }
     r
 }
 
-// The fields of the statement of a month.
-fn fields_of(terms: Terms, month: u64, owed: Amounts, billed: Amounts) -> Fields
-    requires { ⌜ SoundTerms terms ⌝ }
-    requires { ⌜ SoundAmounts owed ⌝ }
-    requires { ⌜ SoundAmounts billed ⌝ }
-    ensures { λ r. ⌜ Room r 0 ⌝ }
-    ensures { λ r. ⌜ listed r ≡ statementFields terms month owed billed ⌝ }
+// The lines of the marked parties.
+fn put_lines(
+    w: Writer,
+    bytes: &mut [u8],
+    marks: [bool; 16],
+    n: usize,
+    owed: &[u64],
+    billed: &[u64],
+) -> Writer
+    requires { ⌜ Ready w ⌝ }
+    requires { ⌜ Columns n (now owed) × Columns n (now billed) ⌝ }
+    requires { ⌜ writtenBits w + (4 + 42 * n) * 16 ≤ 8 * length (now bytes) ⌝ }
+    ensures { λ r. ⌜ Laid (now (bytes .entry)) (now (bytes .exit)) w r (linesTo 16 (holds marks) (lineFields n (now (owed .entry)) (now (billed .entry)))) ⌝ }
 {
-    let sellers = present(terms);
-    let lses = obliged(terms);
-    let widths = [0u8; 99];
-    let values = [0u64; 99];
-    let none = Fields {
-        count: 0,
-        widths: widths,
-        values: values,
-    };
-    let a = with_field(none, 4, month);
-    let b = with_field(a, 5, count(sellers));
-    let c = with_field(b, 5, count(lses));
-    let d = with_sellers(c, sellers, owed, billed);
-    with_lses(d, lses, owed, billed)
+    let mut r = w;
+    let mut id: usize = 0;
+    while id < 16 {
+        if marks[id] {
+            r = put_line(r, bytes, id, n, owed, billed);
+        }
+        id += 1;
+    }
+    r
+}
+
+// The lines of the marked sellers, then those of the marked LSEs.
+fn put_parties(
+    w: Writer,
+    bytes: &mut [u8],
+    sellers: [bool; 16],
+    lses: [bool; 16],
+    owed: Amounts,
+    billed: Amounts,
+) -> Writer
+    requires { ⌜ Ready w ⌝ }
+    requires { ⌜ SoundAmounts owed × SoundAmounts billed ⌝ }
+    requires { ⌜ writtenBits w + 2816 ≤ 8 * length (now bytes) ⌝ }
+    ensures { λ r. ⌜ Laid (now (bytes .entry)) (now (bytes .exit)) w r (linesTo 16 (holds sellers) (sellerFields owed billed) ++ linesTo 16 (holds lses) (lseFields owed billed)) ⌝ }
+{
+    let lines = put_lines(w, bytes, sellers, 3, &columns(owed), &columns(billed));
+    put_lines(lines, bytes, lses, 1, &owed.lse, &billed.lse)
 }
 
 // The bytes of a statement: its lines are by the terms alone.
@@ -190,9 +176,9 @@ pub fn write_statement(terms: Terms, month: u64, owed: Amounts, billed: Amounts,
     requires { ⌜ 354 ≤ length (now bytes) ⌝ }
     ensures { λ r. ⌜ now (bytes .exit) ≡ (let s = statementOf terms month owed billed in s ++ drop (length s) (now (bytes .entry))) ⌝ }
 {
-    let f = fields_of(terms, month, owed, billed);
-    let n = f.count;
-    let widths = f.widths;
-    let values = f.values;
-    bits::put_all(bytes, &widths[..n], &values[..n]);
+    let sellers = present(terms);
+    let lses = obliged(terms);
+    let front = [month, count(sellers), count(lses)];
+    let w = Writer::new().put_all(bytes, &[4, 5, 5], &front);
+    put_parties(w, bytes, sellers, lses, owed, billed).finish(bytes);
 }

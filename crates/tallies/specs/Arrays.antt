@@ -1,7 +1,8 @@
 -- What the loops over entries compute, from arrays by registration (64 places) and by seller (16 places).
-use Prim.Native.Nat.{ℕ, _+_, _-_, _*_, _≤_, _<_}
+use Prim.Native.Nat.{ℕ, _+_, _-_, _*_, _≤_, _<_, _^_}
 use mathlib.Core.List.{List}
 use mathlib.Core.Bool.{Bool, true, _&&_, cond}
+use native.Mathlib.Nat.{mul-le-mul, lt-of-le-of-lt}
 use lib.ListN.{set}
 use lib.Dec.{eqb}
 use Rattle.ids.specs.Ids.{at, holds, sumTo}
@@ -41,3 +42,7 @@ Sellers l = (i : ℕ) → at l i < 16
 -- what is committed has rates of at most 100,000
 abbrev pub Rated : List ℕ → List ℕ → Type 0
 Rated committed value = (s : ℕ) → at value s ≤ 100000 * at committed s
+
+-- a product of two numbers within their bounds
+pub product-fits : (m n : ℕ) {a b : ℕ} → a ≤ m → b ≤ n → m * n < 2 ^ 64 → a * b < 2 ^ 64
+product-fits m n p q l = lt-of-le-of-lt (mul-le-mul p q) l

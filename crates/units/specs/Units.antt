@@ -2,7 +2,7 @@
 use Prim.Native.Nat.{ℕ, _*_, _/_, _≤_}
 use mathlib.Core.Path.{_≡_}
 use native.Mathlib.Omega.{arith}
-use native.Mathlib.Nat.{zero-mul, mul-assoc, mul-le-mul, mul-le-mul-left, mul-le-mul-right}
+use native.Mathlib.Nat.{zero-mul, mul-assoc, mul-le-mul, mul-le-mul-left}
 
 -- the most kilowatts of one registration, nominated and unforced
 abbrev pub nominatedLimit : ℕ
@@ -26,11 +26,6 @@ convert factor requirement a = a * factor * requirement / 100000000
 pub convert-zero : (f r : ℕ) → convert f r 0 ≡ 0
 unfolding convert
 convert-zero f r = rw (zero-mul f, zero-mul r)
-
-pub convert-mono : (f r : ℕ) {a b : ℕ} → a ≤ b → convert f r a ≤ convert f r b
-unfolding convert
-convert-mono f r {a} {b} h =
-    let m : a * f * r ≤ b * f * r = mul-le-mul-right r (mul-le-mul-right f h) in omega arith
 
 -- the product that the conversion divides
 pub product-le : {f r : ℕ} (a : ℕ) → f ≤ factorLimit → r ≤ factorLimit → a * f * r ≤ a * 144000000

@@ -9,7 +9,7 @@ use lib.ListN.{length, getD}
 use Rattle.ids.specs.Each.{Each}
 use Rattle.year.specs.declared.Listing.{Listing}
 use Rattle.year.specs.declared.Terms.{Terms}
-use Rattle.year.specs.Year.{registration, known, seller, area, zone, product, committed, rate, obligation, size, lses, reduction, deficit}
+use Rattle.year.specs.Year.{registration, known, seller, zone, product, committed, rate, size, lses, reduction}
 use Rattle.year.specs.Sound.{SoundRegistration, AtMost, SoundListing, SoundTerms}
 use Rattle.year.specs.Kept.{sound-no-registration}
 
@@ -31,10 +31,6 @@ module _ {T : Terms} (s : SoundTerms T) where
   unfolding seller
   seller-below i = registration-sound i .seller
 
-  pub area-below : (i : ℕ) → area T i < 8
-  unfolding area
-  area-below i = registration-sound i .area
-
   pub zone-below : (i : ℕ) → zone T i < 8
   unfolding zone
   zone-below i = registration-sound i .zone
@@ -55,10 +51,6 @@ module _ {T : Terms} (s : SoundTerms T) where
   unfolding rate
   rate-most i = registration-sound i .rate
 
-  pub obligation-most : (j : ℕ) → obligation T j ≤ 1000000
-  unfolding obligation
-  obligation-most = each-anywhere (AtMost 1000000) (lit≤ tt) (s .obligations)
-
   pub size-is : size T ≡ 64
   size-is = s .registrations .long
 
@@ -69,7 +61,3 @@ module _ {l : Listing} (s : SoundListing l) where
   pub reduction-most : (i : ℕ) → reduction l i ≤ 100000
   unfolding reduction
   reduction-most = each-anywhere (AtMost 100000) (lit≤ tt) (s .reductions)
-
-  pub deficit-most : (j : ℕ) → deficit l j ≤ 1000000
-  unfolding deficit
-  deficit-most = each-anywhere (AtMost 1000000) (lit≤ tt) (s .deficits)

@@ -1,8 +1,8 @@
 //! The records and files that are timed.
 
-use settlement::damage::encode;
-use settlement::plan::{full_year, Numbers};
-use settlement::random::Random;
+use settlement::cases::plan::full_year;
+use settlement::cases::random::Random;
+use settlement::cases::record::{file, Numbers};
 
 /// Full years of several seeds, whose values are spread in several ways.
 pub struct Inputs {
@@ -36,10 +36,6 @@ impl Inputs {
     }
 }
 
-fn file(records: &[Numbers]) -> Vec<u8> {
-    records.iter().flat_map(|numbers| encode(numbers)).collect()
-}
-
 /// An event or a test of June, so that it may come before the first close.
 fn in_june(numbers: &[u64]) -> Numbers {
     let mut numbers = numbers.to_vec();
@@ -61,12 +57,12 @@ pub fn records() -> Vec<(&'static str, Numbers)> {
         numbers
     };
     vec![
-        ("opening", vec![1, 0, 9_500, 10_800]),
-        ("registration", vec![2, 63, 15, 7, 7, 2, 99_999, 12_345]),
-        ("LSE", vec![3, 15, 999_999]),
-        ("event of 1 entry", lists([4, 1, 1, 1], 0, 1)),
-        ("event of 64 entries", lists([4, 1, 1, 1], 16, 64)),
-        ("test of 64 entries", lists([5, 1, 0, 1], 16, 64)),
-        ("close", vec![6, 15]),
+        ("an opening", vec![1, 0, 9_500, 10_800]),
+        ("a registration", vec![2, 63, 15, 7, 7, 2, 99_999, 12_345]),
+        ("an LSE", vec![3, 15, 999_999]),
+        ("an event of 1 entry", lists([4, 1, 1, 1], 0, 1)),
+        ("an event of 64 entries", lists([4, 1, 1, 1], 16, 64)),
+        ("a test of 64 entries", lists([5, 1, 0, 1], 16, 64)),
+        ("a close", vec![6, 15]),
     ]
 }

@@ -1,13 +1,18 @@
-//! Times the proved engine (Rattle) and this implementation (Rust) on the same inputs.
+//! Times the proved engine (Rattle) and this implementation (Rust) on the same inputs. Prints the
+//! table of docs/DECISIONS.md, "Speed".
 
+mod flood;
 mod inputs;
 mod race;
 
 use std::hint::black_box;
+use std::io;
 
-use settlement::damage::encode;
-use settlement::{piermint, Billed, Read, Written};
+use settlement::cases::record::{encode, Numbers};
+use settlement::layout::{MOST_BYTES, MOST_NUMBERS};
+use settlement::{piermint, Billed, Read, Written, MOST_STATEMENTS};
 
+use flood::FLOODS;
 use inputs::{records, Inputs};
 use race::{race, Times};
 
@@ -18,39 +23,72 @@ const EVENTS: (u64, usize) = (4, 16);
 const TESTS: (u64, usize) = (5, 24);
 const CLOSES: (u64, usize) = (6, 15);
 
-fn main() {
+/// What the times of Rattle are to be at most, as a multiple of Rust's.
+const READ_OR_WRITE: &str = "1.0";
+const CLOSE: &str = "1.2";
+const YEAR: &str = "1.5";
+const NO_GOAL: &str = "";
+
+fn main() -> io::Result<()> {
+    println!("| | goal | Rust | Rattle | ratio |");
+    println!("|---|---|---|---|---|");
+    let records = records();
+    for ((name, _), times) in records.iter().zip(read(&records)) {
+        row(&format!("reading {name}"), READ_OR_WRITE, times);
+    }
+    for ((name, _), times) in records.iter().zip(write(&records)) {
+        row(&format!("writing {name}"), READ_OR_WRITE, times);
+    }
     let inputs = Inputs::new();
-    heading("reading a record");
-    for (name, numbers) in records() {
-        line(name, read(&encode(&numbers)));
-    }
-    heading("writing a record");
-    for (name, numbers) in records() {
-        line(name, write(&numbers));
-    }
     take_records(&inputs);
     close_months(&inputs);
-    heading("billing a full year");
-    line("136 records", bill(&inputs.full_years()));
+    let [year] = bill([inputs.full_years()]);
+    row("a full year, 136 records", YEAR, year);
+    for flood in FLOODS {
+        row(&flood.name(), NO_GOAL, flood.race()?);
+    }
+    Ok(())
+}
+
+fn row(name: &str, goal: &str, times: Times) {
+    let [rust, rattle] = [times.rust, times.rattle].map(duration);
+    println!(
+        "| {name} | {goal} | {rust} | {rattle} | {:.2} |",
+        times.ratio()
+    );
+}
+
+fn duration(nanoseconds: f64) -> String {
+    let (time, unit) = match nanoseconds {
+        ..1e3 => (nanoseconds, "ns"),
+        ..1e6 => (nanoseconds / 1e3, "µs"),
+        ..1e9 => (nanoseconds / 1e6, "ms"),
+        _ => (nanoseconds / 1e9, "s"),
+    };
+    match time {
+        ..100.0 => format!("{time:.1} {unit}"),
+        _ => format!("{time:.0} {unit}"),
+    }
 }
 
 /// Taking is timed as billing a file less billing it without the records in question.
 fn take_records(inputs: &Inputs) {
-    let opening = bill(&inputs.files(&[OPENING]));
-    let registrations = bill(&inputs.files(&[OPENING, REGISTRATIONS]));
-    let lses = bill(&inputs.files(&[OPENING, LSES]));
-    let parties = bill(&inputs.files(&[OPENING, REGISTRATIONS, LSES]));
-    let events = bill(&inputs.files(&[OPENING, REGISTRATIONS, LSES, EVENTS]));
-    let tests = bill(&inputs.files(&[OPENING, REGISTRATIONS, LSES, TESTS]));
-    heading("taking a record");
-    line("new book and opening", opening);
-    line(
-        "registration",
-        registrations.less(opening).per(REGISTRATIONS.1),
-    );
-    line("LSE", lses.less(opening).per(LSES.1));
-    line("event of 64 entries", events.less(parties).per(EVENTS.1));
-    line("test of 2 or 3 entries", tests.less(parties).per(TESTS.1));
+    let [opening, registrations, lses, parties, events, tests] = bill([
+        inputs.files(&[OPENING]),
+        inputs.files(&[OPENING, REGISTRATIONS]),
+        inputs.files(&[OPENING, LSES]),
+        inputs.files(&[OPENING, REGISTRATIONS, LSES]),
+        inputs.files(&[OPENING, REGISTRATIONS, LSES, EVENTS]),
+        inputs.files(&[OPENING, REGISTRATIONS, LSES, TESTS]),
+    ]);
+    let registration = registrations.less(opening).per(REGISTRATIONS.1);
+    let event = events.less(parties).per(EVENTS.1);
+    let test = tests.less(parties).per(TESTS.1);
+    row("a new book that takes an opening", NO_GOAL, opening);
+    row("taking a registration", NO_GOAL, registration);
+    row("taking an LSE", NO_GOAL, lses.less(opening).per(LSES.1));
+    row("taking an event of 64 entries", NO_GOAL, event);
+    row("taking a test of 2 or 3 entries", NO_GOAL, test);
 }
 
 /// Closing is timed as billing 15 closes less billing the file without them, a mean of the 15.
@@ -58,66 +96,72 @@ fn close_months(inputs: &Inputs) {
     let close = |events| {
         let open = [OPENING, REGISTRATIONS, LSES, (EVENTS.0, events)];
         let closed = [&open[..], &[CLOSES]].concat();
-        let closes = bill(&inputs.files(&closed)).less(bill(&inputs.files(&open)));
-        closes.per(CLOSES.1)
+        let [open, closed] = bill([inputs.files(&open), inputs.files(&closed)]);
+        closed.less(open).per(CLOSES.1)
     };
-    heading("closing a month");
-    let times: Vec<Times> = (0..=EVENTS.1).map(close).collect();
-    for (events, times) in times.iter().enumerate() {
-        line(&format!("{} entries in events", 64 * events), *times);
-    }
-    let growth = times[EVENTS.1].less(times[0]);
-    line("each entry more", growth.per(64 * EVENTS.1));
+    let [none, one, half, all] = [0, 1, EVENTS.1 / 2, EVENTS.1].map(close);
+    row("closing with 16 events of 64 entries", CLOSE, all);
+    row("closing with 8", CLOSE, half);
+    row("closing with 1", CLOSE, one);
+    row("closing with none", CLOSE, none);
+    let entry = all.less(none).per(64 * EVENTS.1);
+    row("each entry more in a close", NO_GOAL, entry);
 }
 
-fn read(record: &[u8]) -> Times {
+/// Reading each of the records, which are accepted.
+fn read(records: &[(&str, Numbers)]) -> Vec<Times> {
     type Call = fn(&[u8], &mut [u64]) -> Read;
-    let mut numbers = [0; 166];
-    let call = |call: Call| {
-        black_box(call(black_box(record), black_box(&mut numbers)));
+    let input = |(_, numbers): &(&str, Numbers)| {
+        let record = encode(numbers);
+        let accepted = Read {
+            number: 0,
+            count: numbers.len(),
+            used: record.len(),
+        };
+        (record, accepted)
     };
-    race(call, settlement::read, piermint::read)
+    let inputs: Vec<_> = records.iter().map(input).collect();
+    let mut lent = [0; MOST_NUMBERS];
+    let call = |call: Call, record: &Vec<u8>| call(black_box(record), black_box(&mut lent));
+    race(&inputs, call, settlement::read, piermint::read)
 }
 
-fn write(numbers: &[u64]) -> Times {
+/// Writing each of the records, which are accepted.
+fn write(records: &[(&str, Numbers)]) -> Vec<Times> {
     type Call = fn(&[u64], &mut [u8]) -> Written;
-    let mut bytes = [0; 234];
-    let call = |call: Call| {
-        black_box(call(black_box(numbers), black_box(&mut bytes)));
+    let input = |(_, numbers): &(&str, Numbers)| {
+        let used = encode(numbers).len();
+        (numbers.clone(), Written { number: 0, used })
     };
-    race(call, settlement::write, piermint::write)
+    let inputs: Vec<_> = records.iter().map(input).collect();
+    let mut lent = [0; MOST_BYTES];
+    let call = |call: Call, numbers: &Numbers| call(black_box(numbers), black_box(&mut lent));
+    race(&inputs, call, settlement::write, piermint::write)
 }
 
-/// The time of billing a file, the mean of these.
-fn bill(files: &[Vec<u8>]) -> Times {
+/// For each of the sets of files, whose records are all accepted, the mean time of billing one.
+fn bill<const N: usize>(sets: [Vec<Vec<u8>>; N]) -> [Times; N] {
     type Call = fn(&[u8], &mut [u64], &mut [u8]) -> Billed;
     let mut numbers = [0; 256];
-    let mut statements = [0; 15 * 354];
-    let bill = |file: &Vec<u8>| {
-        let call = |call: Call| {
-            let (numbers, statements) = (black_box(&mut numbers), black_box(&mut statements));
-            black_box(call(black_box(file), numbers, statements));
-        };
-        race(call, settlement::bill, piermint::bill)
+    let mut statements = [0; MOST_STATEMENTS];
+    let mut call = |call: Call, file: &&Vec<u8>| {
+        let (numbers, statements) = (black_box(&mut numbers), black_box(&mut statements));
+        let billed = call(black_box(file), numbers, statements);
+        let is_refused = |number: &u64| *number != 0;
+        (billed, numbers[..billed.records].iter().any(is_refused))
     };
-    files.iter().map(bill).sum::<Times>().per(files.len())
-}
-
-fn heading(name: &str) {
-    println!(
-        "\n{name:26}{:>12}{:>12}{:>16}",
-        "Rust", "Rattle", "Rattle : Rust"
-    );
-}
-
-fn line(name: &str, times: Times) {
-    let [rust, rattle] = [times.rust, times.rattle].map(nanoseconds);
-    println!("{name:26}{rust:>12}{rattle:>12}{:>16.2}", times.ratio());
-}
-
-fn nanoseconds(time: f64) -> String {
-    match time {
-        ..10_000.0 => format!("{time:.1} ns"),
-        _ => format!("{:.1} us", time / 1_000.0),
-    }
+    let input = |file| {
+        let (billed, any_refused) = call(settlement::bill, &file);
+        assert!(
+            billed.used == file.len() && !any_refused,
+            "is all accepted?"
+        );
+        (file, (billed, any_refused))
+    };
+    let inputs: Vec<_> = sets.iter().flatten().map(input).collect();
+    let mut times = race(&inputs, call, settlement::bill, piermint::bill).into_iter();
+    sets.each_ref().map(|set| {
+        let of_set: Times = times.by_ref().take(set.len()).sum();
+        of_set.per(set.len())
+    })
 }

@@ -1,14 +1,16 @@
 //! Timing the two sides against each other.
 //!
-//! A round calls one side as often as fills about half a millisecond, between two readings of the
-//! clock. Rounds of the sides alternate, so that both meet the same machine, and the fastest of
-//! each side counts: what else runs on the machine only adds time. Ratios within one run are what
-//! to look at; the times themselves depend on the machine.
+//! A lap calls one side on one input as often as fills about half a millisecond, between two readings
+//! of the clock. A round has a lap of each input and side, so that all meet the same machine, and the
+//! fastest of the rounds counts: what else runs on the machine only adds time. Ratios within one run
+//! are what to look at; the times themselves depend on the machine.
 
+use std::fmt::Debug;
+use std::hint::black_box;
 use std::iter::Sum;
 use std::time::{Duration, Instant};
 
-const ROUND: Duration = Duration::from_micros(500);
+const LAP: Duration = Duration::from_micros(500);
 const ROUNDS: usize = 60;
 
 /// Nanoseconds of each side.
@@ -23,11 +25,19 @@ impl Times {
         self.rattle / self.rust
     }
 
+    /// Before anything is timed.
+    pub fn slowest() -> Self {
+        Times {
+            rust: f64::INFINITY,
+            rattle: f64::INFINITY,
+        }
+    }
+
     /// For each of so many.
     pub fn per(self, count: usize) -> Self {
         Times {
-            rust: self.rust / count as f64,
-            rattle: self.rattle / count as f64,
+            rust: each(self.rust, count),
+            rattle: each(self.rattle, count),
         }
     }
 
@@ -48,25 +58,39 @@ impl Sum for Times {
     }
 }
 
-/// The time of one call with each side's function.
-pub fn race<F: Copy>(mut call: impl FnMut(F), rust: F, rattle: F) -> Times {
-    let rust_calls = calls_of_a_round(|| call(rust));
-    let rattle_calls = calls_of_a_round(|| call(rattle));
-    let mut best = Times {
-        rust: f64::INFINITY,
-        rattle: f64::INFINITY,
+/// A time for each of so many, which are few enough to count exactly.
+fn each(time: f64, count: usize) -> f64 {
+    time / f64::from(u32::try_from(count).expect("fewer than 2^32"))
+}
+
+/// The time of one call with each side's function, of each input. Every call must give the answer that
+/// stands beside its input.
+pub fn race<I, F: Copy, A: Debug + PartialEq>(
+    inputs: &[(I, A)],
+    mut call: impl FnMut(F, &I) -> A,
+    rust: F,
+    rattle: F,
+) -> Vec<Times> {
+    let mut check = |side: F, (input, expected): &(I, A)| {
+        assert_eq!(black_box(&call(side, input)), expected);
     };
+    let mut calls_of_a_lap =
+        |input| [rust, rattle].map(|side| calls_of_a_lap(|| check(side, input)));
+    let laps: Vec<[usize; 2]> = inputs.iter().map(&mut calls_of_a_lap).collect();
+    let mut best = vec![Times::slowest(); inputs.len()];
     for _ in 0..ROUNDS {
-        best.rust = best.rust.min(time(|| call(rust), rust_calls));
-        best.rattle = best.rattle.min(time(|| call(rattle), rattle_calls));
+        for ((input, lap), best) in inputs.iter().zip(&laps).zip(&mut best) {
+            best.rust = best.rust.min(time(|| check(rust, input), lap[0]));
+            best.rattle = best.rattle.min(time(|| check(rattle, input), lap[1]));
+        }
     }
     best
 }
 
-fn calls_of_a_round(mut call: impl FnMut()) -> usize {
+fn calls_of_a_lap(mut call: impl FnMut()) -> usize {
     let start = Instant::now();
     let mut calls = 0;
-    while start.elapsed() < ROUND {
+    while start.elapsed() < LAP {
         call();
         calls += 1;
     }
@@ -79,5 +103,5 @@ fn time(mut call: impl FnMut(), calls: usize) -> f64 {
     for _ in 0..calls {
         call();
     }
-    start.elapsed().as_nanos() as f64 / calls as f64
+    each(start.elapsed().as_secs_f64() * 1e9, calls)
 }

@@ -2,22 +2,45 @@
 
 use std::fmt::{self, Debug, Display, Formatter};
 
+use settlement::exact::narrow;
 use settlement::lines::to_hex;
-use settlement::{piermint, Billed, Read};
+use settlement::{piermint, take_each, Billed, MOST_STATEMENTS};
 
 /// Nothing, or what differs, to be printed.
 pub type Compared<T = ()> = Result<T, String>;
 
+/// The numbers: 0, and 1 to 16.
+const NUMBERS: usize = 17;
+
+/// The kinds that four bits give, also those that are no record's.
+const KINDS: usize = 16;
+
 /// How many times each number was given.
-type Seen = [u64; 17];
+#[derive(Clone, Copy, Default)]
+struct Seen([u64; NUMBERS]);
+
+impl Seen {
+    fn add(&mut self, number: u64) {
+        self.0[narrow::<usize>(number)] += 1;
+    }
+
+    fn all(&self) -> u64 {
+        self.0.iter().sum()
+    }
+
+    fn accepted(&self) -> u64 {
+        self.0[0]
+    }
+}
 
 /// How much was compared.
 #[derive(Default)]
 pub struct Both {
     files: u64,
-    records: Seen,
+    /// Of the records billed with ample buffers.
+    by_kind: [Seen; KINDS],
     bills: u64,
-    records_of_bills: Seen,
+    of_bills: Seen,
     reads: Seen,
     writes: Seen,
 }
@@ -25,25 +48,35 @@ pub struct Both {
 impl Both {
     /// Bills a file with room for all numbers and statements.
     pub fn bill_file(&mut self, file: &[u8]) -> Compared<Billed> {
+        let (billed, _) = bill(file, file.len() + 1, MOST_STATEMENTS + 1)?;
         self.files += 1;
-        bill(&mut self.records, file, file.len() + 1, 15 * 354 + 1)
+        let mut rest = file;
+        take_each(file, |taken, _| {
+            self.by_kind[usize::from(rest[0] >> 4)].add(taken.number);
+            rest = &rest[taken.consumed..];
+        });
+        Ok(billed)
     }
 
     /// Bills a file with lent slices of these lengths.
-    pub fn bill(&mut self, file: &[u8], numbers: usize, statements: usize) -> Compared<Billed> {
+    pub fn bill(&mut self, file: &[u8], numbers: usize, statements: usize) -> Compared {
+        let (_, numbers) = bill(file, numbers, statements)?;
         self.bills += 1;
-        bill(&mut self.records_of_bills, file, numbers, statements)
+        numbers
+            .into_iter()
+            .for_each(|number| self.of_bills.add(number));
+        Ok(())
     }
 
     /// Reads a record; gives its numbers if it is accepted.
     pub fn read(&mut self, bytes: &[u8], room: usize) -> Compared<Option<Vec<u64>>> {
-        let (Read { number, count, .. }, numbers) = same(
+        let (read, numbers) = same(
             lend(room, |numbers| settlement::read(bytes, numbers)),
             lend(room, |numbers| piermint::read(bytes, numbers)),
             || format!("read with room for {room}: {}", to_hex(bytes)),
         )?;
-        self.reads[number as usize] += 1;
-        Ok((number == 0).then(|| numbers[PAST..][..count].to_vec()))
+        self.reads.add(read.number);
+        Ok((read.number == 0).then(|| numbers[PAST..][..read.count].to_vec()))
     }
 
     /// Writes a record.
@@ -53,12 +86,18 @@ impl Both {
             lend(room, |bytes| piermint::write(numbers, bytes)),
             || format!("write with room for {room}: {numbers:?}"),
         )?;
-        self.writes[written.number as usize] += 1;
+        self.writes.add(written.number);
         Ok(())
+    }
+
+    /// How many records were billed with ample buffers.
+    pub fn records(&self) -> u64 {
+        self.by_kind.iter().map(Seen::all).sum()
     }
 }
 
-fn bill(seen: &mut Seen, file: &[u8], numbers: usize, statements: usize) -> Compared<Billed> {
+/// Bills a file with both; gives the answer and the records' numbers.
+fn bill(file: &[u8], numbers: usize, statements: usize) -> Compared<(Billed, Vec<u64>)> {
     type Bill = fn(&[u8], &mut [u64], &mut [u8]) -> Billed;
     let call = |bill: Bill| {
         lend(numbers, |numbers| {
@@ -69,10 +108,7 @@ fn bill(seen: &mut Seen, file: &[u8], numbers: usize, statements: usize) -> Comp
         let file = to_hex(file);
         format!("bill with room for {numbers} numbers and {statements} bytes: {file}")
     })?;
-    for number in &numbers[PAST..][..billed.records] {
-        seen[*number as usize] += 1;
-    }
-    Ok(billed)
+    Ok((billed, numbers[PAST..][..billed.records].to_vec()))
 }
 
 fn same<T: Debug + PartialEq>(rust: T, rattle: T, call: impl Fn() -> String) -> Compared<T> {
@@ -88,7 +124,7 @@ const PAST: usize = 8;
 
 /// Lends a slice of a filled buffer to the call; gives its answer and the whole buffer.
 fn lend<T: From<u8>, R>(room: usize, call: impl FnOnce(&mut [T]) -> R) -> (R, Vec<T>) {
-    let pattern = |at: usize| T::from((at as u8).wrapping_mul(37) ^ 0xA5);
+    let pattern = |at: usize| T::from(at.to_le_bytes()[0].wrapping_mul(37) ^ 0xA5);
     let mut buffer: Vec<T> = (0..PAST + room + PAST).map(pattern).collect();
     let answer = call(&mut buffer[PAST..PAST + room]);
     (answer, buffer)
@@ -96,28 +132,49 @@ fn lend<T: From<u8>, R>(room: usize, call: impl FnOnce(&mut [T]) -> R) -> (R, Ve
 
 impl Display for Both {
     fn fmt(&self, f: &mut Formatter) -> fmt::Result {
-        let columns = [
-            &self.records,
-            &self.records_of_bills,
-            &self.reads,
-            &self.writes,
-        ];
-        let [records, _, reads, writes] = columns.map(|seen| seen.iter().sum::<u64>());
-        writeln!(
-            f,
-            "{} files of {records} records, billed with ample buffers",
-            self.files
-        )?;
-        writeln!(f, "{} bills with other buffers", self.bills)?;
+        let [files, bills, records] = [self.files, self.bills, self.records()];
+        let [reads, writes] = [self.reads.all(), self.writes.all()];
+        writeln!(f, "{files} files of {records} records, ample buffers")?;
+        writeln!(f, "{bills} bills with other buffers")?;
         writeln!(f, "{reads} reads, {writes} writes\n")?;
-        writeln!(
-            f,
-            "number     records  other buffers       reads      writes"
-        )?;
-        for number in 0..=16 {
-            let [records, others, reads, writes] = columns.map(|seen| seen[number]);
-            writeln!(f, "{number:6}{records:12}{others:15}{reads:12}{writes:12}")?;
+        self.print_kinds(f)?;
+        self.print_numbers(f)
+    }
+}
+
+impl Both {
+    fn print_kinds(&self, f: &mut Formatter) -> fmt::Result {
+        let heads = ["records", "accepted", "refused"];
+        print_line(f, "kind", heads)?;
+        for (kind, seen) in self.by_kind.iter().enumerate() {
+            let [all, accepted] = [seen.all(), seen.accepted()];
+            if all > 0 {
+                print_line(f, kind, [all, accepted, all - accepted])?;
+            }
+        }
+        writeln!(f)
+    }
+
+    fn print_numbers(&self, f: &mut Formatter) -> fmt::Result {
+        print_line(f, "number", ["records", "other bills", "reads", "writes"])?;
+        for number in 0..NUMBERS {
+            let records = self.by_kind.iter().map(|seen| seen.0[number]).sum();
+            let [bills, reads, writes] =
+                [self.of_bills, self.reads, self.writes].map(|seen| seen.0[number]);
+            print_line(f, number, [records, bills, reads, writes])?;
         }
         Ok(())
     }
+}
+
+fn print_line<T: Display, const N: usize>(
+    f: &mut Formatter,
+    name: impl Display,
+    columns: [T; N],
+) -> fmt::Result {
+    write!(f, "{name:>6}")?;
+    for column in columns {
+        write!(f, "{column:>13}")?;
+    }
+    writeln!(f)
 }

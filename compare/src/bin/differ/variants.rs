@@ -1,9 +1,10 @@
 //! The calls that one generated file gives: the file, its records, and what is near them.
 
-use settlement::damage::all_counts;
-use settlement::layout::Layout;
-use settlement::random::Random;
-use settlement::take_each;
+use settlement::cases::damage::all_counts;
+use settlement::cases::random::Random;
+use settlement::layout::{Layout, MOST_NUMBERS};
+use settlement::statement::MOST_BYTES;
+use settlement::{take_each, MOST_STATEMENTS};
 
 use crate::both::{Both, Compared};
 
@@ -15,9 +16,13 @@ pub fn compare_file(both: &mut Both, file: &[u8]) -> Compared {
     let billed = both.bill_file(file)?;
     let (records, written) = (billed.records, billed.written);
     for numbers in [0, 1, records / 2, records.saturating_sub(1), records] {
-        both.bill(file, numbers, 15 * 354)?;
+        both.bill(file, numbers, MOST_STATEMENTS)?;
     }
-    for statements in [0, 1, 353, 354, 355, 707, 708, 1062, written, written + 353] {
+    let one = MOST_BYTES;
+    for statements in [0, 1, one - 1, one, one + 1, 2 * one - 1, 2 * one, 3 * one] {
+        both.bill(file, records + 1, statements)?;
+    }
+    for statements in [written, written + one - 1] {
         both.bill(file, records + 1, statements)?;
     }
     let mut of_kind = [0; 16];
@@ -68,18 +73,18 @@ fn flipped(bytes: &[u8], bit: usize) -> Vec<u8> {
 /// changed, also with each bit flipped and each number replaced.
 fn compare_record(both: &mut Both, bytes: &[u8], length: usize, changed: bool) -> Compared {
     let record = &bytes[..length];
-    for room in [0, 165, 167] {
+    for room in [0, MOST_NUMBERS - 1, MOST_NUMBERS + 1] {
         both.read(bytes, room)?;
     }
     for end in 0..=length {
-        both.read(&record[..end], 166)?;
+        both.read(&record[..end], MOST_NUMBERS)?;
     }
     if changed {
         for bit in 0..8 * length {
-            both.read(&flipped(record, bit), 166)?;
+            both.read(&flipped(record, bit), MOST_NUMBERS)?;
         }
     }
-    if let Some(numbers) = both.read(bytes, 166)? {
+    if let Some(numbers) = both.read(bytes, MOST_NUMBERS)? {
         compare_writes(both, &numbers, length)?;
         if changed {
             compare_changed_writes(both, &numbers, length)?;

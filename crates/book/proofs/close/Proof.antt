@@ -1,5 +1,6 @@
 -- `close` meets its contract: what is billed are the amounts to date.
 use native.Mathlib.Omega.{arith}
+use Rattle.year.specs.Sound.{SoundAmounts}
 use Rattle.owed.specs.Bound.{sound-amounts}
 use borrow.Author.Needs.{needs}
 use Rattle.book.proofs.close.Statement.{statement}
@@ -13,7 +14,8 @@ write-statement-requires : tie.Need-write-statement-requires
 write-statement-requires c κs =
     let start = c .before .before .before .before .before in
     let s = start .pre .0 in
-    (s .terms, (omega (arith, start .pre), (rw (c .before .before .before .amounts-of .ensures) (sound-amounts (start .args .year) s (start .args .month)), (s .billed, start .pre .1 .1 .1))))
+    let owed : SoundAmounts (c .before .before .before .amounts-of .result) = rw (c .before .before .before .amounts-of .ensures) (sound-amounts (start .args .year) s (start .args .month)) in
+    (s .terms, (omega (arith, start .pre), (search (owed, s .billed), (search (owed, s .billed), start .pre .1 .1 .1))))
 
 with-close-requires : tie.Need-with-close-requires
 with-close-requires c κs =

@@ -4,7 +4,7 @@ use mathlib.Core.Bool.{true}
 use mathlib.Core.Logic.{⊎-elim}
 use borrow.Author.Tests.{ne-eqb, eqb-true}
 use Rattle.ids.specs.Ids.{at}
-use Rattle.records.specs.Layout.{hasLists, deficitsIn, entriesIn}
+use Rattle.layouts.specs.Layout.{hasLists, deficitsIn, entriesIn}
 use Rattle.questions.specs.Questions.{listingIn}
 use Rattle.book.specs.Made.{listed-pairs}
 use borrow.Author.Needs.{needs}

@@ -1,8 +1,8 @@
 -- `post` meets its contract: a thin join of the parts.
-use mathlib.Core.Path.{_≡_, sym, _∙_}
+use mathlib.Core.Path.{_≡_, sym, ap, _∙_}
 use lib.ListN.{length}
-use Rattle.records.specs.Questions.{recordNumber}
-use Rattle.records.specs.Accepted.{accepted}
+use Rattle.layouts.specs.Questions.{recordNumber, row}
+use Rattle.records.specs.Accepted.{accepted, taken-numbers}
 use Rattle.questions.specs.Questions.{listingIn}
 use Rattle.questions.specs.Passed.{Passed, passed-questions, not-finished, next-month, room-to-close}
 use Rattle.book.specs.Outcome.{valuesOf, postNumber}
@@ -27,7 +27,7 @@ quiet c = sym (c .before .before .parse .ensures .numbers) ∙ c .if1 .left
 
 rows : (c : tie.Else1) → c .before .before .parse .result .values ≡ valuesOf (c .before .before .before .before .before .args .bytes .now)
 unfolding valuesOf
-rows c = c .before .before .parse .ensures .rows (c .if1 .left)
+rows c = c .before .before .parse .ensures .rows ∙ ap row (taken-numbers _ (quiet c))
 
 -- the later questions are put to these numbers
 answered : (c : tie.After-number-of) → let a = c .before .before .before .before .before .before .before .before .args in c .number-of .result ≡ postNumber (a .year) (a .bytes .now) (length (a .buffer .now))

@@ -56,7 +56,7 @@ with-event-requires : tie.Need-with-event-requires
 with-event-requires c κs =
     let start = c .before .before .before .before in
     let e = start .pre .1 .0 .called (c .if4 .taken) in
-    (start .pre .0, (e .0, rw (start .pre .1 .1 .0) (e .1)))
+    (start .pre .0, (e .0, record { month = e .1 .month; listing = rw (start .pre .1 .1 .0) (e .1 .listing) }))
 
 returns-4 : tie.Need-returns-4
 unfolding yearWith

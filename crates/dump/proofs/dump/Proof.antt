@@ -6,7 +6,7 @@ use lib.ListN.{length, take, drop, length-drop}
 use lib.Seq.{length-take-le}
 use borrow.Author.Needs.{needs}
 use Rattle.report.specs.Text.{room}
-use Rattle.records.specs.QuestionLaws.{consumed-within}
+use Rattle.layouts.specs.QuestionLaws.{consumed-within}
 use Rattle.dump.proofs.dump.Statement.{statement}
 use Rattle.dump.proofs.dump.Tie as tie
 
@@ -18,14 +18,14 @@ abbrev μ-loop : tie.MeasureT-loop
 μ-loop input buffer₀ out₀ window₀ at₀ position₀ buffer out window at position = 2 ^ 64 - position
 
 -- what is consumed lies within the bytes that were lent
-used-within : (s : tie.After-line Inv-loop μ-loop) → (let w = s .before .before .before .before .before .before .before .before .filled .result in w .start + s .line .result .used ≤ w .end)
+used-within : (s : tie.After-print Inv-loop μ-loop) → (let w = s .before .before .before .before .before .before .before .before .filled .result in w .start + s .print .result .used ≤ w .end)
 used-within s =
     let f = s .before .before .before .before .before .before .before .before .filled in
     let w = f .result in
     let rest = drop (w .start) (f .last .1 .0) in
     let bytes = take (w .end - w .start) rest in
     let long : length bytes ≡ w .end - w .start = length-take-le (w .end - w .start) rest (rw length-drop (omega arith)) in
-    omega (arith, s .line .ensures .0 .1, consumed-within bytes)
+    omega (arith, s .print .ensures .0 .1, consumed-within bytes)
 
 add-window : tie.Need-add-window Inv-loop μ-loop
 add-window c = omega (arith, used-within (c .before .before .before .before .before .before .before .before))
@@ -54,6 +54,7 @@ dump-spec =
     (λ c. search needs)
     (λ c. search needs)
     (λ c. search needs)
+    (λ c κs. search needs)
     (λ c κs. search needs)
     (λ c κs. search needs)
     (λ c. search needs)

@@ -47,16 +47,6 @@ returns-3 c =
       kept = rw (more .ensures .0 .0, ← front .ensures .0) (kept ∙ rw (front .ensures .1) (moved-front (a .buffer .now) (a .window .start) (front .result) (omega arith)));
     }
 
-loop-less : tie.Need-loop-less Inv-loop μ-loop
-loop-less c = omega (arith, c .before .before .before .read-more .ensures .1 .0 (c .if3 .left))
-
-loop-again : tie.Need-loop-again Inv-loop μ-loop
-loop-again c =
-    let more = c .before .before .before .read-more in
-    let l = c .before .before .before .before .before .before .loop in
-    let front = c .before .before .before .before .before .before .before .before .before .to-front in
-    (omega arith, omega arith, omega arith, front-within (front .result) (l .end) (more .last .1 .0) (l .buffer) (l .inv .0) (more .ensures .1 .1) ∙ l .inv .3)
-
 returns-4 : tie.Need-returns-4 Inv-loop μ-loop
 returns-4 c =
     let l = c .before .before .loop in
@@ -69,6 +59,16 @@ returns-4 c =
       longer = omega arith;
       kept = rw (c .new-window .ensures .0, ← front .ensures .0) (l .inv .3 ∙ rw (front .ensures .1) (moved-front (a .buffer .now) (a .window .start) (front .result) (omega arith)));
     }
+
+loop-less : tie.Need-loop-less Inv-loop μ-loop
+loop-less c = omega (arith, c .before .before .before .read-more .ensures .1 .0 (c .if3 .left))
+
+loop-again : tie.Need-loop-again Inv-loop μ-loop
+loop-again c =
+    let more = c .before .before .before .read-more in
+    let l = c .before .before .before .before .before .before .loop in
+    let front = c .before .before .before .before .before .before .before .before .before .to-front in
+    (omega arith, omega arith, omega arith, front-within (front .result) (l .end) (more .last .1 .0) (l .buffer) (l .inv .0) (more .ensures .1 .1) ∙ l .inv .3)
 
 pub filled-spec : {M : Type 1} → statement M
 filled-spec =

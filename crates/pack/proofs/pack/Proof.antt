@@ -8,22 +8,28 @@ use Rattle.pack.proofs.pack.Statement.{statement}
 use Rattle.pack.proofs.pack.Tie as tie
 
 abbrev Inv-loop : tie.InvT-loop
-Inv-loop input buffer₀ out₀ window₀ at₀ line₀ cut₀ counter₀ buffer out window at line cut counter =
+Inv-loop input buffer₀ out₀ window₀ at₀ position₀ cut₀ counter₀ buffer out window at position cut counter =
     ((length buffer ≡ length buffer₀) × (length out ≡ length out₀) × (window .start ≤ window .end) × (window .end ≤ length buffer) × (at + 236 ≤ length out))
-    × (line ≤ counter)
+    × (position ≤ counter)
 
 abbrev μ-loop : tie.MeasureT-loop
-μ-loop input buffer₀ out₀ window₀ at₀ line₀ cut₀ counter₀ buffer out window at line cut counter = 2 ^ 64 - counter
+μ-loop input buffer₀ out₀ window₀ at₀ position₀ cut₀ counter₀ buffer out window at position cut counter = 2 ^ 64 - counter
 
 add-least : tie.Need-add-least Inv-loop μ-loop
 add-least c =
     let l = c .before .before .before .before .before .before .before .before .before .before .before .before .before .before .before .before .before .before .before .before .before in
     omega (arith, c .before .before .before .before .before .before .before .before .before .before .before .before .before .before .before .before .before .before .next-line, l .loop, l .before .before .before .before)
 
-add-line : tie.Need-add-line Inv-loop μ-loop
-add-line c =
+add-position : tie.Need-add-position Inv-loop μ-loop
+add-position c =
     let t = c .before .before .before .before .before .before .before .before .before .before .before .before .before .before .before .before .before .before .before .before .before in
     omega (arith, t .loop-test, t .before .loop)
+
+loop-again-2 : tie.Need-loop-again-2 Inv-loop μ-loop
+loop-again-2 c =
+    let n = c .before .before .before .before .before .before .before .before .before .before .before .before .before .before .before .before .before .before .before .next-line in
+    let l = c .before .before .before .before .before .before .before .before .before .before .before .before .before .before .before .before .before .before .before .before .before .before .loop in
+    ((omega (arith, n, l), omega (arith, l), omega (arith, n, l), omega (arith, n, l), omega (arith, l)), omega (arith, l))
 
 pub pack-spec : {M : Type 1} → statement M
 pack-spec =
@@ -58,10 +64,10 @@ pack-spec =
     (λ c. search needs)
     add-least
     (λ c κs. search needs)
-    add-line
+    add-position
     (λ c. search needs)
     (λ c. search needs)
-    (λ c. search needs)
+    loop-again-2
     (λ c. search needs)
     (λ c. search needs)
     (λ c. search needs))

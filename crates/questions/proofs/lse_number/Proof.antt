@@ -1,26 +1,15 @@
 -- `lse_number` meets its contract.
-use borrow.Author.Tests.{eq-eqb, ne-eqb}
+use mathlib.Core.Bool.{Bool·not-not}
+use borrow.Author.Needs.{needs}
 use Rattle.year.specs.Year.{obligation}
 use Rattle.questions.specs.Questions.{q7, q9}
-use Rattle.questions.specs.First.{fails, passes, all-pass}
-use borrow.Author.Needs.{needs}
 use Rattle.questions.proofs.lse_number.Statement.{statement}
 use Rattle.questions.proofs.lse_number.Tie as tie
 
 returns : tie.Need-returns
-unfolding q7
-returns c = λ l. fails 7 _ (rw (c .before .pre .0, c .if1 .taken))
-
-returns-2 : tie.Need-returns-2
 unfolding q7 q9 obligation
-returns-2 c =
-    λ l. passes 7 _ (rw (c .before .before .before .before .pre .0, c .before .before .before .if1 .left)) (passes 9 _ (rw (c .before .before .before .before .pre .0, eq-eqb _ _ (c .if2 .taken))) all-pass)
-
-returns-3 : tie.Need-returns-3
-unfolding q7 q9 obligation
-returns-3 c =
-    λ l. passes 7 _ (rw (c .before .before .before .before .pre .0, c .before .before .before .if1 .left)) (fails 9 _ (rw (c .before .before .before .before .pre .0, ne-eqb _ _ (c .if2 .left))))
+returns c = λ l. rw (c .before .before .before .pre .0) (rw (Bool·not-not) at (c .joining-number .ensures))
 
 pub lse-number-spec : {M : Type 1} → statement M
 lse-number-spec =
-    tie.close (tie.spec returns (λ c. search needs) (λ c. search needs) (λ c. search needs) returns-2 returns-3)
+    tie.close (tie.spec (λ c. search needs) (λ c. search needs) (λ c. search needs) (λ c κs. search needs) returns)

@@ -47,8 +47,7 @@ registration-number-requires c κs = (c .if5 .taken, c .before .before .before .
 returns-4 : tie.Need-returns-4
 returns-4 c =
     let a = c .before .before .before .before .before .before .before .args in
-    to-registration (a .year) (a .t2) (a .listing) (a .room) (c .before .if5 .taken)
-    (passes 6 _ (is-open (c .before .before)) (c .registration-number .ensures (a .listing)))
+    to-registration (a .year) (a .t2) (a .listing) (a .room) (is-open (c .before .before)) (c .before .if5 .taken) (c .registration-number .ensures (a .listing))
 
 lse-number-requires : tie.Need-lse-number-requires
 lse-number-requires c κs = (c .if6 .taken, c .before .before .before .before .before .before .before .pre .1 .lse (c .if6 .taken))
@@ -56,8 +55,7 @@ lse-number-requires c κs = (c .if6 .taken, c .before .before .before .before .b
 returns-5 : tie.Need-returns-5
 returns-5 c =
     let a = c .before .before .before .before .before .before .before .before .args in
-    to-lse (a .year) (a .t2) (a .listing) (a .room) (c .before .if6 .taken)
-    (passes 6 _ (is-open (c .before .before .before)) (c .lse-number .ensures (a .listing)))
+    to-lse (a .year) (a .t2) (a .listing) (a .room) (is-open (c .before .before .before)) (c .before .if6 .taken) (c .lse-number .ensures (a .listing))
 
 returns-6 : tie.Need-returns-6
 returns-6 c =
@@ -76,8 +74,8 @@ event-number-requires c κs =
 returns-7 : tie.Need-returns-7
 returns-7 c =
     let a = c .before .before .before .before .before .before .before .before .before .before .before .before .before .before .args in
-    to-event (a .year) (a .t2) (a .listing) (a .room) (c .before .if9 .taken)
-    (passes 6 _ (is-open (c .before .before .before .before .before .before .before .before .before)) (passes 8 _ (parties (c .before .before)) (c .event-number .ensures)))
+    to-event (a .year) (a .t2) (a .listing) (a .room) (is-open (c .before .before .before .before .before .before .before .before .before)) (parties (c .before .before)) (c .before .if9 .taken)
+    (c .event-number .ensures)
 
 test-number-requires : tie.Need-test-number-requires
 test-number-requires c κs =
@@ -87,15 +85,16 @@ test-number-requires c κs =
 returns-8 : tie.Need-returns-8
 returns-8 c =
     let a = c .before .before .before .before .before .before .before .before .before .before .before .before .before .before .before .args in
-    to-test (a .year) (a .t2) (a .listing) (a .room) (c .before .if10 .taken)
-    (passes 6 _ (is-open (c .before .before .before .before .before .before .before .before .before .before)) (passes 8 _ (parties (c .before .before .before)) (c .test-number .ensures)))
+    to-test (a .year) (a .t2) (a .listing) (a .room) (is-open (c .before .before .before .before .before .before .before .before .before .before)) (parties (c .before .before .before)) (c .before .if10 .taken)
+    (c .test-number .ensures)
 
 returns-9 : tie.Need-returns-9
 returns-9 c =
     let start = c .before .before .before .before .before .before .before .before .before .before .before .before .before .before .before in
     let a = start .args in
-    to-close (a .year) (a .t2) (a .listing) (a .room) (omega (arith, start .pre .1 .kind, c .before .before .before .before .before .before .before .before .before .before .before .before .before .before .if1 .left, c .before .before .before .before .before .before .before .before .before .if5 .left, c .before .before .before .before .before .before .before .before .if6 .left, c .before .before .if9 .left, c .before .if10 .left))
-    (passes 6 _ (is-open (c .before .before .before .before .before .before .before .before .before .before)) (passes 8 _ (parties (c .before .before .before)) (c .close-number .ensures (a .listing))))
+    to-close (a .year) (a .t2) (a .listing) (a .room) (is-open (c .before .before .before .before .before .before .before .before .before .before)) (parties (c .before .before .before))
+    (omega (arith, start .pre .1 .kind, c .before .before .before .before .before .before .before .before .before .before .before .before .before .before .if1 .left, c .before .before .before .before .before .before .before .before .before .if5 .left, c .before .before .before .before .before .before .before .before .if6 .left, c .before .before .if9 .left, c .before .if10 .left))
+    (c .close-number .ensures (a .listing))
 
 pub number-of-spec : {M : Type 1} → statement M
 number-of-spec =

@@ -1,13 +1,13 @@
 -- The head is tested first, and says the shape of the whole.
 use mathlib.Core.Bool.{and-false}
-use mathlib.Core.Path.{refl, sym, ap, _∙_}
+use mathlib.Core.Path.{_≡_, refl, sym, ap, _∙_}
 use borrow.Author.Needs.{needs}
 use borrow.Author.Tests.{not-true, not-false, ne-eqb}
 use native.Mathlib.Omega.{arith}
 use lib.ListN.{length}
-use Rattle.records.specs.Layout.{sizeOf}
-use Rattle.records.specs.Questions.{rulesBy}
-use Rattle.records.specs.Shapes.{Passed}
+use Rattle.layouts.specs.Layout.{sizeOf}
+use Rattle.layouts.specs.Questions.{rulesBy}
+use Rattle.records.specs.Parsing.{Passed}
 use Rattle.records.proofs.Reading.{kind-small}
 use Rattle.records.proofs.Writing.{stops-1, stops-3, stops-5, stops-16, stops-none, denies, grants, short-stops, head-stops, passes, Numbered, numbered-rules, numbered-sized, numbered-permitted, numbered-rise}
 use Rattle.records.proofs.write.Statement.{statement}
@@ -22,6 +22,10 @@ numbered-at c =
       permits = rw k at (sym (c .before .before .head-permitted .ensures)) ∙ not-false _ (c .before .if3 .left);
       shaped = rw k at (c .shape-of .ensures);
     }
+
+-- as many numbers as the shape has
+counted-at : (c : tie.Else4) → let vs = c .before .before .before .before .before .before .before .before .before .before .before .before .args .numbers .now in length vs ≡ length (rulesBy vs)
+counted-at c = omega (arith, c .if4 .left, c .before .count-of .ensures, ap length (numbered-rules (numbered-at (c .before .before))))
 
 returns : tie.Need-returns
 returns c =
@@ -59,7 +63,7 @@ returns-4 c =
     let vs = c .before .before .before .before .before .before .before .before .before .before .before .before .before .args .numbers .now in
     let u = c .unwritten4 .ensures in
     let count = c .before .before .count-of .ensures ∙ ap length (numbered-rules h) in
-    let other = ne-eqb (length vs) (length (rulesBy vs)) (λ e. c .before .if4 .taken (e ∙ sym count)) in
+    let other = ne-eqb (length vs) (length (rulesBy vs)) (λ e. omega (arith, c .before .if4 .taken, count)) in
     denies 3 (u .0) (u .1) refl (λ e. omega arith) (stops-3 _ _ (h .first) (rw other))
 
 lists-permitted-requires : tie.Need-lists-permitted-requires
@@ -78,7 +82,7 @@ lists-rise-requires c κs = (numbered-sized (numbered-at (c .before .before .bef
 returns-6 : tie.Need-returns-6
 returns-6 c =
     let h = numbered-at (c .before .before .before .before .before .before .before) in
-    let count = c .before .before .before .before .before .if4 .left ∙ c .before .before .before .before .before .before .count-of .ensures ∙ ap length (numbered-rules h) in
+    let count = counted-at (c .before .before .before .before .before) in
     let permits = sym (numbered-permitted h) ∙ sym (c .before .before .before .before .lists-permitted .ensures) ∙ not-false _ (c .before .before .before .if5 .left) in
     let u = c .unwritten6 .ensures in
     let fails = sym (numbered-rise h) ∙ sym (c .before .before .lists-rise .ensures) ∙ not-true _ (c .before .if6 .taken) in
@@ -90,7 +94,7 @@ size-of-requires c κs = numbered-sized (numbered-at (c .before .before .before 
 returns-7 : tie.Need-returns-7
 returns-7 c =
     let h = numbered-at (c .before .before .before .before .before .before .before .before .before) in
-    let count = c .before .before .before .before .before .before .before .if4 .left ∙ c .before .before .before .before .before .before .before .before .count-of .ensures ∙ ap length (numbered-rules h) in
+    let count = counted-at (c .before .before .before .before .before .before .before) in
     let permits = sym (numbered-permitted h) ∙ sym (c .before .before .before .before .before .before .lists-permitted .ensures) ∙ not-false _ (c .before .before .before .before .before .if5 .left) in
     let rising = sym (numbered-rise h) ∙ sym (c .before .before .before .before .lists-rise .ensures) ∙ not-false _ (c .before .before .before .if6 .left) in
     let u = c .unwritten7 .ensures in
@@ -100,7 +104,7 @@ returns-7 c =
 put-record-requires : tie.Need-put-record-requires
 put-record-requires c κs =
     let h = numbered-at (c .before .before .before .before .before .before .before .before .before) in
-    let count = c .before .before .before .before .before .before .before .if4 .left ∙ c .before .before .before .before .before .before .before .before .count-of .ensures ∙ ap length (numbered-rules h) in
+    let count = counted-at (c .before .before .before .before .before .before .before) in
     let permits = sym (numbered-permitted h) ∙ sym (c .before .before .before .before .before .before .lists-permitted .ensures) ∙ not-false _ (c .before .before .before .before .before .if5 .left) in
     let rising = sym (numbered-rise h) ∙ sym (c .before .before .before .before .lists-rise .ensures) ∙ not-false _ (c .before .before .before .if6 .left) in
     let passed : Passed (c .before .before .before .before .before .before .before .before .before .before .before .before .before .before .before .before .before .before .before .args .numbers .now) (c .before .before .before .before .before .before .before .before .before .shape-of .result) = record { sized = numbered-sized h; rules = numbered-rules h; first = h .first; counted = count; permits = permits; rising = rising } in
@@ -109,7 +113,7 @@ put-record-requires c κs =
 returns-8 : tie.Need-returns-8
 returns-8 c =
     let h = numbered-at (c .before .before .before .before .before .before .before .before .before .before .before .before) in
-    let count = c .before .before .before .before .before .before .before .before .before .before .if4 .left ∙ c .before .before .before .before .before .before .before .before .before .before .before .count-of .ensures ∙ ap length (numbered-rules h) in
+    let count = counted-at (c .before .before .before .before .before .before .before .before .before .before) in
     let permits = sym (numbered-permitted h) ∙ sym (c .before .before .before .before .before .before .before .before .before .lists-permitted .ensures) ∙ not-false _ (c .before .before .before .before .before .before .before .before .if5 .left) in
     let rising = sym (numbered-rise h) ∙ sym (c .before .before .before .before .before .before .before .lists-rise .ensures) ∙ not-false _ (c .before .before .before .before .before .before .if6 .left) in
     let u = c .before .before .put-record .ensures in

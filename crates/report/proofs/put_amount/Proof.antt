@@ -1,8 +1,7 @@
 -- A space, then the digits, or `-` and those of what is left to 2 ^ 42.
 use borrow.Author.Needs.{needs}
-use Prim.Native.Nat.{_-_, _^_}
 use native.Mathlib.Omega.{arith}
-use Rattle.bits.specs.BitLaws.{field-lt}
+use Prim.Native.Nat.{_-_, _^_}
 use Rattle.report.specs.Pasted.{then}
 use Rattle.report.specs.TextLaws.{cents-low, cents-high, decimal-length}
 use Rattle.report.proofs.put_amount.Statement.{statement}
@@ -10,24 +9,15 @@ use Rattle.report.proofs.put_amount.Tie as tie
 
 returns : tie.Need-returns
 returns c =
-    let took = c .before .before .before .before .before .before .before .before .before .take in
+    let bits = c .before .before .before .before .before .before .before .before .before .before .args .bits in
     let e = then (c .before .before .before .before .before .before .before .put-byte .ensures) (c .before .before .put-decimal .ensures) in
-    (rw (← took .ensures .value, cents-low _ (c .before .before .before .before .if1 .taken)) e, omega (arith, e .next, decimal-length (took .result .value)))
-
-sub-put-decimal : tie.Need-sub-put-decimal
-sub-put-decimal c =
-    let took = c .before .before .before .before .before .before .before .before .before .before .take in
-    let a = c .before .before .before .before .before .before .before .before .before .before .before .before .before .args in
-    omega (arith, took .ensures .value, field-lt (a .statement .now) (a .from) 42)
+    (rw (cents-low bits (c .before .before .before .before .if1 .taken)) e, omega (arith, e .next, decimal-length bits))
 
 returns-2 : tie.Need-returns-2
 returns-2 c =
-    let took = c .before .before .before .before .before .before .before .before .before .before .before .before .before .take in
-    let a = c .before .before .before .before .before .before .before .before .before .before .before .before .before .before .before .before .args in
-    let bits = took .result .value in
-    let small = field-lt (a .statement .now) (a .from) 42 in
+    let bits = c .before .before .before .before .before .before .before .before .before .before .before .before .before .before .args .bits in
     let e = then (c .before .before .before .before .before .before .before .before .before .before .before .put-byte .ensures) (then (c .before .before .before .before .before .before .put-byte2 .ensures) (c .before .before .put-decimal2 .ensures)) in
-    (rw (← took .ensures .value, cents-high bits (c .before .before .before .before .before .before .before .before .if1 .left) (omega (arith, took .ensures .value))) e, omega (arith, e .next, decimal-length (2 ^ 42 - bits)))
+    (rw (cents-high bits (c .before .before .before .before .before .before .before .before .if1 .left) (c .before .before .before .before .before .before .before .before .before .before .before .before .before .before .pre .0)) e, omega (arith, e .next, decimal-length (2 ^ 42 - bits)))
 
 pub put-amount-spec : {M : Type 1} → statement M
 put-amount-spec =
@@ -35,11 +25,10 @@ put-amount-spec =
     (tie.spec
     (λ c κs. search needs)
     (λ c κs. search needs)
-    (λ c κs. search needs)
     (λ c. search needs)
     returns
     (λ c κs. search needs)
-    sub-put-decimal
+    (λ c. search needs)
     (λ c κs. search needs)
     (λ c. search needs)
     returns-2)

@@ -1,13 +1,13 @@
 -- `settlement::amounts_with` meets its contract: what it carries along the events and tests is the year's. Assumes nothing.
 use borrow.Author.Needs.{needs}
-use Rattle.settlement.specs.Base.{is-columns, is-products, committed-fit, rates-fit, caps-are, caps-fit}
+use Rattle.events.specs.Base.{is-columns, is-products, committed-fit, rates-fit, caps-are, caps-fit}
 use Rattle.settlement.specs.Amounts.{is-compliance, is-credit, tests-small, is-test, charges-small, credits-small, obligations-small, allotted-small, is-amounts}
 use Rattle.settlement.proofs.amounts_with.Statement.{statement}
 use Rattle.settlement.proofs.amounts_with.Tie as tie
 
 -- back from a call to the one before
 abbrev entry : tie.After-read-columns → tie.Start
-entry c = c .before .before .before .before .before .before .before .before .before
+entry c = c .before .before .before .before .before .before .before .before .before .before
 
 abbrev calls : tie.After-days → tie.After-calls-of
 calls c = c .before .before .before .before .before .before

@@ -19,21 +19,6 @@ counted c =
     let q = hasObligation (c .before .before .before .before .args .terms) in
     ((c .before .before .count .ensures ∙ count-same 16 (c .before .before .before .present .ensures .done), count-most 16 p), (c .count2 .ensures ∙ count-same 16 (c .before .obliged .ensures .done), count-most 16 q))
 
-mul-result : tie.Need-mul-result
-mul-result c = omega (arith, counted c)
-
-add-result : tie.Need-add-result
-add-result c = omega (arith, counted c)
-
-mul-result-2 : tie.Need-mul-result-2
-mul-result-2 c = omega (arith, counted c)
-
-add-result-2 : tie.Need-add-result-2
-add-result-2 c = omega (arith, counted c)
-
-add-result-3 : tie.Need-add-result-3
-add-result-3 c = omega (arith, counted c)
-
 returns : tie.Need-returns
 returns c month owed billed =
     let s = c .before .before .before .before in
@@ -49,9 +34,9 @@ size-of-spec =
     (λ c κs. search needs)
     (λ c κs. search needs)
     (λ c κs. search needs)
-    mul-result
-    add-result
-    mul-result-2
-    add-result-2
-    add-result-3
+    (λ c. omega (arith, counted c))
+    (λ c. omega (arith, counted c))
+    (λ c. omega (arith, counted c))
+    (λ c. omega (arith, counted c))
+    (λ c. omega (arith, counted c))
     returns)

@@ -1,16 +1,11 @@
--- The shift takes the quotient, the mask the remainder.
+-- Shifted left and then right, the word has lost the bits before and behind the field.
 use borrow.Author.Needs.{needs}
-use native.Mathlib.Omega.{arith}
-use lib.Pow.{pow-pos}
-use Rattle.bits.proofs.Shifts.{one-shl, masked}
+use Rattle.bits.proofs.Shifts.{shifted}
 use Rattle.bits.proofs.words.cut.Statement.{statement}
 use Rattle.bits.proofs.words.cut.Tie as tie
 
-sub-result : tie.Need-sub-result
-sub-result c = rw (one-shl (c .args .width) (omega arith)) (pow-pos (c .args .width))
-
 returns : tie.Need-returns
-returns c = masked _ (c .args .width) (omega arith)
+returns c = shifted (c .args .word) (c .args .skip) (c .args .width) (c .pre .1 .1)
 
 pub cut-spec : {M : Type 1} → statement M
-cut-spec = tie.close (tie.spec (λ c. search needs) (λ c. search needs) sub-result returns)
+cut-spec = tie.close (tie.spec (λ c. search needs) (λ c. search needs) (λ c. search needs) returns)

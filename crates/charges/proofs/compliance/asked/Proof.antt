@@ -6,7 +6,7 @@ use native.Mathlib.Omega.{arith}
 use borrow.Author.Needs.{needs}
 use borrow.Author.Tests.{eq-eqb, ne-eqb}
 use Rattle.owed.specs.Owed.{uncapped}
-use Rattle.charges.specs.Bounds.{product-fits}
+use Rattle.tallies.specs.Arrays.{product-fits}
 use borrow.Author.Needs.{needs}
 use Rattle.charges.proofs.compliance.asked.Statement.{statement}
 use Rattle.charges.proofs.compliance.asked.Tie as tie

@@ -2,7 +2,7 @@
 use native.Mathlib.Omega.{arith}
 use borrow.Author.Needs.{needs}
 use borrow.Author.Tests.{le-leb, lt-leb}
-use Rattle.charges.specs.Bounds.{product-fits}
+use Rattle.tallies.specs.Arrays.{product-fits}
 use Rattle.charges.proofs.compliance.due_cents.Statement.{statement}
 use Rattle.charges.proofs.compliance.due_cents.Tie as tie
 

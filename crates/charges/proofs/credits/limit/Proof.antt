@@ -2,7 +2,7 @@
 use native.Mathlib.Omega.{arith}
 use native.Mathlib.Nat.{mul-le-mul}
 use borrow.Author.Needs.{needs}
-use Rattle.charges.specs.Bounds.{product-fits}
+use Rattle.tallies.specs.Arrays.{product-fits}
 use Rattle.charges.proofs.credits.limit.Statement.{statement}
 use Rattle.charges.proofs.credits.limit.Tie as tie
 

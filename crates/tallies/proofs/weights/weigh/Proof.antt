@@ -25,7 +25,8 @@ add-at-requires c κs =
     let i = l .loop .i in
     let s = p .0 i in
     let most = lacks-le (l .before .args .listed .now) (l .before .args .committed .now) (l .before .args .reductions .now) (p .1 .0) in
-    (s, omega (arith, weighing-room (l .loop .inv .0) (omega arith) most (at (l .before .args .sellers .now) i) s, most i, rw (c .before .before .before .before .before .wide .ensures) at (c .before .before .before .weight .ensures)))
+    let more = lacks-le (l .before .args .listed .now) (l .before .args .reductions .now) (l .before .args .committed .now) (p .1 .1 .0) in
+    (s, omega (arith, weighing-room (l .loop .inv .0) (omega arith) most (at (l .before .args .sellers .now) i) s, most i, more i, rw (c .before .before .before .before .before .wide .ensures) at (c .before .before .before .weight .ensures)))
 
 add-at-requires-2 : tie.Need-add-at-requires-2 Inv-loop μ-loop
 add-at-requires-2 c κs =

@@ -1,0 +1,96 @@
+//! The opening and the parties of a year from chance.
+
+use super::random::Random;
+use super::record::Numbers;
+use crate::exact::{narrow, widen};
+use crate::records::Product;
+
+/// The opening, then the parties in any order.
+pub fn opening_and_parties(
+    random: &mut Random,
+    registrations: Vec<Numbers>,
+    lses: usize,
+) -> Vec<Numbers> {
+    let ids = ids(random, lses, 16).into_iter();
+    let lses = ids.map(|id| vec![3, id, random.value(1, 1_000_000)]);
+    let mut parties = [registrations, lses.collect()].concat();
+    random.shuffle(&mut parties);
+    [vec![opening(random)], parties].concat()
+}
+
+fn opening(random: &mut Random) -> Numbers {
+    let leap = random.value(0, 1);
+    let factors = match random.chance(50) {
+        true => [9_500, 10_800],
+        false => [random.value(1, 12_000), random.value(1, 12_000)],
+    };
+    vec![1, leap, factors[0], factors[1]]
+}
+
+/// Registrations of a few areas, zones and products, so that many share a call.
+pub fn registrations_of_few_places(random: &mut Random, count: usize) -> Vec<Numbers> {
+    let sellers = some_ids(random, 16);
+    let areas = few_places(random);
+    let zones = few_places(random);
+    let products = some_ids(random, 3);
+    let register = |id: u64, random: &mut Random| {
+        vec![
+            2,
+            id,
+            random.pick(&sellers),
+            random.pick(&areas),
+            random.pick(&zones),
+            random.pick(&products),
+            random.value(1, 100_000),
+            random.value(0, 100_000),
+        ]
+    };
+    let ids = ids(random, count, 64);
+    ids.into_iter().map(|id| register(id, random)).collect()
+}
+
+/// 64 registrations of one area and of every zone and product.
+pub fn registrations_of_all_zones(random: &mut Random) -> Vec<Numbers> {
+    let sellers = some_ids(random, 16);
+    let area = widen(random.below(8));
+    let register = |(id, (zone, product)): (u64, (u8, Product))| {
+        vec![
+            2,
+            id,
+            random.pick(&sellers),
+            area,
+            zone.into(),
+            product.number(),
+            random.value(1, 100_000),
+            random.value(0, 100_000),
+        ]
+    };
+    let places = zones_and_products().into_iter().cycle();
+    (0..64).zip(places).map(register).collect()
+}
+
+pub fn zones_and_products() -> Vec<(u8, Product)> {
+    let products = (0..3).map(Product::new);
+    products
+        .flat_map(|product| (0..8).map(move |zone| (zone, product)))
+        .collect()
+}
+
+/// Some of the ids below the limit, at least one.
+fn some_ids(random: &mut Random, limit: u64) -> Vec<u64> {
+    let count = narrow(random.value(1, limit));
+    ids(random, count, limit)
+}
+
+/// One to three of the eight areas or zones.
+fn few_places(random: &mut Random) -> Vec<u64> {
+    let count = 1 + random.below(3);
+    ids(random, count, 8)
+}
+
+fn ids(random: &mut Random, count: usize, limit: u64) -> Vec<u64> {
+    let mut ids: Vec<u64> = (0..limit).collect();
+    random.shuffle(&mut ids);
+    ids.truncate(count);
+    ids
+}

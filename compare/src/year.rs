@@ -1,0 +1,68 @@
+//! A delivery year: the records accepted, and what they came to at the last close.
+
+use crate::fields::{LSES, REGISTRATIONS};
+use crate::owed::{cap, days, Owed};
+use crate::records::{Entry, Event, Lse, Opening, Registration, Test};
+
+pub const MOST_EVENTS: usize = 16;
+
+/// One test for each of 8 zones and 3 products.
+const MOST_TESTS: usize = 24;
+
+/// The closes of a year.
+pub const CLOSES: usize = 15;
+
+pub struct Year {
+    pub opening: Opening,
+    pub registrations: [Option<Registration>; REGISTRATIONS],
+    pub lses: [Option<Lse>; LSES],
+    pub events: Vec<Event>,
+    pub tests: Vec<Test>,
+    /// Months closed.
+    pub closed: u8,
+    /// The amounts to date at the last close.
+    pub owed: Owed,
+    /// Whether an accepted event lists a registration.
+    pub is_called: [bool; REGISTRATIONS],
+    /// How many accepted on-peak events list a registration.
+    pub on_peak_events: [u8; REGISTRATIONS],
+}
+
+impl Year {
+    pub fn new(opening: Opening) -> Self {
+        Year {
+            opening,
+            registrations: [None; REGISTRATIONS],
+            lses: [None; LSES],
+            events: Vec::with_capacity(MOST_EVENTS),
+            tests: Vec::with_capacity(MOST_TESTS),
+            closed: 0,
+            owed: Owed::default(),
+            is_called: [false; REGISTRATIONS],
+            on_peak_events: [0; REGISTRATIONS],
+        }
+    }
+
+    /// The registration of an accepted entry.
+    pub fn registration(&self, entry: &Entry) -> &Registration {
+        let registration = &self.registrations[usize::from(entry.registration)];
+        registration.as_ref().expect("question 10 asks for it")
+    }
+
+    pub fn add_event(&mut self, event: Event) {
+        for entry in event.lists.entries() {
+            let id = usize::from(entry.registration);
+            self.is_called[id] = true;
+            self.on_peak_events[id] += u8::from(!event.off_peak);
+        }
+        self.events.push(event);
+    }
+
+    /// Revenue to date of a seller, in thousandths of a cent.
+    pub fn revenue(&self, seller: usize, month: u8) -> i64 {
+        let registrations = self.registrations.iter().flatten();
+        let own = registrations.filter(|r| usize::from(r.seller) == seller);
+        let caps: i64 = own.map(|r| cap(&self.opening, r)).sum();
+        caps * days(self.opening.leap, month)
+    }
+}

@@ -1,0 +1,3 @@
+-- What the bill program prints.
+pub mod Answer
+pub mod AnswerLaws

@@ -1,0 +1,3 @@
+-- What is asked of a record's entries and deficits, and the loops that ask it.
+pub mod Entries
+pub mod Passes

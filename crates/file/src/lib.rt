@@ -1,0 +1,10 @@
+// The walk of a record file: record after record, up to an answer that ends it, or to the end of the bytes.
+ghost use mathlib.Core.Path.{_≡_};
+ghost use Rattle.file.specs.Walk.{ends};
+
+// Does this number end a file?
+pub fn ends(number: u64) -> bool
+    ensures { λ r. ⌜ r ≡ ends number ⌝ }
+{
+    number == 1 || number == 2
+}

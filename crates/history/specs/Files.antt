@@ -1,0 +1,33 @@
+-- A record file as a list of calls, one for each of its records, and the numbers and statements of such a list. Demand 3 holds of it as of every list.
+use Prim.Native.Nat.{ℕ, _+_, _*_}
+use mathlib.Core.List.{List, [], _∷_, _++_}
+use lib.ListN.{length, take}
+use Rattle.bits.specs.Pack.{bytesFor}
+use Rattle.year.specs.declared.Year.{Year}
+use Rattle.statement.specs.ReadBack.{sellersIn, lsesIn}
+use Rattle.book.specs.Outcome.{postNumber}
+use Rattle.history.specs.Runs.{Call, step}
+
+-- each record's bytes, from its start on, with the buffer that it is lent; the one behind it is lent what `next` says
+unfoldable pub callsOf : (Year → Call → List ℕ) → Year → List (List ℕ) → List ℕ → List Call
+callsOf next y [] buffer = []
+callsOf next y (bytes ∷ records) buffer =
+    let c : Call = record { bytes = bytes; buffer = buffer } in
+    c ∷ callsOf next (step y c) records (next y c)
+
+-- a call's number, and the numbers of a list's calls
+abbrev pub numberOf : Year → Call → ℕ
+numberOf y c = postNumber y (c .bytes) (length (c .buffer))
+
+unfoldable pub numbers : Year → List Call → List ℕ
+numbers y [] = []
+numbers y (c ∷ cs) = numberOf y c ∷ numbers (step y c) cs
+
+-- of a buffer: the bytes of the statement in its front, by the counts in it
+unfoldable pub statementIn : List ℕ → List ℕ
+statementIn buffer = take (bytesFor (14 + 130 * sellersIn buffer + 46 * lsesIn buffer)) buffer
+
+-- the statements in the fronts of buffers, one after another
+unfoldable pub joined : List (List ℕ) → List ℕ
+joined [] = []
+joined (buffer ∷ buffers) = statementIn buffer ++ joined buffers

@@ -1,0 +1,14 @@
+-- The bits of a record are few enough to be rounded up.
+use borrow.Author.Needs.{needs}
+use native.Mathlib.Omega.{arith}
+use Rattle.layouts.specs.LayoutLaws.{head-small, total-rules}
+use Rattle.layouts.proofs.size_of.Statement.{statement}
+use Rattle.layouts.proofs.size_of.Tie as tie
+
+add-result : tie.Need-add-result
+add-result c =
+    let s = c .before .args .s in
+    omega (arith, total-rules (s .kind) (s .deficits) (s .entries), head-small (s .kind))
+
+pub size-of-spec : {M : Type 1} → statement M
+size-of-spec = tie.close (tie.spec (λ c κs. search needs) add-result (λ c. search needs))

@@ -1,0 +1,7 @@
+pub mod Layout
+pub mod Questions
+pub mod Shapes
+pub mod LayoutLaws
+pub mod QuestionLaws
+pub mod ShapeLaws
+pub mod Tables

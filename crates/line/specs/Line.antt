@@ -1,0 +1,38 @@
+-- The line of a record, and the numbers of one that is read.
+use Prim.Native.Nat.{ℕ, _-_, _≤_}
+use mathlib.Core.Bool.{cond}
+use mathlib.Core.List.{List}
+use mathlib.Core.Path.{_≡_, ap, sym, _∙_}
+use native.Mathlib.Omega.{arith}
+use lib.Dec.{eqb}
+use lib.ListN.{length, take, replicate, length-append}
+use lib.Seq.{take-append-seam}
+use Rattle.layouts.specs.Questions.{numbersOf, recordNumber, most, row}
+use Rattle.records.specs.Calls.{Parses}
+use Rattle.records.specs.Accepted.{accepted, taken-numbers, numbers-few}
+use Rattle.report.specs.Text.{numbersLine, refusalLine}
+
+-- of the record at the front of the bytes: its numbers, or its refusal
+unfoldable pub recordLine : ℕ → List ℕ → List ℕ
+recordLine position bytes = cond (eqb (recordNumber bytes) 0) (numbersLine (numbersOf bytes)) (refusalLine position (recordNumber bytes))
+
+module _ (bytes : List ℕ) {number used count : ℕ} {values : List ℕ} (p : Parses bytes number used count values) (e : number ≡ 0) where
+  zero : recordNumber bytes ≡ 0
+  zero = sym (p .numbers) ∙ e
+
+  counts : count ≡ length (numbersOf bytes)
+  counts = p .counts ∙ ap length (taken-numbers bytes zero)
+
+  rows : values ≡ row (numbersOf bytes)
+  rows = p .rows ∙ ap row (taken-numbers bytes zero)
+
+  pub count-few : count ≤ most
+  count-few = omega (arith, counts, numbers-few bytes (accepted bytes zero))
+
+  pub count-within : count ≤ length values
+  unfolding row
+  count-within = omega (arith, counts, ap length rows, length-append (numbersOf bytes) (replicate (most - length (numbersOf bytes)) 0))
+
+  pub values-front : take count values ≡ numbersOf bytes
+  unfolding row
+  values-front = rw (counts, rows) (take-append-seam (numbersOf bytes) (replicate (most - length (numbersOf bytes)) 0))

@@ -1,0 +1,75 @@
+// A record as a line of text, and a line of text as a record.
+ghost use mathlib.Core.Path.{_≡_};
+ghost use Prim.Native.Nat.{_+_, _-_, _≤_};
+ghost use lib.ListN.{length};
+ghost use Rattle.layouts.specs.Questions.{recordNumber, consumed};
+ghost use Rattle.report.specs.Pasted.{Pasted};
+ghost use Rattle.report.specs.Text.{room};
+ghost use Rattle.line.specs.Line.{recordLine};
+ghost use Rattle.line.specs.Packs.{lineNumber, lineRecord};
+
+// The numbers of the longest record and one more, so that writing refuses the count of a longer line.
+const NUMBERS: usize = 167;
+
+// The bytes of the longest record that is written: 25 bits, 16 deficits of 24 and 64 entries of 23.
+pub const RECORD: usize = 236;
+
+// What printing one record leaves: its number, its bytes, and the place after its line.
+pub struct Printed {
+    pub number: u64,
+    pub used: usize,
+    pub at: usize,
+}
+
+// The line of the record at the front of the bytes.
+pub fn print(position: u64, bytes: &[u8], out: &mut [u8], at: usize) -> Printed
+    requires { ⌜ at + room ≤ length (now out) ⌝ }
+    ensures { λ r. ⌜ (r .number ≡ recordNumber (now (bytes .entry))) × (r .used ≡ consumed (now (bytes .entry))) ⌝ }
+    ensures { λ r. ⌜ Pasted (now (out .entry)) (now (out .exit)) at (recordLine position (now (bytes .entry))) (r .at) ⌝ }
+{
+    let record = records::parse(bytes);
+    let number = record.number;
+    let used = record.used;
+    if number != 0 {
+        let next = report::refusal_line(position, number, out, at);
+        return Printed {
+            number: number,
+            used: used,
+            at: next,
+        };
+    }
+    let values = record.values;
+    let count = record.count;
+    let next = report::numbers_line(&values[..count], out, at);
+    Printed {
+        number: number,
+        used: used,
+        at: next,
+    }
+}
+
+// What packing one line leaves: its number, and the place after its record.
+pub struct Packed {
+    pub number: u64,
+    pub at: usize,
+}
+
+// The record of a line. One of which the start is cut off is longer than any record's.
+pub fn pack(line: &[u8], cut: bool, out: &mut [u8], at: usize) -> Packed
+    requires { ⌜ at ≤ length (now out) ⌝ }
+    ensures { λ r. ⌜ r .number ≡ lineNumber cut (now (line .entry)) (length (now (out .entry)) - at) ⌝ }
+    ensures { λ r. ⌜ Pasted (now (out .entry)) (now (out .exit)) at (lineRecord cut (now (line .entry)) (length (now (out .entry)) - at)) (r .at) ⌝ }
+{
+    if cut {
+        return Packed { number: 3, at: at };
+    }
+    let mut numbers = [0u64; NUMBERS];
+    let n = text::decimals(line, &mut numbers);
+    let answer = records::write(&numbers[..n], &mut out[at..]);
+    let used = answer.used;
+    let next = at + used;
+    Packed {
+        number: answer.number,
+        at: next,
+    }
+}

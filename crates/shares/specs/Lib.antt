@@ -1,0 +1,2 @@
+-- The loop of the allotments by seller.
+pub mod Sellers

@@ -1,0 +1,2 @@
+-- Bounds of shortfalls and of a test's rate.
+pub mod Bounds

@@ -1,0 +1,2 @@
+-- Year A from its bytes to its printed lines.
+pub mod YearA
