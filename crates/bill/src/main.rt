@@ -20,23 +20,23 @@ fn bill(input: i32, buffer: &mut [u8], statement: &mut [u8], out: &mut [u8]) -> 
         position: 1,
         at: 0,
     };
-    let mut window = feed::new_window();
+    let mut window = stream::input::new_window();
     while course.position < u64::MAX {
-        window = feed::filled(input, buffer, window, records::LONGEST);
+        window = stream::input::filled(input, buffer, window, records::LONGEST);
         if window.failed {
             return false;
         }
         let start = window.start;
         let end = window.end;
         if start == end {
-            return output::finish(out, course.at);
+            return stream::output::finish(out, course.at);
         }
         let answered = answer::step(course, &buffer[start..end], statement, out);
         course = answered.next;
         if file::ends(answered.number) {
-            return output::finish(out, course.at);
+            return stream::output::finish(out, course.at);
         }
-        let gathered = output::with_room(out, course.at, report::ROOM);
+        let gathered = stream::output::with_room(out, course.at, report::ROOM);
         if gathered.failed {
             return false;
         }

@@ -19,9 +19,9 @@ fn main() {
 // One line after another, up to the end.
 fn cases(input: i32, buffer: &mut [u8]) {
     let mut year = book::new_book();
-    let mut window = feed::new_window();
+    let mut window = stream::input::new_window();
     for _ in 0..u64::MAX {
-        let next = feed::next_line(input, buffer, window);
+        let next = stream::input::next_line(input, buffer, window);
         window = next.window;
         let start = window.start;
         let end = next.end;
@@ -29,7 +29,7 @@ fn cases(input: i32, buffer: &mut [u8]) {
             return;
         }
         year = case(year, &buffer[start..end]);
-        window = feed::past(next);
+        window = stream::input::past(next);
     }
 }
 

@@ -13,24 +13,24 @@ fn dump(input: i32, buffer: &mut [u8], out: &mut [u8]) -> bool
     requires { ⌜ longestRecord ≤ length (now buffer) ⌝ }
     requires { ⌜ room ≤ length (now out) ⌝ }
 {
-    let mut window = feed::new_window();
+    let mut window = stream::input::new_window();
     let mut at: usize = 0;
     let mut position: u64 = 1;
     while position < u64::MAX {
-        window = feed::filled(input, buffer, window, records::LONGEST);
+        window = stream::input::filled(input, buffer, window, records::LONGEST);
         if window.failed {
             return false;
         }
         let start = window.start;
         let end = window.end;
         if start == end {
-            return output::finish(out, at);
+            return stream::output::finish(out, at);
         }
         let printed = line::print(position, &buffer[start..end], out, at);
         if file::ends(printed.number) {
-            return output::finish(out, printed.at);
+            return stream::output::finish(out, printed.at);
         }
-        let gathered = output::with_room(out, printed.at, report::ROOM);
+        let gathered = stream::output::with_room(out, printed.at, report::ROOM);
         if gathered.failed {
             return false;
         }

@@ -18,14 +18,14 @@ fn refuse(position: u64, number: u64) -> bool {
 fn pack(input: i32, buffer: &mut [u8], out: &mut [u8]) -> bool
     requires { ⌜ 236 ≤ length (now out) ⌝ }
 {
-    let mut window = feed::new_window();
+    let mut window = stream::input::new_window();
     let mut at: usize = 0;
     let mut position: u64 = 1;
     // the line is too long for the buffer, and its start is passed
     let mut cut = false;
     // a turn for each line, or piece of one that is too long
     for _ in 1..u64::MAX {
-        let next = feed::next_line(input, buffer, window);
+        let next = stream::input::next_line(input, buffer, window);
         window = next.window;
         if window.failed {
             return false;
@@ -38,14 +38,14 @@ fn pack(input: i32, buffer: &mut [u8], out: &mut [u8]) -> bool
             continue;
         }
         if start == window.end && !cut {
-            return output::finish(out, at);
+            return stream::output::finish(out, at);
         }
         let packed = line::pack(&buffer[start..end], cut, out, at);
         let number = packed.number;
         if number != 0 && !refuse(position, number) {
             return false;
         }
-        let gathered = output::with_room(out, packed.at, line::RECORD);
+        let gathered = stream::output::with_room(out, packed.at, line::RECORD);
         if gathered.failed {
             return false;
         }
