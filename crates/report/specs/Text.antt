@@ -53,7 +53,7 @@ hexadecimal (b ∷ bs) = each hexOf (b ∷ bs)
 unfoldable pub callLine : ℕ → ℕ → List ℕ → List ℕ
 callLine number used bytes = decimal number ++ (word (decimal used) ++ (word (hexadecimal bytes) ++ (10 ∷ [])))
 
--- n lines of so many bits each, from bit p on
+-- n texts, each of so many bits, from bit p on
 unfoldable pub linesFrom : (ℕ → List ℕ) → ℕ → ℕ → ℕ → List ℕ
 linesFrom line bits p zero = []
 linesFrom line bits p (suc n) = linesFrom line bits p n ++ line (p + bits * n)
@@ -68,20 +68,20 @@ module _ (xs : List ℕ) where
   abbrev pub amountAt : ℕ → List ℕ
   amountAt p = word (cents (value42 (fieldAt xs p 42)))
 
-  -- `S seller compliance test credit`, of the line at bit p
-  unfoldable pub sellerLine : ℕ → List ℕ
-  sellerLine p = 83 ∷ (word (decimal (fieldAt xs p 4)) ++ (amountAt (p + 4) ++ (amountAt (p + 46) ++ (amountAt (p + 88) ++ (10 ∷ [])))))
+  -- the line of a party at bit p, of 4 + 42 n bits: a letter, its id and n amounts
+  unfoldable pub partyLine : ℕ → ℕ → ℕ → List ℕ
+  partyLine letter n p = letter ∷ (word (decimal (fieldAt xs p 4)) ++ (linesFrom amountAt 42 (p + 4) n ++ (10 ∷ [])))
 
-  -- `L lse credit`, of the line at bit p
-  unfoldable pub lseLine : ℕ → List ℕ
-  lseLine p = 76 ∷ (word (decimal (fieldAt xs p 4)) ++ (amountAt (p + 4) ++ (10 ∷ [])))
+  -- the lines of so many parties from bit p on
+  abbrev pub partyLines : ℕ → ℕ → ℕ → ℕ → List ℕ
+  partyLines letter n p count = linesFrom (partyLine letter n) (4 + 42 * n) p count
 
-  -- a statement's lines, in its order
+  -- a statement's lines, in its order: `S seller compliance test credit`, `L lse credit`
   unfoldable pub statementLines : List ℕ
   statementLines =
       monthLine (fieldAt xs 0 4)
-      ++ (linesFrom sellerLine 130 14 (fieldAt xs 4 5)
-      ++ linesFrom lseLine 46 (14 + 130 * fieldAt xs 4 5) (fieldAt xs 9 5))
+      ++ (partyLines 83 3 14 (fieldAt xs 4 5)
+      ++ partyLines 76 1 (14 + 130 * fieldAt xs 4 5) (fieldAt xs 9 5))
 
 -- what is printed of a record: a refusal's line, an accepted close's statement, of any other record nothing
 unfoldable pub answerLines : ℕ → ℕ → ℕ → List ℕ → List ℕ

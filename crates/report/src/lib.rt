@@ -8,7 +8,7 @@ ghost use lib.ListN.{length};
 ghost use Rattle.statement.specs.Value42.{value42};
 ghost use Rattle.report.specs.Pasted.{Pasted};
 ghost use Rattle.report.specs.Lies.{Lies};
-ghost use Rattle.report.specs.Text.{answerLines, callLine, cents, decimal, hexadecimal, linesFrom, lseLine, monthLine, numbersLine, refusalLine, room, sellerLine, statementLines, statementRoom, word};
+ghost use Rattle.report.specs.Text.{amountAt, answerLines, callLine, cents, decimal, hexadecimal, linesFrom, monthLine, numbersLine, partyLine, partyLines, refusalLine, room, statementLines, statementRoom, word};
 
 // The bytes that a caller leaves free for one report.
 pub const ROOM: usize = 4177;
@@ -75,77 +75,74 @@ fn put_month(month: u64, out: &mut [u8], at: usize) -> usize
     put_byte(out, p, b'\n')
 }
 
-// The place after lines that are put, and the cursor behind what they are read from.
-struct Lines {
+// The place after text that is put, and the cursor behind what it is read from.
+struct Place {
     at: usize,
     next: Cursor,
 }
 
-fn put_seller(statement: &[u8], c: Cursor, out: &mut [u8], at: usize) -> Lines
-    requires { ⌜ Lies (now statement) (c .at) 130 ⌝ }
-    requires { ⌜ at + 89 ≤ length (now out) ⌝ }
-    ensures { λ r. ⌜ Pasted (now (out .entry)) (now (out .exit)) at (sellerLine (now (statement .entry)) (c .at)) (r .at) ⌝ }
-    ensures { λ r. ⌜ (r .at ≤ at + 89) × (r .next .at ≡ c .at + 130) ⌝ }
-{
-    let seller = c.take(statement, 4);
-    let compliance = seller.next.take(statement, 42);
-    let test = compliance.next.take(statement, 42);
-    let credit = test.next.take(statement, 42);
-    let mut p = put_byte(out, at, b'S');
-    p = put_number(out, p, seller.value);
-    p = put_amount(compliance.value, out, p);
-    p = put_amount(test.value, out, p);
-    p = put_amount(credit.value, out, p);
-    p = put_byte(out, p, b'\n');
-    let next = credit.next;
-    Lines { at: p, next: next }
+// The line of each party of a sort: its letter, and how many amounts behind the id.
+struct Sort {
+    letter: u8,
+    amounts: usize,
 }
 
-fn put_lse(statement: &[u8], c: Cursor, out: &mut [u8], at: usize) -> Lines
-    requires { ⌜ Lies (now statement) (c .at) 46 ⌝ }
-    requires { ⌜ at + 45 ≤ length (now out) ⌝ }
-    ensures { λ r. ⌜ Pasted (now (out .entry)) (now (out .exit)) at (lseLine (now (statement .entry)) (c .at)) (r .at) ⌝ }
-    ensures { λ r. ⌜ (r .at ≤ at + 45) × (r .next .at ≡ c .at + 46) ⌝ }
+// The next n amounts of a statement, as further words of a line.
+fn put_amounts(statement: &[u8], n: usize, out: &mut [u8], from: Place) -> Place
+    requires { ⌜ n ≤ 3 ⌝ }
+    requires { ⌜ Lies (now statement) (from .next .at) (42 * n) ⌝ }
+    requires { ⌜ from .at + 22 * n ≤ length (now out) ⌝ }
+    ensures { λ r. ⌜ Pasted (now (out .entry)) (now (out .exit)) (from .at) (linesFrom (amountAt (now (statement .entry))) 42 (from .next .at) n) (r .at) ⌝ }
+    ensures { λ r. ⌜ (r .at ≤ from .at + 22 * n) × (r .next .at ≡ from .next .at + 42 * n) ⌝ }
 {
-    let lse = c.take(statement, 4);
-    let credit = lse.next.take(statement, 42);
-    let mut p = put_byte(out, at, b'L');
-    p = put_number(out, p, lse.value);
-    p = put_amount(credit.value, out, p);
-    p = put_byte(out, p, b'\n');
-    let next = credit.next;
-    Lines { at: p, next: next }
-}
-
-fn put_sellers(statement: &[u8], c: Cursor, sellers: u64, out: &mut [u8], at: usize) -> Lines
-    requires { ⌜ sellers ≤ 31 ⌝ }
-    requires { ⌜ Lies (now statement) (c .at) (130 * sellers) ⌝ }
-    requires { ⌜ at + 89 * sellers ≤ length (now out) ⌝ }
-    ensures { λ r. ⌜ Pasted (now (out .entry)) (now (out .exit)) at (linesFrom (sellerLine (now (statement .entry))) 130 (c .at) sellers) (r .at) ⌝ }
-    ensures { λ r. ⌜ (r .at ≤ at + 89 * sellers) × (r .next .at ≡ c .at + 130 * sellers) ⌝ }
-{
-    let mut lines = Lines { at: at, next: c };
-    let mut s: u64 = 0;
-    while s < sellers {
-        lines = put_seller(statement, lines.next, out, lines.at);
-        s += 1;
+    let mut place = from;
+    let mut i: usize = 0;
+    while i < n {
+        let amount = place.next.take(statement, 42);
+        let at = put_amount(amount.value, out, place.at);
+        let next = amount.next;
+        place = Place { at: at, next: next };
+        i += 1;
     }
-    lines
+    place
 }
 
-fn put_lses(statement: &[u8], c: Cursor, lses: u64, out: &mut [u8], at: usize) -> Lines
-    requires { ⌜ lses ≤ 31 ⌝ }
-    requires { ⌜ Lies (now statement) (c .at) (46 * lses) ⌝ }
-    requires { ⌜ at + 45 * lses ≤ length (now out) ⌝ }
-    ensures { λ r. ⌜ Pasted (now (out .entry)) (now (out .exit)) at (linesFrom (lseLine (now (statement .entry))) 46 (c .at) lses) (r .at) ⌝ }
+// The line of a party.
+fn put_party(statement: &[u8], sort: Sort, out: &mut [u8], from: Place) -> Place
+    requires { ⌜ sort .amounts ≤ 3 ⌝ }
+    requires { ⌜ Lies (now statement) (from .next .at) (4 + 42 * sort .amounts) ⌝ }
+    requires { ⌜ from .at + (23 + 22 * sort .amounts) ≤ length (now out) ⌝ }
+    ensures { λ r. ⌜ Pasted (now (out .entry)) (now (out .exit)) (from .at) (partyLine (now (statement .entry)) (sort .letter) (sort .amounts) (from .next .at)) (r .at) ⌝ }
+    ensures { λ r. ⌜ (r .at ≤ from .at + (23 + 22 * sort .amounts)) × (r .next .at ≡ from .next .at + (4 + 42 * sort .amounts)) ⌝ }
 {
-    let mut lines = Lines { at: at, next: c };
-    let mut j: u64 = 0;
-    while j < lses {
-        lines = put_lse(statement, lines.next, out, lines.at);
-        j += 1;
+    let id = from.next.take(statement, 4);
+    let mut p = put_byte(out, from.at, sort.letter);
+    p = put_number(out, p, id.value);
+    let next = id.next;
+    let place = put_amounts(statement, sort.amounts, out, Place { at: p, next: next });
+    p = put_byte(out, place.at, b'\n');
+    let behind = place.next;
+    Place {
+        at: p,
+        next: behind,
     }
-    lines
+}
+
+// The lines of so many parties of a sort.
+fn put_parties(statement: &[u8], sort: Sort, count: u64, out: &mut [u8], from: Place) -> Place
+    requires { ⌜ (sort .amounts ≤ 3) × (count ≤ 31) ⌝ }
+    requires { ⌜ Lies (now statement) (from .next .at) ((4 + 42 * sort .amounts) * count) ⌝ }
+    requires { ⌜ from .at + (23 + 22 * sort .amounts) * count ≤ length (now out) ⌝ }
+    ensures { λ r. ⌜ Pasted (now (out .entry)) (now (out .exit)) (from .at) (partyLines (now (statement .entry)) (sort .letter) (sort .amounts) (from .next .at) count) (r .at) ⌝ }
+    ensures { λ r. ⌜ (r .at ≤ from .at + (23 + 22 * sort .amounts) * count) × (r .next .at ≡ from .next .at + (4 + 42 * sort .amounts) * count) ⌝ }
+{
+    let mut place = from;
+    let mut i: u64 = 0;
+    while i < count {
+        place = put_party(statement, sort, out, place);
+        i += 1;
+    }
+    place
 }
 
 // The lines of a statement: `M month`, `S seller compliance test credit`, `L lse credit`. One cursor goes through its fields.
@@ -158,8 +155,23 @@ fn statement_lines(statement: &[u8], out: &mut [u8], at: usize) -> usize
     let sellers = month.next.take(statement, 5);
     let lses = sellers.next.take(statement, 5);
     let p = put_month(month.value, out, at);
-    let lines = put_sellers(statement, lses.next, sellers.value, out, p);
-    put_lses(statement, lines.next, lses.value, out, lines.at).at
+    let seller = Sort {
+        letter: b'S',
+        amounts: 3,
+    };
+    let lse = Sort {
+        letter: b'L',
+        amounts: 1,
+    };
+    let next = lses.next;
+    let place = put_parties(
+        statement,
+        seller,
+        sellers.value,
+        out,
+        Place { at: p, next: next },
+    );
+    put_parties(statement, lse, lses.value, out, place).at
 }
 
 // The line of a refusal: `N position number`.

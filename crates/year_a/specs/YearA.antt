@@ -23,7 +23,7 @@ use Rattle.statement.specs.Value42.{value42}
 use Rattle.questions.specs.Questions.{listingIn, inTime, q6, q7, q8, q9, q10, q11, q12, q13, q14, q15, q16, questions}
 use Rattle.entries.specs.Entries.{inArea, inGroup, everyListed, deficitsListed, listsExactly}
 use Rattle.book.specs.Outcome.{valuesOf, postNumber, yearWith, bufferWith, yearAfter, bufferAfter}
-use Rattle.report.specs.Text.{digitsTo, decimal, cents, refusalLine, linesFrom, monthLine, sellerLine, lseLine, statementLines, answerLines}
+use Rattle.report.specs.Text.{digitsTo, decimal, cents, refusalLine, linesFrom, monthLine, partyLine, statementLines, answerLines}
 
 -- a text's bytes
 bytes : String → List ℕ
@@ -122,5 +122,5 @@ figures : (
     )
     × (printed (answers 1 newYear others) ≡ [])
     × (compliance (after newYear others) 13 3 ≡ 20833) × (test (after newYear others) 13 4 ≡ 2931660) × (lse (after newYear others) 13 5 ≡ 2952493)
-unfolding sumTo anyTo allTo tabulate convert days due callable testable share bitAt number bitsOf spell byteOf bytesOf pack encode hasLists deficitsIn entriesIn times rulesFor recordQuestions firstFailed kindOf headOf rulesOf numbersOf isKind isWhole permits permitted isFilled rises idsRise row listed reduction deficit known seller area zone product committed rate obligation byId pairedBy called calls uncapped raised part total shortfall shortOf u cap asked daily overEvents charge excessOf e charged creditOf tested base testOf overTests compliance credit test charges credits lse amounts countTo difference hasRegistration hasObligation sellerColumns lineFields linesTo statementFields statementOf value42 listingIn inArea inGroup everyListed deficitsListed listsExactly inTime q6 q7 q8 q9 q10 q11 q12 q13 q14 q15 q16 questions valuesOf postNumber yearWith bufferWith yearAfter bufferAfter digitsTo decimal cents refusalLine linesFrom monthLine sellerLine lseLine statementLines answerLines bytes answers printed after
+unfolding sumTo anyTo allTo tabulate convert days due callable testable share bitAt number bitsOf spell byteOf bytesOf pack encode hasLists deficitsIn entriesIn times rulesFor recordQuestions firstFailed kindOf headOf rulesOf numbersOf isKind isWhole permits permitted isFilled rises idsRise row listed reduction deficit known seller area zone product committed rate obligation byId pairedBy called calls uncapped raised part total shortfall shortOf u cap asked daily overEvents charge excessOf e charged creditOf tested base testOf overTests compliance credit test charges credits lse amounts countTo difference hasRegistration hasObligation sellerColumns lineFields linesTo statementFields statementOf value42 listingIn inArea inGroup everyListed deficitsListed listsExactly inTime q6 q7 q8 q9 q10 q11 q12 q13 q14 q15 q16 questions valuesOf postNumber yearWith bufferWith yearAfter bufferAfter digitsTo decimal cents refusalLine linesFrom monthLine partyLine statementLines answerLines bytes answers printed after
 figures = (refl, refl, refl, refl, refl, refl)

@@ -25,27 +25,29 @@ counts-at c =
     let f = front-at c in
     (omega (arith, f .1, field-lt xs 4 5), omega (arith, f .2, field-lt xs 9 5))
 
-put-sellers-requires : tie.Need-put-sellers-requires
-put-sellers-requires c κs =
-    let n = counts-at (c .before .before .before .before .before) in
-    let f = front-at (c .before .before .before .before .before) in
-    (n .0, (record { within = omega (arith, f .3); small = omega (arith, f .3) }, omega (arith, c .before .before .before .put-month .ensures .1)))
+put-parties-requires : tie.Need-put-parties-requires
+put-parties-requires c κs =
+    let n = counts-at (c .before .before .before .before .before .before) in
+    let f = front-at (c .before .before .before .before .before .before) in
+    ((omega arith, n .0), (record { within = omega (arith, f .3); small = omega (arith, f .3) }, omega (arith, n .0, c .before .before .before .before .put-month .ensures .1)))
 
-put-lses-requires : tie.Need-put-lses-requires
-put-lses-requires c κs =
-    let n = counts-at (c .before .before .before .before .before .before .before .before .before) in
-    let f = front-at (c .before .before .before .before .before .before .before .before .before) in
-    let s = c .before .before .before .put-sellers .ensures .1 in
-    let long = pasted-length (then (c .before .before .before .before .before .before .before .put-month .ensures .0) (c .before .before .before .put-sellers .ensures .0)) in
-    (n .1, (record { within = omega (arith, n .0, n .1, f .3, s .1, c .before .before .before .before .before .before .before .before .before .before .before .before .before .before .before .pre .0); small = omega (arith, n .0, n .1, f .3, s .1) }, omega (arith, n .0, n .1, c .before .before .before .before .before .before .before .put-month .ensures .1, s .0, c .before .before .before .before .before .before .before .before .before .before .before .before .before .before .before .pre .1)))
+put-parties-requires-2 : tie.Need-put-parties-requires-2
+put-parties-requires-2 c κs =
+    let s = c .before .before .before .before .before .before .before .before .before .before .before .before .before .before .before .before in
+    let n = counts-at (c .before .before .before .before .before .before .before .before .before .before) in
+    let f = front-at (c .before .before .before .before .before .before .before .before .before .before) in
+    let month = c .before .before .before .before .before .before .before .before .put-month .ensures in
+    let sellers = c .before .before .before .put-parties .ensures in
+    let long = pasted-length (then (month .0) (sellers .0)) in
+    ((omega arith, n .1), (record { within = omega (arith, n .0, n .1, f .3, sellers .1, s .pre .0); small = omega (arith, n .0, n .1, f .3, sellers .1) }, omega (arith, n .0, n .1, month .1, sellers .1, s .pre .1)))
 
 returns : tie.Need-returns
 unfolding statementLines
 returns c =
-    let f = front-at (c .before .before .before .before .before .before .before .before .before .before .before .before) in
-    let e = then (c .before .before .before .before .before .before .before .before .before .before .put-month .ensures .0) (then (c .before .before .before .before .before .before .put-sellers .ensures .0) (c .before .before .put-lses .ensures)) in
-    let from = c .before .before .before .before .before .before .put-sellers .ensures .1 .1 in
-    rw (from, f .3, f .0, f .1, f .2) at e
+    let f = front-at (c .before .before .before .before .before .before .before .before .before .before .before .before .before) in
+    let sellers = c .before .before .before .before .before .before .put-parties .ensures in
+    let lines = then (c .before .before .before .before .before .before .before .before .before .before .before .put-month .ensures .0) (then (sellers .0) (c .before .before .put-parties2 .ensures .0)) in
+    rw (sellers .1 .1, f .3, f .0, f .1, f .2) at lines
 
 pub statement-lines-spec : {M : Type 1} → statement M
 statement-lines-spec =
@@ -56,7 +58,7 @@ statement-lines-spec =
     (λ c κs. search needs)
     (λ c κs. search needs)
     (λ c κs. search needs)
-    put-sellers-requires
-    put-lses-requires
+    put-parties-requires
+    put-parties-requires-2
     (λ c. search needs)
     returns)
