@@ -17,7 +17,7 @@ use Rattle.history.specs.Runs.{Call, buffered, step}
 use Rattle.history.specs.Files.{callsOf, numberOf}
 use Rattle.history.specs.FileLaws.{same-post, same-year, same-buffer, ends-post}
 use Rattle.report.specs.Text.{answerLines}
-use Rattle.report.specs.Pasted.{Pasted}
+use Rattle.text.specs.Pasted.{Pasted}
 use Rattle.answer.specs.Answer.{answerText, textOf}
 
 -- a record's kind is its first byte's high half

@@ -4,7 +4,7 @@ ghost use mathlib.Core.Path.{_≡_};
 ghost use Prim.Native.Nat.{_+_};
 ghost use Rattle.year.specs.Sound.{Sound};
 ghost use Rattle.book.specs.Outcome.{Posts};
-ghost use Rattle.report.specs.Pasted.{Pasted};
+ghost use Rattle.text.specs.Pasted.{Pasted};
 ghost use Rattle.answer.specs.Answer.{answerText, Ready};
 
 // What goes from record to record: the year, the next record's position, and the place behind what is printed.

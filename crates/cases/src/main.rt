@@ -75,6 +75,6 @@ fn print_call(number: u64, used: usize, bytes: &[u8])
     requires { ⌜ length (now bytes) ≤ 4096 ⌝ }
 {
     let mut out = io::large_buffer();
-    let end = report::call_line(number, used as u64, bytes, &mut out, 0);
+    let end = text::lines::call_line(number, used as u64, bytes, &mut out, 0);
     io::write_all(STDOUT_FILENO, &out[0..end]);
 }

@@ -27,6 +27,6 @@ fn read(bytes: &[u8], row: &mut [u64])
     row[2] = answer.used as u64;
     let count = text::least(answer.count, room);
     let mut out = io::large_buffer();
-    let end = report::numbers_line(&row[0..count + 3], &mut out, 0);
+    let end = text::lines::numbers_line(&row[0..count + 3], &mut out, 0);
     io::write_all(STDOUT_FILENO, &out[0..end]);
 }

@@ -10,7 +10,8 @@ use lib.Seq.{take-append-seam}
 use Rattle.layouts.specs.Questions.{numbersOf, recordNumber, most, row}
 use Rattle.records.specs.Calls.{Parses}
 use Rattle.records.specs.Accepted.{accepted, taken-numbers, numbers-few}
-use Rattle.report.specs.Text.{numbersLine, refusalLine}
+use Rattle.text.specs.Lines.{numbersLine}
+use Rattle.report.specs.Text.{refusalLine}
 
 -- of the record at the front of the bytes: its numbers, or its refusal
 unfoldable pub recordLine : ℕ → List ℕ → List ℕ

@@ -16,7 +16,7 @@ use Rattle.layouts.specs.LayoutLaws.{length-widths}
 use Rattle.layouts.specs.Questions.{rulesBy}
 use Rattle.records.specs.Calls.{bytesBy, Writes, writeNumber, writeBuffer}
 use Rattle.records.specs.RoundTrip.{writable}
-use Rattle.report.specs.Pasted.{Pasted, none}
+use Rattle.text.specs.Pasted.{Pasted, none}
 use Rattle.text.specs.Words.{numbers}
 
 -- the numbers that are kept of a line: more than a record has are a wrong count

@@ -3,7 +3,7 @@ ghost use mathlib.Core.Path.{_≡_};
 ghost use Prim.Native.Nat.{_+_, _-_, _≤_};
 ghost use lib.ListN.{length};
 ghost use Rattle.layouts.specs.Questions.{recordNumber, consumed};
-ghost use Rattle.report.specs.Pasted.{Pasted};
+ghost use Rattle.text.specs.Pasted.{Pasted};
 ghost use Rattle.report.specs.Text.{room};
 ghost use Rattle.line.specs.Line.{recordLine};
 ghost use Rattle.line.specs.Packs.{lineNumber, lineRecord};
@@ -40,7 +40,7 @@ pub fn print(position: u64, bytes: &[u8], out: &mut [u8], at: usize) -> Printed
     }
     let values = record.values;
     let count = record.count;
-    let next = report::numbers_line(&values[..count], out, at);
+    let next = text::lines::numbers_line(&values[..count], out, at);
     Printed {
         number: number,
         used: used,

@@ -1,57 +1,21 @@
--- The programs' lines, as bytes: the bill's (document 01, 'The bill program'), that of a record's numbers, and that of a call's answer.
-use Prim.Native.Nat.{ℕ, zero, suc, _+_, _*_, _/_, _%_}
+-- The bill's lines, as bytes (document 01, 'The bill program').
+use Prim.Native.Nat.{ℕ, zero, suc, _+_, _*_}
 use mathlib.Core.Bool.{cond}
 use mathlib.Core.List.{List, [], _∷_, _++_}
 use lib.IntN.{ℤ, pos, negsuc}
-use lib.Dec.{ltb, eqb}
+use lib.Dec.{eqb}
 use Rattle.bits.specs.Bits.{fieldAt}
-use Rattle.text.specs.Text.{character}
+use Rattle.text.specs.Lines.{decimal, word}
 use Rattle.statement.specs.Value42.{value42}
-
--- the digits of n in decimal, at most so many, the first of them the highest
-unfoldable pub digitsTo : ℕ → ℕ → List ℕ
-digitsTo zero n = []
-digitsTo (suc m) n = cond (ltb n 10) [] (digitsTo m (n / 10)) ++ ((48 + n % 10) ∷ [])
-
--- a number below 10 ^ 20 in decimal
-unfoldable pub decimal : ℕ → List ℕ
-decimal n = digitsTo 20 n
 
 -- cents in decimal, with `-` before a negative
 unfoldable pub cents : ℤ → List ℕ
 cents (pos n) = decimal n
 cents (negsuc n) = 45 ∷ decimal (suc n)
 
--- a space before each word of a line but the first
-abbrev pub word : List ℕ → List ℕ
-word text = 32 ∷ text
-
 -- `N position number`
 unfoldable pub refusalLine : ℕ → ℕ → List ℕ
 refusalLine position number = 78 ∷ (word (decimal position) ++ (word (decimal number) ++ (10 ∷ [])))
-
--- the texts of some numbers, one after another
-unfoldable pub each : (ℕ → List ℕ) → List ℕ → List ℕ
-each text [] = []
-each text (n ∷ ns) = text n ++ each text ns
-
--- numbers with a space between them
-unfoldable pub numbersLine : List ℕ → List ℕ
-numbersLine [] = 10 ∷ []
-numbersLine (n ∷ ns) = decimal n ++ (each (λ m. word (decimal m)) ns ++ (10 ∷ []))
-
--- a byte's two hexadecimal digits
-abbrev pub hexOf : ℕ → List ℕ
-hexOf b = character (b / 16) ∷ character (b % 16) ∷ []
-
--- bytes in hexadecimal, `-` where there are none
-unfoldable pub hexadecimal : List ℕ → List ℕ
-hexadecimal [] = 45 ∷ []
-hexadecimal (b ∷ bs) = each hexOf (b ∷ bs)
-
--- `number used bytes`
-unfoldable pub callLine : ℕ → ℕ → List ℕ → List ℕ
-callLine number used bytes = decimal number ++ (word (decimal used) ++ (word (hexadecimal bytes) ++ (10 ∷ [])))
 
 -- n texts, each of so many bits, from bit p on
 unfoldable pub linesFrom : (ℕ → List ℕ) → ℕ → ℕ → ℕ → List ℕ

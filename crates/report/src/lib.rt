@@ -1,14 +1,17 @@
-// The programs' lines, as bytes: those of a statement, of a refusal, of a record's numbers and of a call's answer.
+// The bill's lines, as bytes: those of a statement and of a refusal.
 // Each function puts its text into a lent buffer from a place on and answers the next place, so that output can be gathered.
 use bits::Cursor;
+use text::lines::put_byte;
+use text::lines::put_decimal;
+use text::lines::put_number;
 ghost use mathlib.Core.Path.{_≡_};
-ghost use mathlib.Core.List.{[], _∷_};
 ghost use Prim.Native.Nat.{_+_, _*_, _^_, _≤_, _<_};
 ghost use lib.ListN.{length};
 ghost use Rattle.statement.specs.Value42.{value42};
-ghost use Rattle.report.specs.Pasted.{Pasted};
+ghost use Rattle.text.specs.Pasted.{Pasted};
 ghost use Rattle.report.specs.Lies.{Lies};
-ghost use Rattle.report.specs.Text.{amountAt, answerLines, callLine, cents, decimal, hexadecimal, linesFrom, monthLine, numbersLine, partyLine, partyLines, refusalLine, room, statementLines, statementRoom, word};
+ghost use Rattle.text.specs.Lines.{word};
+ghost use Rattle.report.specs.Text.{amountAt, answerLines, cents, linesFrom, monthLine, partyLine, partyLines, refusalLine, room, statementLines, statementRoom};
 
 // The bytes that a caller leaves free for one report.
 pub const ROOM: usize = 4177;
@@ -20,35 +23,6 @@ pub const STATEMENT: usize = 684;
 const NEGATIVE: u64 = 0x200_0000_0000;
 
 const WHOLE: u64 = 0x400_0000_0000;
-
-fn put_byte(out: &mut [u8], at: usize, byte: u8) -> usize
-    requires { ⌜ at < length (now out) ⌝ }
-    ensures { λ r. ⌜ Pasted (now (out .entry)) (now (out .exit)) at (byte ∷ []) r ⌝ }
-{
-    out[at] = byte;
-    at + 1
-}
-
-fn put_decimal(out: &mut [u8], at: usize, n: u64) -> usize
-    requires { ⌜ at + 20 ≤ length (now out) ⌝ }
-    ensures { λ r. ⌜ Pasted (now (out .entry)) (now (out .exit)) at (decimal n) r ⌝ }
-{
-    if n < 10 {
-        return put_byte(out, at, 48 + n as u8);
-    }
-    let p = put_decimal(out, at, n / 10);
-    put_byte(out, p, 48 + (n % 10) as u8)
-}
-
-// A number as a further word of a line.
-fn put_number(out: &mut [u8], at: usize, n: u64) -> usize
-    requires { ⌜ at + 21 ≤ length (now out) ⌝ }
-    ensures { λ r. ⌜ Pasted (now (out .entry)) (now (out .exit)) at (word (decimal n)) r ⌝ }
-    ensures { λ r. ⌜ r ≤ at + 21 ⌝ }
-{
-    let p = put_byte(out, at, b' ');
-    put_decimal(out, p, n)
-}
 
 // An amount, as a further word of a line.
 fn put_amount(bits: u64, out: &mut [u8], at: usize) -> usize
@@ -182,55 +156,6 @@ pub fn refusal_line(position: u64, number: u64, out: &mut [u8], at: usize) -> us
     let mut p = put_byte(out, at, b'N');
     p = put_number(out, p, position);
     p = put_number(out, p, number);
-    put_byte(out, p, b'\n')
-}
-
-// The line of a record that is read: its numbers.
-pub fn numbers_line(numbers: &[u64], out: &mut [u8], at: usize) -> usize
-    requires { ⌜ at + (21 * length (now numbers) + 1) ≤ length (now out) ⌝ }
-    ensures { λ r. ⌜ Pasted (now (out .entry)) (now (out .exit)) at (numbersLine (now (numbers .entry))) r ⌝ }
-{
-    if numbers.len() == 0 {
-        return put_byte(out, at, b'\n');
-    }
-    let mut p = put_decimal(out, at, numbers[0]);
-    let mut i = 1;
-    while i < numbers.len() {
-        p = put_number(out, p, numbers[i]);
-        i += 1;
-    }
-    put_byte(out, p, b'\n')
-}
-
-// Bytes in hexadecimal, `-` where there are none.
-fn put_bytes(bytes: &[u8], out: &mut [u8], at: usize) -> usize
-    requires { ⌜ at + (2 * length (now bytes) + 1) ≤ length (now out) ⌝ }
-    ensures { λ r. ⌜ Pasted (now (out .entry)) (now (out .exit)) at (hexadecimal (now (bytes .entry))) r ⌝ }
-    ensures { λ r. ⌜ r ≤ at + (2 * length (now (bytes .entry)) + 1) ⌝ }
-{
-    if bytes.len() == 0 {
-        return put_byte(out, at, b'-');
-    }
-    let mut p = at;
-    let mut i = 0;
-    while i < bytes.len() {
-        let digits = text::hex_digits(bytes[i]);
-        p = put_byte(out, p, digits[0]);
-        p = put_byte(out, p, digits[1]);
-        i += 1;
-    }
-    p
-}
-
-// The line of what a call answers: its number, how many bytes it used, and bytes in hexadecimal.
-pub fn call_line(number: u64, used: u64, bytes: &[u8], out: &mut [u8], at: usize) -> usize
-    requires { ⌜ at + (2 * length (now bytes) + 44) ≤ length (now out) ⌝ }
-    ensures { λ r. ⌜ Pasted (now (out .entry)) (now (out .exit)) at (callLine number used (now (bytes .entry))) r ⌝ }
-{
-    let mut p = put_decimal(out, at, number);
-    p = put_number(out, p, used);
-    p = put_byte(out, p, b' ');
-    p = put_bytes(bytes, out, p);
     put_byte(out, p, b'\n')
 }
 

@@ -1,2 +1,5 @@
 pub mod Text
 pub mod Words
+pub mod Lines
+pub mod Pasted
+pub mod LineLaws

@@ -7,6 +7,8 @@ ghost use lib.ListN.{length, getD, take, drop};
 ghost use Rattle.text.specs.Text.{Ends, digit, pairs, character};
 ghost use Rattle.text.specs.Words.{Starts, Stops, separates, further, spelled, numbers};
 
+pub mod lines;
+
 // Where the byte stands first from a place on, or the length.
 pub fn find(s: &[u8], at: usize, byte: u8) -> usize
     requires { ⌜ at ≤ length (now s) ⌝ }

@@ -23,7 +23,8 @@ use Rattle.statement.specs.Value42.{value42}
 use Rattle.questions.specs.Questions.{listingIn, inTime, q6, q7, q8, q9, q10, q11, q12, q13, q14, q15, q16, questions}
 use Rattle.entries.specs.Entries.{inArea, inGroup, everyListed, deficitsListed, listsExactly}
 use Rattle.book.specs.Outcome.{valuesOf, postNumber, yearWith, bufferWith, yearAfter, bufferAfter}
-use Rattle.report.specs.Text.{digitsTo, decimal, cents, refusalLine, linesFrom, monthLine, partyLine, statementLines, answerLines}
+use Rattle.text.specs.Lines.{digitsTo, decimal}
+use Rattle.report.specs.Text.{cents, refusalLine, linesFrom, monthLine, partyLine, statementLines, answerLines}
 
 -- a text's bytes
 bytes : String → List ℕ

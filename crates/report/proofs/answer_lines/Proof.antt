@@ -3,7 +3,7 @@ use borrow.Author.Needs.{needs}
 use borrow.Author.Tests.{eq-eqb, ne-eqb}
 use native.Mathlib.Omega.{arith}
 use Rattle.report.specs.Text.{answerLines}
-use Rattle.report.specs.Pasted.{none}
+use Rattle.text.specs.Pasted.{none}
 use Rattle.report.proofs.answer_lines.Statement.{statement}
 use Rattle.report.proofs.answer_lines.Tie as tie
 

@@ -2,8 +2,9 @@
 use borrow.Author.Needs.{needs}
 use native.Mathlib.Omega.{arith}
 use Prim.Native.Nat.{_-_, _^_}
-use Rattle.report.specs.Pasted.{then}
-use Rattle.report.specs.TextLaws.{cents-low, cents-high, decimal-length}
+use Rattle.text.specs.Pasted.{then}
+use Rattle.text.specs.LineLaws.{decimal-length}
+use Rattle.report.specs.TextLaws.{cents-low, cents-high}
 use Rattle.report.proofs.put_amount.Statement.{statement}
 use Rattle.report.proofs.put_amount.Tie as tie
 

@@ -5,7 +5,7 @@ use Prim.Native.Nat.{_+_, _-_, _*_, _≤_}
 use mathlib.Core.Path.{_≡_}
 use Rattle.bits.specs.BitLaws.{field-lt}
 use Rattle.report.specs.Text.{amountAt, linesFrom}
-use Rattle.report.specs.Pasted.{Pasted, pasted-length}
+use Rattle.text.specs.Pasted.{Pasted, pasted-length}
 use Rattle.report.specs.TextLaws.{lines-none, lines-step}
 use Rattle.report.proofs.put_amounts.Statement.{statement}
 use Rattle.report.proofs.put_amounts.Tie as tie

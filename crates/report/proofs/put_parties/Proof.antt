@@ -5,7 +5,7 @@ use native.Mathlib.Omega.{arith}
 use Prim.Native.Nat.{_+_, _-_, _*_, _≤_}
 use mathlib.Core.Path.{_≡_}
 use Rattle.report.specs.Text.{partyLine, partyLines}
-use Rattle.report.specs.Pasted.{Pasted, pasted-length}
+use Rattle.text.specs.Pasted.{Pasted, pasted-length}
 use Rattle.report.specs.TextLaws.{lines-none, lines-step}
 use Rattle.report.proofs.put_parties.Statement.{statement}
 use Rattle.report.proofs.put_parties.Tie as tie

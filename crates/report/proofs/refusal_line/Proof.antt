@@ -1,7 +1,7 @@
 -- The words of the line, one after another.
 use borrow.Author.Needs.{needs}
 use Rattle.report.specs.Text.{refusalLine}
-use Rattle.report.specs.Pasted.{then}
+use Rattle.text.specs.Pasted.{then}
 use Rattle.report.proofs.refusal_line.Statement.{statement}
 use Rattle.report.proofs.refusal_line.Tie as tie
 

@@ -6,7 +6,7 @@ use mathlib.Core.Path.{_≡_}
 use Rattle.bits.specs.Bits.{fieldAt}
 use Rattle.bits.specs.BitLaws.{field-lt}
 use Rattle.report.specs.Text.{statementLines}
-use Rattle.report.specs.Pasted.{pasted-length, then}
+use Rattle.text.specs.Pasted.{pasted-length, then}
 use Rattle.report.proofs.statement_lines.Statement.{statement}
 use Rattle.report.proofs.statement_lines.Tie as tie
 

@@ -4,16 +4,16 @@ use Prim.Native.Nat.{ℕ, _<_}
 use mathlib.Core.Path.{ap}
 use native.Mathlib.Omega.{arith}
 use lib.ListN.{length, length-append}
-use Rattle.report.specs.Pasted.{then}
-use Rattle.report.specs.TextLaws.{decimal-one, decimal-more, decimal-length}
+use Rattle.text.specs.Pasted.{then}
+use Rattle.text.specs.LineLaws.{decimal-one, decimal-more, decimal-length}
 use borrow.Fn.Kinds.{In}
 use borrow.Fn.PlainCycle.{Measures, is, falls, and}
-use Rattle.report.proofs.put_decimal.Reads as put-decimal
-use Rattle.report.proofs.put_decimal.Kinds as put-decimal-kinds
-use Rattle.report.proofs.+put_decimal.Lts-put_decimal as put-decimal-lts
-use Rattle.report.proofs.put_byte.Reads as put-byte-reads
-use Rattle.report.proofs.+put_decimal.{statement}
-use Rattle.report.proofs.+put_decimal.Tie.{close}
+use Rattle.text.proofs.lines.put_decimal.Reads as put-decimal
+use Rattle.text.proofs.lines.put_decimal.Kinds as put-decimal-kinds
+use Rattle.text.proofs.lines.+put_decimal.Lts-put_decimal as put-decimal-lts
+use Rattle.text.proofs.lines.put_byte.Reads as put-byte-reads
+use Rattle.text.proofs.lines.+put_decimal.{statement}
+use Rattle.text.proofs.lines.+put_decimal.Tie.{close}
 
 abbrev μ-put-decimal : Measures 1 put-decimal-kinds.ps ℕ
 μ-put-decimal κs a = a .1 .1 .0

@@ -1,8 +1,8 @@
 -- A store is a paste of one byte.
 use borrow.Author.Needs.{needs}
-use Rattle.report.specs.Pasted.{one}
-use Rattle.report.proofs.put_byte.Statement.{statement}
-use Rattle.report.proofs.put_byte.Tie as tie
+use Rattle.text.specs.Pasted.{one}
+use Rattle.text.proofs.lines.put_byte.Statement.{statement}
+use Rattle.text.proofs.lines.put_byte.Tie as tie
 
 returns : tie.Need-returns
 returns c = one (c .args .out .now) (c .args .at) (c .args .byte) (c .pre)

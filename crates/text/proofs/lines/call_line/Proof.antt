@@ -1,11 +1,11 @@
 -- The words of the line, one after another.
 use native.Mathlib.Omega.{arith}
 use borrow.Author.Needs.{needs}
-use Rattle.report.specs.Text.{callLine}
-use Rattle.report.specs.Pasted.{then}
-use Rattle.report.specs.TextLaws.{decimal-length}
-use Rattle.report.proofs.call_line.Statement.{statement}
-use Rattle.report.proofs.call_line.Tie as tie
+use Rattle.text.specs.Lines.{callLine}
+use Rattle.text.specs.Pasted.{then}
+use Rattle.text.specs.LineLaws.{decimal-length}
+use Rattle.text.proofs.lines.call_line.Statement.{statement}
+use Rattle.text.proofs.lines.call_line.Tie as tie
 
 put-number-requires : tie.Need-put-number-requires
 put-number-requires c κs =

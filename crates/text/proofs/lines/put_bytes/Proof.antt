@@ -4,12 +4,12 @@ use Prim.Native.Nat.{_+_, _-_, _*_, _≤_}
 use native.Mathlib.Omega.{arith}
 use lib.ListN.{length, take}
 use lib.Seq.{take-length}
-use Rattle.report.specs.Text.{each, hexOf}
-use Rattle.report.specs.Pasted.{Pasted, pasted-length, none, then}
-use Rattle.report.specs.TextLaws.{each-step, no-bytes, some-bytes}
+use Rattle.text.specs.Lines.{each, hexOf}
+use Rattle.text.specs.Pasted.{Pasted, pasted-length, none, then}
+use Rattle.text.specs.LineLaws.{each-step, no-bytes, some-bytes}
 use borrow.Author.Needs.{needs}
-use Rattle.report.proofs.put_bytes.Statement.{statement}
-use Rattle.report.proofs.put_bytes.Tie as tie
+use Rattle.text.proofs.lines.put_bytes.Statement.{statement}
+use Rattle.text.proofs.lines.put_bytes.Tie as tie
 
 abbrev Inv-loop : tie.InvT-loop
 Inv-loop bytes out₀ at p₀ i₀ out p i = (i ≤ length bytes) × Pasted out₀ out at (each hexOf (take i bytes)) p × (p ≤ at + 2 * i)

@@ -1,10 +1,10 @@
 -- A space, then the digits.
 use borrow.Author.Needs.{needs}
 use native.Mathlib.Omega.{arith}
-use Rattle.report.specs.Pasted.{then}
-use Rattle.report.specs.TextLaws.{decimal-length}
-use Rattle.report.proofs.put_number.Statement.{statement}
-use Rattle.report.proofs.put_number.Tie as tie
+use Rattle.text.specs.Pasted.{then}
+use Rattle.text.specs.LineLaws.{decimal-length}
+use Rattle.text.proofs.lines.put_number.Statement.{statement}
+use Rattle.text.proofs.lines.put_number.Tie as tie
 
 returns : tie.Need-returns
 returns c =

@@ -4,12 +4,12 @@ use Prim.Native.Nat.{_+_, _-_, _*_, _≤_, _<_}
 use native.Mathlib.Omega.{arith}
 use lib.ListN.{length, getD, take, drop, length-drop}
 use lib.Seq.{take-all, getD-drop}
-use Rattle.report.specs.Text.{decimal, word, each}
-use Rattle.report.specs.Pasted.{Pasted, pasted-length, none, then}
-use Rattle.report.specs.TextLaws.{decimal-length, each-step, no-numbers, numbers-line}
+use Rattle.text.specs.Lines.{decimal, word, each}
+use Rattle.text.specs.Pasted.{Pasted, pasted-length, none, then}
+use Rattle.text.specs.LineLaws.{decimal-length, each-step, no-numbers, numbers-line}
 use borrow.Author.Needs.{needs}
-use Rattle.report.proofs.numbers_line.Statement.{statement}
-use Rattle.report.proofs.numbers_line.Tie as tie
+use Rattle.text.proofs.lines.numbers_line.Statement.{statement}
+use Rattle.text.proofs.lines.numbers_line.Tie as tie
 
 abbrev Inv-loop : tie.InvT-loop
 Inv-loop numbers out₀ at p₀ i₀ out p i =
