@@ -2,8 +2,8 @@
 use native.Mathlib.Omega.{arith}
 use borrow.Author.Needs.{needs}
 use lib.ListN.{length-set}
-use Rattle.cases.proofs.reading.read.Statement.{statement}
-use Rattle.cases.proofs.reading.read.Tie as tie
+use Rattle.cases.proofs.read.Statement.{statement}
+use Rattle.cases.proofs.read.Tie as tie
 
 slice-write-row-2 : tie.Need-slice-write-row-2
 slice-write-row-2 c = simp length-set (omega arith)
