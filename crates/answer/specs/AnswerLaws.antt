@@ -7,7 +7,7 @@ use native.Mathlib.Omega.{arith}
 use lib.ListN.{length, getD, take, drop}
 use Rattle.bits.specs.BitLaws.{byte-field, field-mid}
 use Rattle.layouts.specs.Questions.{kindOf, recordNumber, consumed}
-use Rattle.layouts.specs.QuestionLaws.{longestRecord}
+use Rattle.layouts.specs.Layout.{longestRecord}
 use Rattle.year.specs.declared.Year.{Year}
 use Rattle.book.specs.Outcome.{Posts}
 use Rattle.file.specs.Walk.{ends, recordsIn}

@@ -1,15 +1,15 @@
 -- What an accepted record's numbers make: ids and counts within their limits, and so a sound listing.
 use Prim.Native.Nat.{ℕ, _+_, _*_, _≤_}
-use mathlib.Core.Bool.{Bool, true, false, cond, and-eq-true-iff}
+use mathlib.Core.Bool.{Bool, true, false, cond}
 use mathlib.Core.List.{List}
 use mathlib.Core.Path.{_≡_, refl, sym, _∙_}
 use native.Mathlib.Omega.{arith}
 use native.Mathlib.Nat.{not-suc-le-zero}
-use lib.Dec.{leb}
-use borrow.Author.Tests.{leb-true}
 use Rattle.ids.specs.Ids.{at}
 use Rattle.layouts.specs.Layout.{hasLists, deficitsIn, entriesIn}
-use Rattle.layouts.specs.Questions.{kindOf, isKind}
+use Rattle.layouts.specs.Questions.{kindOf}
+use Rattle.layouts.specs.QuestionLaws.{kind-in, kind-some}
+use Rattle.layouts.specs.PairLaws.{deficits-are, entries-are}
 use Rattle.records.specs.Accepted.{Accepted, kind-number}
 use Rattle.records.specs.Accepted as records
 use Rattle.year.specs.Sound.{SoundListing, Pairs}
@@ -29,8 +29,10 @@ sound-listed l = sound-listing (l .deficits) (l .entries)
 
 -- where there are lists, their counts are numbers 4 and 5
 pub listed-pairs : {vs : List ℕ} → Listed vs → hasLists (at vs 0) ≡ true → Pairs 16 1000000 vs 6 (at vs 4) × Pairs 64 100000 vs (6 + 2 * at vs 4) (at vs 5)
-unfolding deficitsIn entriesIn
-listed-pairs l q = (rw q at (l .deficits), rw q at (l .entries))
+listed-pairs {vs} l q =
+    let d = deficits-are (at vs 0) vs in
+    let n = entries-are (at vs 0) vs in
+    (rw (d, q) at (l .deficits), rw (d, n, q) at (l .entries))
 
 no-pairs : {size most : ℕ} {vs : List ℕ} {p : ℕ} → p ≤ 166 → Pairs size most vs p 0
 no-pairs l = record { within = omega arith; ids = λ k m. absurd (not-suc-le-zero m); kilowatts = λ k m. absurd (not-suc-le-zero m) }
@@ -44,12 +46,11 @@ module _ (bytes : List ℕ) (a : Accepted bytes) where
   kind-is k e = sym (kind-number bytes a) ∙ e
 
   pub asked : Asked vs
-  unfolding valuesOf isKind
+  unfolding valuesOf
   asked =
       let k = kindOf bytes in
-      let kinds = and-eq-true-iff (leb 1 k) (leb k 6) .0 (a .kind) in
       record {
-        kind = rw (kind-number bytes a) (leb-true 1 k (kinds .0), leb-true k 6 (kinds .1));
+        kind = rw (kind-number bytes a) (kind-some k (a .kind), omega (arith, kind-in k (a .kind)));
         registration = λ e. records.registration bytes a (kind-is 2 e) .id;
         lse = λ e. records.lse bytes a (kind-is 3 e) .id;
         month = λ e. records.event bytes a (kind-is 4 e) .month .1;
@@ -57,8 +58,11 @@ module _ (bytes : List ℕ) (a : Accepted bytes) where
       }
 
   pub all-listed : Listed vs
-  unfolding valuesOf deficitsIn entriesIn
-  all-listed = let r = go (hasLists (at vs 0)) refl in record { deficits = r .0; entries = r .1 }
+  unfolding valuesOf
+  all-listed =
+      let r = go (hasLists (at vs 0)) refl in
+      let d = deficits-are (at vs 0) vs in
+      record { deficits = rw d (r .0); entries = rw (d, entries-are (at vs 0) vs) (r .1) }
     where
       go : (b : Bool) → hasLists (at vs 0) ≡ b → Pairs 16 1000000 vs 6 (cond b (at vs 4) 0) × Pairs 64 100000 vs (6 + 2 * cond b (at vs 4) 0) (cond b (at vs 5) 0)
       go true q =

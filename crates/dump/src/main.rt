@@ -4,7 +4,7 @@ use libc::STDIN_FILENO;
 ghost use Prim.Native.Nat.{_≤_};
 ghost use lib.ListN.{length};
 ghost use Rattle.report.specs.Text.{room};
-ghost use Rattle.layouts.specs.QuestionLaws.{longestRecord};
+ghost use Rattle.layouts.specs.Layout.{longestRecord};
 
 // One record after another, up to the end or a number that ends the file; answers whether all is read and written.
 // A failed read or write ends it with nothing more written. No contract can name what is read or written: that

@@ -6,8 +6,8 @@ use mathlib.Core.Path.{_≡_, refl, ap}
 use native.Mathlib.Omega.{arith}
 use lib.ListN.{length, drop, length-drop}
 use Rattle.bits.specs.TableLaws.{total-in}
-use Rattle.layouts.specs.Layout.{head, deficitsIn, entriesIn, widths, sizeOf}
-use Rattle.layouts.specs.LayoutLaws.{length-widths, total-rules}
+use Rattle.layouts.specs.Layout.{head, widths, sizeOf}
+use Rattle.layouts.specs.LayoutLaws.{length-widths, rules-long}
 use Rattle.layouts.specs.Questions.{firstFailed, kindOf, headOf, rulesOf, isKind, isWhole, recordQuestions, recordNumber, consumed}
 use Rattle.layouts.specs.QuestionLaws.{head-kind}
 use Rattle.file.specs.Walk.{ends, recordsTo, recordsIn}
@@ -19,7 +19,7 @@ module _ (file : List ℕ) where
   size-some e =
       let k = kindOf file in
       let h = head-kind k e in
-      omega (arith, total-rules k (deficitsIn k (headOf file)) (entriesIn k (headOf file)), total-in (widths (head k)) 0 (omega (arith, length-widths (head k))))
+      omega (arith, rules-long k (headOf file), total-in (widths (head k)) 0 (omega (arith, length-widths (head k))))
 
   consumed-some : ends (recordNumber file) ≡ false → 1 ≤ consumed file
   unfolding recordQuestions recordNumber firstFailed consumed

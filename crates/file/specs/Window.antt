@@ -1,23 +1,20 @@
 -- What a record answers depends on as many of the bytes from its start on as the longest record has: a window of a file answers as the file does.
 use Prim.Native.Nat.{ℕ, _-_, _*_, _≤_, min}
-use mathlib.Core.Bool.{Bool, true, false, cond}
 use mathlib.Core.List.{List}
-use mathlib.Core.Logic.{inl, inr}
-use mathlib.Core.Path.{_≡_, refl, sym, ap, _∙_}
+use mathlib.Core.Path.{_≡_, sym, ap, _∙_}
 use native.Mathlib.Decide.{decLt}
 use native.Mathlib.Omega.{arith}
 use borrow.Author.Tests.{le-leb, lt-leb}
 use lib.ListN.{length, take, length-take}
 use lib.Seq.{take-take}
-use Rattle.ids.specs.Ids.{at}
 use Rattle.bits.specs.BitLaws.{agree-take, agree-field}
 use Rattle.bits.specs.Table.{total}
 use Rattle.bits.specs.TableLaws.{fields-take}
 use Rattle.bits.specs.Pack.{bytesFor}
-use Rattle.layouts.specs.Layout.{head, hasLists, deficitsIn, entriesIn, rulesFor, widths, sizeOf}
-use Rattle.layouts.specs.LayoutLaws.{head-small, total-rules}
+use Rattle.layouts.specs.Layout.{head, widths, sizeOf, longestRecord}
+use Rattle.layouts.specs.LayoutLaws.{head-small}
 use Rattle.layouts.specs.Questions.{kindOf, headOf, rulesOf, numbersOf, isWhole, isFilled, recordQuestions, recordNumber, consumed}
-use Rattle.layouts.specs.QuestionLaws.{lists-kind, counts-written, longestRecord}
+use Rattle.layouts.specs.QuestionLaws.{few-bits}
 
 -- bytes with the same front, as long as the longest record
 pub record Alike (xs ys : List ℕ) : Type 0 where
@@ -26,21 +23,6 @@ pub record Alike (xs ys : List ℕ) : Type 0 where
 -- the first n bytes, if these are so many
 pub cut-alike : (n : ℕ) (bytes : List ℕ) → longestRecord ≤ n → Alike (take n bytes) bytes
 cut-alike n bytes l = record { fronts = take-take longestRecord n bytes l }
-
--- no record is longer: where there are lists, the head has 25 bits
-bits-most : (bytes : List ℕ) → total (widths (rulesOf bytes)) ≤ 8 * longestRecord
-unfolding rulesOf deficitsIn entriesIn
-bits-most bytes = go (hasLists k) refl
-  where
-    k : ℕ
-    k = kindOf bytes
-
-    go : (b : Bool) → hasLists k ≡ b → total (widths (rulesFor k (cond b (at (headOf bytes) 4) 0) (cond b (at (headOf bytes) 5) 0))) ≤ 8 * longestRecord
-    go false q = omega (arith, total-rules k 0 0, head-small k .1)
-    go true q =
-        let c : (at (headOf bytes) 4 ≤ 31) × (at (headOf bytes) 5 ≤ 127) = rw q at (counts-written bytes) in
-        let short : total (widths (head k)) ≡ 25 = elim (lists-kind k q) [ inl e ↦ rw e | inr e ↦ rw e ] in
-        omega (arith, total-rules k (at (headOf bytes) 4) (at (headOf bytes) 5))
 
 module _ {xs ys : List ℕ} (e : Alike xs ys) where
   pub same-kind : kindOf xs ≡ kindOf ys
@@ -57,13 +39,13 @@ module _ {xs ys : List ℕ} (e : Alike xs ys) where
 
   pub same-numbers : numbersOf xs ≡ numbersOf ys
   unfolding numbersOf
-  same-numbers = rw same-rules (fields-take xs ys longestRecord 0 (widths (rulesOf ys)) (e .fronts) (omega (arith, bits-most ys)))
+  same-numbers = rw same-rules (fields-take xs ys longestRecord 0 (widths (rulesOf ys)) (e .fronts) (omega (arith, few-bits ys)))
 
   same-whole : isWhole xs ≡ isWhole ys
   unfolding isWhole
   same-whole = rw same-rules (elim (decLt (length ys) (sizeOf (rulesOf ys))) [
-    | yes l ↦ lt-leb (sizeOf (rulesOf ys)) (length xs) (omega (arith, ahead, bits-most ys)) ∙ sym (lt-leb (sizeOf (rulesOf ys)) (length ys) l)
-    | no l ↦ le-leb (sizeOf (rulesOf ys)) (length xs) (omega (arith, ahead, bits-most ys)) ∙ sym (le-leb (sizeOf (rulesOf ys)) (length ys) (omega arith))
+    | yes l ↦ lt-leb (sizeOf (rulesOf ys)) (length xs) (omega (arith, ahead, few-bits ys)) ∙ sym (lt-leb (sizeOf (rulesOf ys)) (length ys) l)
+    | no l ↦ le-leb (sizeOf (rulesOf ys)) (length xs) (omega (arith, ahead, few-bits ys)) ∙ sym (le-leb (sizeOf (rulesOf ys)) (length ys) (omega arith))
   ])
     where
       ahead : min longestRecord (length xs) ≡ min longestRecord (length ys)
@@ -73,7 +55,7 @@ module _ {xs ys : List ℕ} (e : Alike xs ys) where
   unfolding isFilled
   same-filled =
       let bits = total (widths (rulesOf ys)) in
-      rw (same-rules, agree-field (agree-take xs ys longestRecord (e .fronts)) bits (8 * bytesFor bits - bits) (omega arith) (omega (arith, bits-most ys)))
+      rw (same-rules, agree-field (agree-take xs ys longestRecord (e .fronts)) bits (8 * bytesFor bits - bits) (omega arith) (omega (arith, few-bits ys)))
 
   pub same-number : recordNumber xs ≡ recordNumber ys
   unfolding recordQuestions recordNumber

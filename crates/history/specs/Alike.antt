@@ -9,6 +9,7 @@ use Rattle.ids.specs.Ids.{at}
 use Rattle.layouts.specs.Layout.{head, hasLists, deficitsIn, entriesIn}
 use Rattle.layouts.specs.Questions.{row}
 use Rattle.layouts.specs.QuestionLaws.{at-row}
+use Rattle.layouts.specs.PairLaws.{lists-six, deficits-are, entries-are}
 use Rattle.year.specs.declared.Terms.{Terms}
 use Rattle.year.specs.Year.{seller, listed, reduction, deficit}
 use Rattle.year.specs.Listing.{listingOf}
@@ -16,7 +17,7 @@ use Rattle.year.specs.ListingLaws.{SameIds, same-paired, same-kilowatts-at, sam
 use Rattle.owed.specs.Independent.{SameListing}
 use Rattle.questions.specs.Questions.{listingIn}
 use Rattle.history.specs.Runs.{replaced, entriesAt}
-use Rattle.history.specs.Replaced.{six-fields, kept-before, kept-id, kept-other, kept-all, kept-head}
+use Rattle.history.specs.Replaced.{kept-before, kept-id, kept-other, kept-all, kept-head}
 
 pub record Alike (T : Terms) (s : ℕ) (vs ws : List ℕ) : Type 0 where
   pub heads : (j : ℕ) → j < 6 → at vs j ≡ at ws j
@@ -51,8 +52,17 @@ module _ (T : Terms) (s : ℕ) (f : ℕ → ℕ) (vs : List ℕ) where
 
   -- numbers with the same head list as much
   listing-is : (us : List ℕ) → ((j : ℕ) → j < 6 → at us j ≡ at vs j) → listingIn us ≡ listingOf us 6 d n
-  unfolding listingIn deficitsIn entriesIn
-  listing-is us h = rw (h 0 (omega arith), h 4 (omega arith), h 5 (omega arith))
+  unfolding listingIn
+  listing-is us h =
+      rw (
+        deficits-are (at us 0) us,
+        entries-are (at us 0) us,
+        deficits-are (at vs 0) vs,
+        entries-are (at vs 0) vs,
+        h 0 (omega arith),
+        h 4 (omega arith),
+        h 5 (omega arith),
+      )
 
   row-at : (j : ℕ) → at ws j ≡ at vs j → at (row vs) j ≡ at (row ws) j
   row-at j e = at-row vs j ∙ sym e ∙ sym (at-row ws j)
@@ -79,5 +89,5 @@ module _ (T : Terms) (s : ℕ) (f : ℕ → ℕ) (vs : List ℕ) where
   alike-replaced = go (hasLists (at vs 0)) refl
     where
       go : (b : Bool) → hasLists (at vs 0) ≡ b → Alike T s (row vs) (row ws)
-      go true q = listings (six-fields (at vs 0) q) q
+      go true q = listings (lists-six (at vs 0) q) q
       go false q = rw (kept-all T s f vs q) (alike-refl T s (row vs))

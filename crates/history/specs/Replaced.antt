@@ -3,7 +3,6 @@ use Prim.Native.Nat.{ℕ, _+_, _-_, _*_, _/_, _%_, _≤_, _<_}
 use mathlib.Core.Bool.{Bool, true, false, _&&_, cond}
 use mathlib.Core.List.{List}
 use mathlib.Core.Path.{_≡_, refl, sym, _∙_}
-use mathlib.Core.Logic.{inl, inr}
 use native.Mathlib.Decide.{decLt}
 use native.Mathlib.Omega.{arith}
 use native.Mathlib.Nat.{le-refl}
@@ -14,19 +13,16 @@ use borrow.Author.Tests.{leb-true, ltb-true, eqb-true}
 use Rattle.ids.specs.Ids.{at}
 use Rattle.ids.specs.Tables.{length-tabulate, getD-tabulate}
 use Rattle.ids.specs.Tests.{all-same, all-at}
-use Rattle.layouts.specs.Layout.{noRule, head, hasLists, deficitsIn, entriesIn, sizeOf}
-use Rattle.layouts.specs.LayoutLaws.{and-parts, rule-entry}
-use Rattle.layouts.specs.Questions.{rulesBy, isKind, permits, permitted, rises, idsRise}
-use Rattle.layouts.specs.QuestionLaws.{lists-kind, permits-yes}
+use Rattle.layouts.specs.Layout.{noRule, head, hasLists, itemsIn, deficitsIn, entriesIn, sizeOf}
+use Rattle.layouts.specs.LayoutLaws.{and-parts}
+use Rattle.layouts.specs.Questions.{rulesBy, isKind, permits, permitted, idsRise}
+use Rattle.layouts.specs.QuestionLaws.{permits-yes, rises-same, counts-same, rules-same}
+use Rattle.layouts.specs.PairLaws.{lists-six, entries-are, rules-pairs, ids-pairs, rule-entry}
 use Rattle.records.specs.Calls.{writeNumber}
 use Rattle.records.specs.RoundTrip.{not-refused}
 use Rattle.year.specs.declared.Terms.{Terms}
 use Rattle.year.specs.Year.{seller}
 use Rattle.history.specs.Runs.{entriesAt, isReduction, replaced}
-
--- a head before lists has six fields
-pub six-fields : (k : ℕ) → hasLists k ≡ true → length (head k) ≡ 6
-six-fields k q = elim (lists-kind k q) [ inl e ↦ rw e | inr e ↦ rw e ]
 
 module _ (T : Terms) (s : ℕ) (f : ℕ → ℕ) (vs : List ℕ) where
   abbrev new : List ℕ
@@ -90,44 +86,38 @@ module _ (T : Terms) (s : ℕ) (f : ℕ → ℕ) (vs : List ℕ) where
 
   -- a record without lists stays
   pub kept-all : hasLists (at vs 0) ≡ false → new ≡ vs
-  unfolding entriesIn
   kept-all q =
-      let z : count ≡ 0 = rw q in
+      let z : count ≡ 0 = rw q at (entries-are (at vs 0) vs) in
       ext-getD 0 new vs same-length (λ j l. kept-at j (λ r. omega (arith, r .below)))
 
   pub kept-head : (j : ℕ) → j < 6 → at new j ≡ at vs j
   kept-head j l = go (hasLists (at vs 0)) refl
     where
       go : (b : Bool) → hasLists (at vs 0) ≡ b → at new j ≡ at vs j
-      go true q = kept-before j (omega (arith, six-fields (at vs 0) q))
+      go true q = kept-before j (omega (arith, lists-six (at vs 0) q))
       go false q = rw (kept-all q)
 
-  deficits-same : deficitsIn (at vs 0) new ≡ deficitsIn (at vs 0) vs
-  unfolding deficitsIn
-  deficits-same = rw (kept-head 4 (omega arith))
+  kept-first : (j : ℕ) → j < length (head (at vs 0)) → at new j ≡ at vs j
+  kept-first j l = kept-before j (omega arith)
 
-  entries-same : entriesIn (at vs 0) new ≡ entriesIn (at vs 0) vs
-  unfolding entriesIn
-  entries-same = rw (kept-head 5 (omega arith))
+  counts-kept : (i : ℕ) → itemsIn (at vs 0) new i ≡ itemsIn (at vs 0) vs i
+  counts-kept = counts-same (at vs 0) new vs kept-first
 
-  rules-same : rulesBy new ≡ rulesBy vs
+  rules-kept : rulesBy new ≡ rulesBy vs
   unfolding rulesBy
-  rules-same = rw (kept-head 0 (omega arith), deficits-same, entries-same)
-
-  rises-same : (p n : ℕ) → ((k : ℕ) → k < n → at new (p + 2 * k) ≡ at vs (p + 2 * k)) → rises new p n ≡ rises vs p n
-  unfolding rises
-  rises-same p n h = all-same (n - 1) (λ k l. rw (h k (omega arith), h (k + 1) (omega arith)))
+  rules-kept = rw (kept-head 0 (omega arith)) (rules-same (at vs 0) new vs kept-first)
 
   ids-rise : idsRise new ≡ idsRise vs
-  unfolding idsRise
   ids-rise =
-      rw (
-        kept-head 0 (omega arith),
-        deficits-same,
-        entries-same,
-        rises-same (length (head (at vs 0))) (deficitsIn (at vs 0) vs) (λ k l. kept-before _ (omega arith)),
-        rises-same start count (λ k l. kept-id k),
+      let k = at vs 0 in
+      ids-pairs k new (kept-head 0 (omega arith))
+      ∙ rw (
+        counts-kept 0,
+        counts-kept 1,
+        rises-same new vs 2 (length (head k)) (deficitsIn k vs) (λ j l. kept-before _ (omega arith)),
+        rises-same new vs 2 start count (λ j l. kept-id j),
       )
+      (sym (ids-pairs k vs refl))
 
   module _ (small : (e : ℕ) → f e ≤ 100000) (long : length vs ≡ length (rulesBy vs)) (kind : isKind (at vs 0) ≡ true)
       (fields : permitted (rulesBy vs) vs ≡ true) (rise : idsRise vs ≡ true) where
@@ -138,7 +128,7 @@ module _ (T : Terms) (s : ℕ) (f : ℕ → ℕ) (vs : List ℕ) where
         let r = parts j q in
         let i : start + (j - start) ≡ j = omega (arith, r .from) in
         let e = rule-entry (at vs 0) (deficitsIn (at vs 0) vs) count (j - start) (omega (arith, r .below)) in
-        rw (← i) (rw (e, r .odd, i) (permits-yes _ (at new j) (omega arith) (new-at small j q)))
+        rw (← i, rules-pairs (at vs 0) vs) (rw (e, r .odd, i) (permits-yes _ (at new j) (omega arith) (new-at small j q)))
 
     permits-at : (j : ℕ) → j < length (rulesBy vs) → permits (getD (rulesBy vs) j noRule) (at new j) ≡ true
     unfolding permitted
@@ -159,8 +149,8 @@ module _ (T : Terms) (s : ℕ) (f : ℕ → ℕ) (vs : List ℕ) where
         not-refused new (sizeOf (rulesBy new))
         (record {
           kind = rw (kept-head 0 (omega arith)) kind;
-          counted = rw rules-same (same-length ∙ long);
-          permits = rw rules-same permitted-new;
+          counted = rw rules-kept (same-length ∙ long);
+          permits = rw rules-kept permitted-new;
           rise = ids-rise ∙ rise;
           fits = le-refl _;
         })

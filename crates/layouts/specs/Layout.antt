@@ -1,9 +1,9 @@
--- The six record layouts (document 01, 'Record layouts'), as data.
-use Prim.Native.Nat.{ℕ}
-use mathlib.Core.Bool.{Bool, _||_, cond}
+-- The record layouts (document 01, 'Record layouts'), as one table with a row a kind; what else is known of a kind is derived from its row.
+use Prim.Native.Nat.{ℕ, zero, suc, _+_, _-_, _*_, _^_, max}
+use mathlib.Core.Bool.{Bool, cond}
 use mathlib.Core.List.{List, [], _∷_, _++_, map}
-use lib.ListN.{getD}
-use lib.Dec.{eqb}
+use lib.ListN.{length, getD}
+use lib.Dec.{ltb}
 use Rattle.ids.specs.Ids.{at}
 use Rattle.bits.specs.Table.{total, times}
 use Rattle.bits.specs.Pack.{bytesFor}
@@ -14,36 +14,22 @@ pub record Rule : Type 0 where
   pub low : ℕ
   pub high : ℕ
 
--- past the last field
-abbrev pub noRule : Rule
-noRule = record { width = 0; low = 0; high = 0 }
+-- a list of items: the place of its count among the head's numbers, the fields of an item, the first of them the id, and which of them are reductions
+pub record Items : Type 0 where
+  pub count : ℕ
+  pub fields : List Rule
+  pub reductions : List ℕ
+
+-- a kind: the fields of its head, and the lists behind it
+pub record Layout : Type 0 where
+  pub head : List Rule
+  pub lists : List Items
 
 abbrev field : ℕ → ℕ → ℕ → Rule
 field w l h = record { width = w; low = l; high = h }
 
 abbrev kind : ℕ → Rule
 kind k = field 4 k k
-
--- the fields of a record of each kind before its lists; there is no kind 0
-abbrev pub heads : List (List Rule)
-heads =
-    []
-    -- opening: leap, DR Factor, Forecast Pool Requirement
-    ∷ (kind 1 ∷ field 1 0 1 ∷ field 14 1 12000 ∷ field 14 1 12000 ∷ [])
-    -- registration: registration, seller, area, zone, product, committed kW, rate
-    ∷ (kind 2 ∷ field 6 0 63 ∷ field 4 0 15 ∷ field 3 0 7 ∷ field 3 0 7 ∷ field 2 0 2 ∷ field 17 1 100000 ∷ field 17 0 100000 ∷ [])
-    -- LSE: LSE, obligation kW
-    ∷ (kind 3 ∷ field 4 0 15 ∷ field 20 1 1000000 ∷ [])
-    -- event: area, month, period, deficits, entries
-    ∷ (kind 4 ∷ field 3 0 7 ∷ field 4 1 12 ∷ field 2 1 3 ∷ field 5 0 16 ∷ field 7 1 64 ∷ [])
-    -- test: zone, product, month, deficits, entries
-    ∷ (kind 5 ∷ field 3 0 7 ∷ field 2 0 2 ∷ field 4 1 12 ∷ field 5 0 16 ∷ field 7 1 64 ∷ [])
-    -- close: month
-    ∷ (kind 6 ∷ field 4 1 15 ∷ [])
-    ∷ []
-
-abbrev pub head : ℕ → List Rule
-head k = getD heads k []
 
 -- a deficit: seller, kW; an entry: registration, reduction kW
 abbrev pub deficit : List Rule
@@ -52,19 +38,68 @@ deficit = field 4 0 15 ∷ field 20 1 1000000 ∷ []
 abbrev pub entry : List Rule
 entry = field 6 0 63 ∷ field 17 0 100000 ∷ []
 
--- events and tests have lists: number 4 counts the deficits, number 5 the entries
-unfoldable pub hasLists : ℕ → Bool
-hasLists k = eqb k 4 || eqb k 5
+abbrev bare : List Rule → Layout
+bare h = record { head = h; lists = [] }
 
-unfoldable pub deficitsIn : ℕ → List ℕ → ℕ
-deficitsIn k vs = cond (hasLists k) (at vs 4) 0
+-- past the last field, list and kind; a number that is no kind has an empty head
+abbrev pub noRule : Rule
+noRule = record { width = 0; low = 0; high = 0 }
 
-unfoldable pub entriesIn : ℕ → List ℕ → ℕ
-entriesIn k vs = cond (hasLists k) (at vs 5) 0
+abbrev pub noItems : Items
+noItems = record { count = 0; fields = []; reductions = [] }
 
--- the fields of a record of kind k with d deficits and n entries
-unfoldable pub rulesFor : ℕ → ℕ → ℕ → List Rule
-rulesFor k d n = head k ++ (times d deficit ++ times n entry)
+abbrev pub noLayout : Layout
+noLayout = bare []
+
+-- deficits and entries, counted in numbers 4 and 5
+abbrev pairs : List Items
+pairs = record { count = 4; fields = deficit; reductions = [] } ∷ record { count = 5; fields = entry; reductions = 1 ∷ [] } ∷ []
+
+-- the kinds from 0 on
+abbrev pub layouts : List Layout
+layouts =
+    noLayout
+    -- opening: leap, DR Factor, Forecast Pool Requirement
+    ∷ bare (kind 1 ∷ field 1 0 1 ∷ field 14 1 12000 ∷ field 14 1 12000 ∷ [])
+    -- registration: registration, seller, area, zone, product, committed kW, rate
+    ∷ bare (kind 2 ∷ field 6 0 63 ∷ field 4 0 15 ∷ field 3 0 7 ∷ field 3 0 7 ∷ field 2 0 2 ∷ field 17 1 100000 ∷ field 17 0 100000 ∷ [])
+    -- LSE: LSE, obligation kW
+    ∷ bare (kind 3 ∷ field 4 0 15 ∷ field 20 1 1000000 ∷ [])
+    -- event: area, month, period, deficits, entries
+    ∷ record { head = kind 4 ∷ field 3 0 7 ∷ field 4 1 12 ∷ field 2 1 3 ∷ field 5 0 16 ∷ field 7 1 64 ∷ []; lists = pairs }
+    -- test: zone, product, month, deficits, entries
+    ∷ record { head = kind 5 ∷ field 3 0 7 ∷ field 2 0 2 ∷ field 4 1 12 ∷ field 5 0 16 ∷ field 7 1 64 ∷ []; lists = pairs }
+    -- close: month
+    ∷ bare (kind 6 ∷ field 4 1 15 ∷ [])
+    ∷ []
+
+abbrev pub layoutOf : ℕ → Layout
+layoutOf k = getD layouts k noLayout
+
+abbrev pub head : ℕ → List Rule
+head k = layoutOf k .head
+
+abbrev pub lists : ℕ → List Items
+lists k = layoutOf k .lists
+
+abbrev pub listAt : ℕ → ℕ → Items
+listAt k i = getD (lists k) i noItems
+
+-- how many items list i has, by its count among the numbers; none where the kind has no such list
+unfoldable pub itemsIn : ℕ → List ℕ → ℕ → ℕ
+itemsIn k vs i = cond (ltb i (length (lists k))) (at vs (listAt k i .count)) 0
+
+-- the fields of a record of kind k with these numbers, before its list i, and all of them
+unfoldable pub rulesTo : ℕ → List ℕ → ℕ → List Rule
+rulesTo k vs zero = head k
+rulesTo k vs (suc i) = rulesTo k vs i ++ times (itemsIn k vs i) (listAt k i .fields)
+
+unfoldable pub rulesFor : ℕ → List ℕ → List Rule
+rulesFor k vs = rulesTo k vs (length (lists k))
+
+-- where list i stands among the numbers
+abbrev pub placeOf : ℕ → List ℕ → ℕ → ℕ
+placeOf k vs i = length (rulesTo k vs i)
 
 abbrev pub widths : List Rule → List ℕ
 widths rs = map (λ r. r .width) rs
@@ -72,3 +107,38 @@ widths rs = map (λ r. r .width) rs
 -- the bytes of a record with these fields
 abbrev pub sizeOf : List Rule → ℕ
 sizeOf rs = bytesFor (total (widths rs))
+
+-- has the kind lists: deficits first, entries behind them
+unfoldable pub hasLists : ℕ → Bool
+hasLists k = ltb 0 (length (lists k))
+
+abbrev pub deficitsIn : ℕ → List ℕ → ℕ
+deficitsIn k vs = itemsIn k vs 0
+
+abbrev pub entriesIn : ℕ → List ℕ → ℕ
+entriesIn k vs = itemsIn k vs 1
+
+-- the size of a kind's fields before its list i, at most, where each count is at most its limit
+unfoldable pub mostTo : (Rule → ℕ) → (List Rule → ℕ) → Layout → ℕ → ℕ
+mostTo limit size l zero = size (l .head)
+mostTo limit size l (suc i) =
+    let items = getD (l .lists) i noItems in
+    mostTo limit size l i + limit (getD (l .head) (items .count) noRule) * size (items .fields)
+
+-- the bits of a record by its counts as written, and its numbers by its counts as permitted, at most
+unfoldable pub bitsMost : Layout → ℕ
+bitsMost l = mostTo (λ r. 2 ^ r .width - 1) (λ rs. total (widths rs)) l (length (l .lists))
+
+unfoldable pub numbersMost : Layout → ℕ
+numbersMost l = mostTo (λ r. r .high) length l (length (l .lists))
+
+unfoldable pub highest : (Layout → ℕ) → List Layout → ℕ
+highest f [] = 0
+highest f (l ∷ ls) = max (f l) (highest f ls)
+
+-- the bytes of the longest record, and the most numbers that a record has: `longest-is` and `most-is` compute them from the table
+abbrev pub longestRecord : ℕ
+longestRecord = 462
+
+abbrev pub most : ℕ
+most = 166

@@ -1,18 +1,21 @@
--- Laws of the layouts: how many fields and bits a record has, which rule each field has, and what every rule keeps.
+-- Laws of the layouts: what every row of the table keeps, how a record's fields go on behind its head, and how many they are at most.
 use Prim.Native.Nat.{ℕ, zero, suc, _+_, _-_, _*_, _%_, _^_, _≤_, _<_}
-use mathlib.Core.Bool.{Bool, true, false, _&&_, or-true}
-use mathlib.Core.List.{List, [], _∷_, _++_}
-use mathlib.Core.Path.{_≡_, refl, ap, _∙_}
+use mathlib.Core.Bool.{Bool, true, false, _&&_}
+use mathlib.Core.List.{List, [], _∷_, _++_, append-assoc, append-nil}
+use mathlib.Core.Path.{_≡_, refl, sym, ap, _∙_}
 use native.Mathlib.Decide.{decLt}
+use native.Mathlib.Nat.{suc-mul, le-trans, le-max-left, le-max-right, mul-le-mul-right}
+use native.Mathlib.Numerals.{add-one}
 use native.Mathlib.Omega.{arith}
-use borrow.Author.Tests.{leb-true, eq-eqb, ne-eqb}
+use borrow.Author.Tests.{leb-true, ltb-true, lt-ltb}
 use lib.Dec.{T, leb, ltb}
 use lib.ListN.{length, getD, length-append, length-map, List·getD-append, List·getD-map}
 use lib.Seq.{getD-append-add}
+use Rattle.ids.specs.Ids.{at}
 use Rattle.bits.specs.Table.{total, times, narrow}
 use Rattle.bits.specs.TableLaws.{total-append}
-use Rattle.bits.specs.ItemLaws.{length-times, total-times}
-use Rattle.layouts.specs.Layout.{Rule, noRule, heads, head, deficit, entry, hasLists, rulesFor, widths}
+use Rattle.bits.specs.Pack.{bytesFor}
+use Rattle.layouts.specs.Layout.{Rule, noRule, Items, noItems, Layout, noLayout, layouts, layoutOf, head, lists, listAt, itemsIn, rulesTo, rulesFor, widths, mostTo, bitsMost, numbersMost, highest, longestRecord, most}
 
 pub and-parts : (a b : Bool) → (a && b) ≡ true → (a ≡ true) × (b ≡ true)
 and-parts true b e = (refl, e)
@@ -31,7 +34,7 @@ module _ {A : Type 0} (p : A → Bool) where
       let a = and-parts (p x) (every p xs) e in
       rw (a .0) (every-append xs ys (a .1) f)
 
-  every-at : (xs : List A) (d : A) (j : ℕ) → every p xs ≡ true → p d ≡ true → p (getD xs j d) ≡ true
+  pub every-at : (xs : List A) (d : A) (j : ℕ) → every p xs ≡ true → p d ≡ true → p (getD xs j d) ≡ true
   unfolding every
   every-at [] d j e f = f
   every-at (x ∷ xs) d zero e f = and-parts (p x) (every p xs) e .0
@@ -49,26 +52,47 @@ sound r = (leb 1 (r .width) && leb (r .width) 42) && ltb (r .high) (2 ^ r .width
 
 pub sound-heads : (k : ℕ) → every sound (head k) ≡ true
 unfolding every sound
-sound-heads k = every-at (λ rs. every sound rs) heads [] k refl refl
+sound-heads k = every-at (λ l. every sound (l .head)) layouts noLayout k refl refl
+
+pub sound-items : (k i : ℕ) → every sound (listAt k i .fields) ≡ true
+unfolding every sound
+sound-items k i =
+    every-at (λ x. every sound (x .fields)) (lists k) noItems i (every-at (λ l. every (λ x. every sound (x .fields)) (l .lists)) layouts noLayout k refl refl) refl
 
 -- a head has at most 8 fields, of at most 56 bits
 pub head-small : (k : ℕ) → (length (head k) ≤ 8) × (total (widths (head k)) ≤ 56)
 unfolding every
 head-small k =
-    let small : List Rule → Bool = λ rs. leb (length rs) 8 && leb (total (widths rs)) 56 in
-    let a = and-parts (leb (length (head k)) 8) (leb (total (widths (head k))) 56) (every-at small heads [] k refl refl) in
+    let small : Layout → Bool = λ l. leb (length (l .head)) 8 && leb (total (widths (l .head))) 56 in
+    let a = and-parts (leb (length (head k)) 8) (leb (total (widths (head k))) 56) (every-at small layouts noLayout k refl refl) in
     (leb-true (length (head k)) 8 (a .0), leb-true (total (widths (head k))) 56 (a .1))
+
+-- a list's count is among the head's numbers
+pub count-in : (k i : ℕ) → i < length (lists k) → listAt k i .count < length (head k)
+unfolding every
+count-in k i l =
+    ltb-true (listAt k i .count) (length (head k))
+    (every-in (λ x. ltb (x .count) (length (head k))) (lists k) noItems i
+    (every-at (λ l. every (λ x. ltb (x .count) (length (l .head))) (l .lists)) layouts noLayout k refl refl) l)
+
+pub items-count : (k : ℕ) (vs : List ℕ) (i : ℕ) → i < length (lists k) → itemsIn k vs i ≡ at vs (listAt k i .count)
+unfolding itemsIn
+items-count k vs i l = rw (lt-ltb i (length (lists k)) l)
 
 pub sound-times : (n : ℕ) (rs : List Rule) → every sound rs ≡ true → every sound (times n rs) ≡ true
 unfolding times every
 sound-times zero rs e = refl
 sound-times (suc n) rs e = every-append sound rs (times n rs) e (sound-times n rs e)
 
-pub sound-rules : (k d n : ℕ) → every sound (rulesFor k d n) ≡ true
-unfolding rulesFor every sound
-sound-rules k d n =
-    every-append sound (head k) (times d deficit ++ times n entry) (sound-heads k)
-    (every-append sound (times d deficit) (times n entry) (sound-times d deficit refl) (sound-times n entry refl))
+sound-to : (k : ℕ) (vs : List ℕ) (i : ℕ) → every sound (rulesTo k vs i) ≡ true
+unfolding rulesTo
+sound-to k vs zero = sound-heads k
+sound-to k vs (suc i) =
+    every-append sound (rulesTo k vs i) (times (itemsIn k vs i) (listAt k i .fields)) (sound-to k vs i) (sound-times (itemsIn k vs i) (listAt k i .fields) (sound-items k i))
+
+pub sound-rules : (k : ℕ) (vs : List ℕ) → every sound (rulesFor k vs) ≡ true
+unfolding rulesFor
+sound-rules k vs = sound-to k vs (length (lists k))
 
 pub narrow-sound : (rs : List Rule) → every sound rs ≡ true → T (narrow (widths rs))
 unfolding every sound
@@ -95,67 +119,83 @@ unfolding times
 widths-times zero rs = refl
 widths-times (suc n) rs = widths-append rs (times n rs) ∙ ap (λ (l : List ℕ). widths rs ++ l) (widths-times n rs)
 
-pub length-rules : (k d n : ℕ) → length (rulesFor k d n) ≡ length (head k) + 2 * d + 2 * n
-unfolding rulesFor
-length-rules k d n =
-    rw (length-append (head k), length-append (times d deficit), length-times deficit d, length-times entry n) (omega arith)
+-- one more list, as a loop says it
+pub rules-more : (k : ℕ) (vs : List ℕ) (i : ℕ) → rulesTo k vs (i + 1) ≡ rulesTo k vs i ++ times (itemsIn k vs i) (listAt k i .fields)
+unfolding rulesTo
+rules-more k vs i = rw (add-one i)
 
-pub total-rules : (k d n : ℕ) → total (widths (rulesFor k d n)) ≡ total (widths (head k)) + 24 * d + 23 * n
-unfolding rulesFor
-total-rules k d n =
-    rw (
-      widths-append (head k) (times d deficit ++ times n entry),
-      widths-append (times d deficit) (times n entry),
-      total-append (widths (head k)),
-      total-append (widths (times d deficit)),
-      widths-times d deficit,
-      widths-times n entry,
-      total-times (widths deficit) d,
-      total-times (widths entry) n,
-    )
-    (omega arith)
+-- the fields before a list are the head's and others behind them; all fields are those before a list and others behind them
+front-to : (k : ℕ) (vs : List ℕ) (i : ℕ) → (rest : List Rule) × (rulesTo k vs i ≡ head k ++ rest)
+unfolding rulesTo
+front-to k vs zero = ([], sym (append-nil (head k)))
+front-to k vs (suc i) =
+    let r = front-to k vs i in
+    let more = times (itemsIn k vs i) (listAt k i .fields) in
+    (r .0 ++ more, rw (r .1) (append-assoc (head k) (r .0) more))
 
-times-at : (n : ℕ) (rs : List Rule) → length rs ≡ 2 → (j : ℕ) → j < 2 * n → getD (times n rs) j noRule ≡ getD rs (j % 2) noRule
-unfolding times
-times-at zero rs e j l = absurd (omega arith)
-times-at (suc n) rs e j l = elim (decLt j 2) [
-  | yes a ↦
-      let m : j % 2 ≡ j = omega arith in
-      rw m (List·getD-append rs (times n rs) noRule j (omega arith))
-  | no a ↦
-      let at : j ≡ length rs + (j - 2) = omega arith in
-      let m : (j - 2) % 2 ≡ j % 2 = omega arith in
-      ap (λ (i : ℕ). getD (rs ++ times n rs) i noRule) at ∙ getD-append-add rs (times n rs) (j - 2) noRule ∙ times-at n rs e (j - 2) (omega arith) ∙ rw m
-]
-
-module _ (k d n : ℕ) where
-  pub rule-head : (j : ℕ) → j < length (head k) → getD (rulesFor k d n) j noRule ≡ getD (head k) j noRule
+module _ (k : ℕ) (vs : List ℕ) where
+  pub rules-front : (rest : List Rule) × (rulesFor k vs ≡ head k ++ rest)
   unfolding rulesFor
-  rule-head j l = List·getD-append (head k) (times d deficit ++ times n entry) noRule j l
+  rules-front = front-to k vs (length (lists k))
 
-  pub rule-deficit : (j : ℕ) → j < 2 * d → getD (rulesFor k d n) (length (head k) + j) noRule ≡ getD deficit (j % 2) noRule
-  unfolding rulesFor
-  rule-deficit j l =
-      getD-append-add (head k) (times d deficit ++ times n entry) j noRule
-      ∙ List·getD-append (times d deficit) (times n entry) noRule j (omega (arith, length-times deficit d)) ∙ times-at d deficit refl j l
+  pub rule-head : (j : ℕ) → j < length (head k) → getD (rulesFor k vs) j noRule ≡ getD (head k) j noRule
+  rule-head j l =
+      let r = rules-front in
+      ap (λ (rs : List Rule). getD rs j noRule) (r .1) ∙ List·getD-append (head k) (r .0) noRule j l
 
-  pub rule-entry : (j : ℕ) → j < 2 * n → getD (rulesFor k d n) (length (head k) + 2 * d + j) noRule ≡ getD entry (j % 2) noRule
-  unfolding rulesFor
-  rule-entry j l =
-      let t = length-times deficit d in
-      let at : length (head k) + 2 * d + j ≡ length (head k) + (length (times d deficit) + j) = omega arith in
-      ap (λ (i : ℕ). getD (head k ++ (times d deficit ++ times n entry)) i noRule) at
-      ∙ getD-append-add (head k) (times d deficit ++ times n entry) (length (times d deficit) + j) noRule
-      ∙ getD-append-add (times d deficit) (times n entry) j noRule ∙ times-at n entry refl j l
+  pub rules-long : (length (head k) ≤ length (rulesFor k vs)) × (total (widths (head k)) ≤ total (widths (rulesFor k vs)))
+  rules-long =
+      let r = rules-front in
+      rw (r .1) (omega (arith, length-append (head k) (r .0)), rw (widths-append (head k) (r .0), total-append (widths (head k)) (widths (r .0))) (omega arith))
 
--- only kinds 4 and 5 have lists
-pub no-lists : (k : ℕ) → (k ≡ 4 → ⊥) → (k ≡ 5 → ⊥) → hasLists k ≡ false
-unfolding hasLists
-no-lists k a b = rw (ne-eqb k 4 a, ne-eqb k 5 b)
+-- a size that adds up over fields is at most what the limits of the counts let it be
+module _ (limit : Rule → ℕ) (size : List Rule → ℕ) (none : size [] ≡ 0) (adds : (rs ss : List Rule) → size (rs ++ ss) ≡ size rs + size ss) where
+  size-times : (n : ℕ) (rs : List Rule) → size (times n rs) ≡ n * size rs
+  unfolding times
+  size-times zero rs = none ∙ omega arith
+  size-times (suc n) rs = adds rs (times n rs) ∙ rw (size-times n rs, suc-mul) (omega arith)
 
-pub some-lists : (k : ℕ) → 4 ≤ k → k ≤ 5 → hasLists k ≡ true
-unfolding hasLists
-some-lists k a b = elim (decLt k 5) [
-  | yes l ↦ rw (eq-eqb k 4 (omega arith))
-  | no l ↦ rw (eq-eqb k 5 (omega arith), or-true)
-]
+  size-to : (k : ℕ) (vs : List ℕ) → ((i : ℕ) → i < length (lists k) → itemsIn k vs i ≤ limit (getD (head k) (listAt k i .count) noRule))
+      → (i : ℕ) → i ≤ length (lists k) → size (rulesTo k vs i) ≤ mostTo limit size (layoutOf k) i
+  unfolding rulesTo mostTo
+  size-to k vs h zero l = omega arith
+  size-to k vs h (suc i) l =
+      let fs = listAt k i .fields in
+      let before = size-to k vs h i (omega arith) in
+      let more = mul-le-mul-right (size fs) (h i (omega arith)) in
+      rw (adds (rulesTo k vs i) (times (itemsIn k vs i) fs), size-times (itemsIn k vs i) fs) (omega arith)
+
+highest-at : (f : Layout → ℕ) (ls : List Layout) (k : ℕ) → f noLayout ≡ 0 → f (getD ls k noLayout) ≤ highest f ls
+unfolding highest
+highest-at f [] k e = omega arith
+highest-at f (l ∷ ls) zero e = le-max-left (f l) (highest f ls)
+highest-at f (l ∷ ls) (suc k) e = le-trans (highest-at f ls k e) (le-max-right (f l) (highest f ls))
+
+-- the two constants, from the table
+longest-is : highest (λ l. bytesFor (bitsMost l)) layouts ≡ longestRecord
+unfolding highest bitsMost mostTo
+longest-is = refl
+
+most-is : highest numbersMost layouts ≡ most
+unfolding highest numbersMost mostTo
+most-is = refl
+
+-- no record is longer, by counts as written, and none has more numbers, by counts as permitted
+pub bits-most : (k : ℕ) (vs : List ℕ) → ((i : ℕ) → i < length (lists k) → itemsIn k vs i ≤ 2 ^ (getD (head k) (listAt k i .count) noRule) .width - 1)
+    → total (widths (rulesFor k vs)) ≤ 8 * longestRecord
+unfolding rulesFor bitsMost mostTo
+bits-most k vs h =
+    let n = length (lists k) in
+    let adds : (rs ss : List Rule) → total (widths (rs ++ ss)) ≡ total (widths rs) + total (widths ss) = λ rs ss. ap total (widths-append rs ss) ∙ total-append (widths rs) (widths ss) in
+    let here = size-to (λ r. 2 ^ r .width - 1) (λ rs. total (widths rs)) refl adds k vs h n (omega arith) in
+    let all : bytesFor (bitsMost (layoutOf k)) ≤ longestRecord = rw longest-is at (highest-at (λ l. bytesFor (bitsMost l)) layouts k refl) in
+    omega (arith, here, all)
+
+pub numbers-most : (k : ℕ) (vs : List ℕ) → ((i : ℕ) → i < length (lists k) → itemsIn k vs i ≤ (getD (head k) (listAt k i .count) noRule) .high)
+    → length (rulesFor k vs) ≤ most
+unfolding rulesFor numbersMost mostTo
+numbers-most k vs h =
+    let n = length (lists k) in
+    let here = size-to (λ r. r .high) length refl length-append k vs h n (omega arith) in
+    let all : numbersMost (layoutOf k) ≤ most = rw most-is at (highest-at numbersMost layouts k refl) in
+    le-trans here all

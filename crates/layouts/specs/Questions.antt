@@ -8,7 +8,7 @@ use Rattle.ids.specs.Ids.{at, allTo}
 use Rattle.bits.specs.Bits.{fieldAt}
 use Rattle.bits.specs.Table.{fieldsAt}
 use Rattle.bits.specs.Pack.{filling}
-use Rattle.layouts.specs.Layout.{Rule, noRule, head, deficitsIn, entriesIn, rulesFor, widths, sizeOf}
+use Rattle.layouts.specs.Layout.{Rule, noRule, head, lists, listAt, itemsIn, rulesFor, placeOf, widths, sizeOf, most}
 
 -- the number of the first question that fails, 0 where none does
 unfoldable pub firstFailed : List (ℕ × Bool) → ℕ
@@ -23,7 +23,7 @@ unfoldable pub headOf : List ℕ → List ℕ
 headOf bytes = fieldsAt bytes 0 (widths (head (kindOf bytes)))
 
 unfoldable pub rulesOf : List ℕ → List Rule
-rulesOf bytes = rulesFor (kindOf bytes) (deficitsIn (kindOf bytes) (headOf bytes)) (entriesIn (kindOf bytes) (headOf bytes))
+rulesOf bytes = rulesFor (kindOf bytes) (headOf bytes)
 
 -- a record's numbers, in layout order
 unfoldable pub numbersOf : List ℕ → List ℕ
@@ -31,11 +31,11 @@ numbersOf bytes = fieldsAt bytes 0 (widths (rulesOf bytes))
 
 -- of numbers: the fields by the counts among them
 unfoldable pub rulesBy : List ℕ → List Rule
-rulesBy vs = rulesFor (at vs 0) (deficitsIn (at vs 0) vs) (entriesIn (at vs 0) vs)
+rulesBy vs = rulesFor (at vs 0) vs
 
--- 1: is this a kind (no byte or number at all reads as kind 0)
+-- 1: is this a kind, one that has a head (no byte or number at all reads as kind 0)
 unfoldable pub isKind : ℕ → Bool
-isKind k = leb 1 k && leb k 6
+isKind k = ltb 0 (length (head k))
 
 -- 2: are all bytes there, by the counts as written
 unfoldable pub isWhole : List ℕ → Bool
@@ -52,15 +52,14 @@ permitted rs vs = allTo (length rs) (λ j. permits (getD rs j noRule) (at vs j))
 unfoldable pub isFilled : List ℕ → Bool
 isFilled bytes = eqb (filling bytes (widths (rulesOf bytes))) 0
 
--- 5: do ids rise strictly in each list; the ids of n pairs from place p on
-unfoldable pub rises : List ℕ → ℕ → ℕ → Bool
-rises vs p n = allTo (n - 1) (λ k. ltb (at vs (p + 2 * k)) (at vs (p + 2 * (k + 1))))
+-- 5: do ids rise strictly in each list; the ids of n items of w fields from place p on
+unfoldable pub rises : List ℕ → ℕ → ℕ → ℕ → Bool
+rises vs w p n = allTo (n - 1) (λ k. ltb (at vs (p + w * k)) (at vs (p + w * (k + 1))))
 
 unfoldable pub idsRise : List ℕ → Bool
 idsRise vs =
     let k = at vs 0 in
-    let p = length (head k) in
-    rises vs p (deficitsIn k vs) && rises vs (p + 2 * deficitsIn k vs) (entriesIn k vs)
+    allTo (length (lists k)) (λ i. rises vs (length (listAt k i .fields)) (placeOf k vs i) (itemsIn k vs i))
 
 -- questions 1 to 5 of a record's bytes, and the first of them that fails
 unfoldable pub recordQuestions : List ℕ → List (ℕ × Bool)
@@ -79,10 +78,7 @@ recordNumber bytes = firstFailed (recordQuestions bytes)
 unfoldable pub consumed : List ℕ → ℕ
 consumed bytes = cond (isKind (kindOf bytes) && isWhole bytes) (sizeOf (rulesOf bytes)) 0
 
--- the most numbers that a record has, and a record's numbers in a row of that many, zeros behind them
-abbrev pub most : ℕ
-most = 166
-
+-- a record's numbers in a row of as many as a record has at most, zeros behind them
 unfoldable pub row : List ℕ → List ℕ
 row vs = vs ++ replicate (most - length vs) 0
 

@@ -15,25 +15,26 @@ use Rattle.bits.specs.Table.{total, times, fieldsAt, laid, narrow, Fit}
 use Rattle.bits.specs.TableLaws.{fields-append}
 use Rattle.bits.specs.ItemLaws.{length-times, total-times}
 use Rattle.layouts.specs.declared.Shape.{Shape}
-use Rattle.layouts.specs.Layout.{Rule, noRule, head, deficit, entry, rulesFor, widths, sizeOf}
-use Rattle.layouts.specs.LayoutLaws.{every, sound, head-small, sound-times, narrow-sound, widths-append, widths-times, length-rules, total-rules, rule-head, rule-deficit, rule-entry}
-use Rattle.layouts.specs.Questions.{permits, permitted, most, row}
+use Rattle.layouts.specs.Layout.{Rule, noRule, head, deficit, entry, widths, sizeOf, most}
+use Rattle.layouts.specs.LayoutLaws.{every, sound, head-small, sound-times, narrow-sound, widths-append, widths-times}
+use Rattle.layouts.specs.PairLaws.{pairRules, length-pairs, total-pairs, rule-pair-head, rule-deficit, rule-entry}
+use Rattle.layouts.specs.Questions.{permits, permitted, row}
 use Rattle.layouts.specs.QuestionLaws.{drop-zeros}
 use Rattle.layouts.specs.Shapes.{rulesIn, Sized, pairsPermit, listsPermit}
 
 -- a record's widths are its head's, its deficits' and its entries'
-pub widths-rules : (k d n : ℕ) → widths (rulesFor k d n) ≡ widths (head k) ++ (times d (widths deficit) ++ times n (widths entry))
-unfolding rulesFor
+pub widths-rules : (k d n : ℕ) → widths (pairRules k d n) ≡ widths (head k) ++ (times d (widths deficit) ++ times n (widths entry))
+unfolding pairRules
 widths-rules k d n =
     rw (widths-append (head k) (times d deficit ++ times n entry), widths-append (times d deficit) (times n entry), widths-times d deficit, widths-times n entry)
 
 -- and so are their number and their bits
 module _ (k d n : ℕ) where
-  pub length-parts : length (rulesFor k d n) ≡ length (head k) + length (times d (widths deficit)) + length (times n (widths entry))
-  length-parts = omega (arith, length-rules k d n, length-times (widths deficit) d, length-times (widths entry) n)
+  pub length-parts : length (pairRules k d n) ≡ length (head k) + length (times d (widths deficit)) + length (times n (widths entry))
+  length-parts = omega (arith, length-pairs k d n, length-times (widths deficit) d, length-times (widths entry) n)
 
-  pub total-parts : total (widths (rulesFor k d n)) ≡ total (widths (head k)) + total (times d (widths deficit)) + total (times n (widths entry))
-  total-parts = omega (arith, total-rules k d n, total-times (widths deficit) d, total-times (widths entry) n)
+  pub total-parts : total (widths (pairRules k d n)) ≡ total (widths (head k)) + total (times d (widths deficit)) + total (times n (widths entry))
+  total-parts = omega (arith, total-pairs k d n, total-times (widths deficit) d, total-times (widths entry) n)
 
 narrow-items : (n : ℕ) (rs : List Rule) → every sound rs ≡ true → T (narrow (times n (widths rs)))
 narrow-items n rs e = rw (← widths-times n rs) (narrow-sound (times n rs) (sound-times n rs e))
@@ -44,7 +45,7 @@ module _ {s : Shape} (z : Sized s) (bytes : List ℕ) (whole : sizeOf (rulesIn s
   parts = total-parts (s .kind) (s .deficits) (s .entries)
 
   small : total (widths (rulesIn s)) ≤ 4096
-  small = omega (arith, total-rules (s .kind) (s .deficits) (s .entries), head-small (s .kind), z .deficits, z .entries)
+  small = omega (arith, total-pairs (s .kind) (s .deficits) (s .entries), head-small (s .kind), z .deficits, z .entries)
 
   pub fit-deficits : p ≡ total (widths (head (s .kind))) → Fit bytes p (times (s .deficits) (widths deficit))
   unfolding every sound
@@ -87,11 +88,11 @@ module _ (k d n : ℕ) (vs : List ℕ) where
   p = length (head k)
 
   abbrev rule : ℕ → Rule
-  rule j = getD (rulesFor k d n) j noRule
+  rule j = getD (pairRules k d n) j noRule
 
   head-permit : allTo p (λ j. permits (rule j) (at vs j)) ≡ permitted (head k) vs
   unfolding permitted
-  head-permit = all-same p (λ j l. ap (λ (r : Rule). permits r (at vs j)) (rule-head k d n j l))
+  head-permit = all-same p (λ j l. ap (λ (r : Rule). permits r (at vs j)) (rule-pair-head k d n j l))
 
   even : (i : ℕ) → (2 * i) % 2 ≡ 0
   even i = omega arith
@@ -107,11 +108,11 @@ module _ (k d n : ℕ) (vs : List ℕ) where
   entries-permit =
       items-permit rule vs (p + 2 * d) n 6 17 63 0 100000 (λ i l. (rw (even i) at (rule-entry k d n (2 * i) (omega arith)), rw (odd i) at (rule-entry k d n (2 * i + 1) (omega arith))))
 
-  all-fields : permitted (rulesFor k d n) vs ≡ allTo (p + 2 * d + 2 * n) (λ j. permits (rule j) (at vs j))
+  all-fields : permitted (pairRules k d n) vs ≡ allTo (p + 2 * d + 2 * n) (λ j. permits (rule j) (at vs j))
   unfolding permitted
-  all-fields = rw (length-rules k d n)
+  all-fields = rw (length-pairs k d n)
 
-  permitted-parts : permitted (rulesFor k d n) vs ≡ ((permitted (head k) vs && pairsPermit vs p d 15 1 1000000) && pairsPermit vs (p + 2 * d) n 63 0 100000)
+  permitted-parts : permitted (pairRules k d n) vs ≡ ((permitted (head k) vs && pairsPermit vs p d 15 1 1000000) && pairsPermit vs (p + 2 * d) n 63 0 100000)
   permitted-parts =
       let f : ℕ → Bool = λ j. permits (rule j) (at vs j) in
       all-fields ∙ rw (all-append (p + 2 * d) (2 * n) f, all-append p (2 * d) f, head-permit, deficits-permit, entries-permit)
@@ -124,7 +125,7 @@ lists-permit s vs e = permitted-parts (s .kind) (s .deficits) (s .entries) vs �
 -- and so are its numbers
 pub list-fields : (xs : List ℕ) (k d n : ℕ)
     → (let b = total (widths (head k)) in let us = times d (widths deficit) in
-    (fieldsAt xs 0 (widths (head k)) ++ fieldsAt xs b us) ++ fieldsAt xs (b + total us) (times n (widths entry)) ≡ fieldsAt xs 0 (widths (rulesFor k d n)))
+    (fieldsAt xs 0 (widths (head k)) ++ fieldsAt xs b us) ++ fieldsAt xs (b + total us) (times n (widths entry)) ≡ fieldsAt xs 0 (widths (pairRules k d n)))
 list-fields xs k d n =
     let ws = widths (head k) in
     let us = times d (widths deficit) in

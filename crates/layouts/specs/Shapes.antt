@@ -8,10 +8,14 @@ use lib.ListN.{length}
 use Rattle.ids.specs.Ids.{at, allTo}
 use Rattle.bits.specs.Table.{total}
 use Rattle.layouts.specs.declared.Shape.{Shape}
-use Rattle.layouts.specs.Layout.{Rule, head, deficitsIn, entriesIn, rulesFor, widths}
+use Rattle.layouts.specs.Layout.{Rule, layouts, head, deficitsIn, entriesIn, widths}
+use Rattle.layouts.specs.PairLaws.{pairRules}
 use Rattle.layouts.specs.Questions.{rises}
 
 -- the code's tables: the rules of all heads one after another, and where each head starts
+abbrev pub heads : List (List Rule)
+heads = map (λ l. l .head) layouts
+
 abbrev pub join : List (List Rule) → List Rule
 join [] = []
 join (h ∷ hs) = h ++ join hs
@@ -29,7 +33,7 @@ highs rs = map (λ r. r .high) rs
 
 -- the fields of a record of the shape
 abbrev pub rulesIn : Shape → List Rule
-rulesIn s = rulesFor (s .kind) (s .deficits) (s .entries)
+rulesIn s = pairRules (s .kind) (s .deficits) (s .entries)
 
 -- s is the shape of a record of kind k, by the counts among the numbers
 pub record Shaped (k : ℕ) (vs : List ℕ) (s : Shape) : Type 0 where
@@ -59,4 +63,4 @@ listsPermit s vs =
 unfoldable pub listsRise : Shape → List ℕ → Bool
 listsRise s vs =
     let p = length (head (s .kind)) in
-    rises vs p (s .deficits) && rises vs (p + 2 * s .deficits) (s .entries)
+    rises vs 2 p (s .deficits) && rises vs 2 (p + 2 * s .deficits) (s .entries)

@@ -5,8 +5,8 @@ use mathlib.Core.Path.{_≡_, refl, sym, ap, _∙_}
 use native.Mathlib.Omega.{arith}
 use lib.ListN.{length, getD, take, drop, length-append, length-drop, length-map, List·getD-append, List·getD-map}
 use lib.Seq.{take-at, drop-append-add, drop-append-le, drop-drop, getD-drop}
-use Rattle.layouts.specs.Layout.{Rule, noRule, heads, head}
-use Rattle.layouts.specs.Shapes.{join, startOf}
+use Rattle.layouts.specs.Layout.{Rule, noRule, noLayout, layouts, head}
+use Rattle.layouts.specs.Shapes.{heads, join, startOf}
 
 -- where each head starts, in a list
 unfoldable pub starts : ℕ → List (List Rule) → List ℕ
@@ -24,8 +24,11 @@ ends [] k l = absurd (omega arith)
 ends (h ∷ hs) zero l = omega (arith, length-append h (join hs))
 ends (h ∷ hs) (suc k) l = omega (arith, length-append h (join hs), ends hs k (omega arith))
 
-pub head-ends : (k : ℕ) → k < 7 → startOf heads k + length (head k) ≤ 29
-head-ends k l = ends heads k l
+head-is : (k : ℕ) → getD heads k [] ≡ head k
+head-is k = List·getD-map (λ l. l .head) layouts k noLayout
+
+pub head-ends : (k : ℕ) → k < length layouts → startOf heads k + length (head k) ≤ 29
+head-ends k l = omega (arith, ends heads k l, ap length (head-is k))
 
 module _ (f : Rule → ℕ) where
   map-append : (rs ss : List Rule) → map f (rs ++ ss) ≡ map f rs ++ map f ss
@@ -40,31 +43,36 @@ module _ (f : Rule → ℕ) where
       let n : length h + startOf hs k ≡ length (map f h) + startOf hs k = omega (arith, length-map h f) in
       (r .0, rw (map-append h (join hs), n) (drop-append-add (map f h) (map f (join hs)) (startOf hs k)) ∙ r .1)
 
-  -- the head's part of a table, and its field j
-  pub head-part : (k n : ℕ) → k < 7 → n ≡ length (head k) → take n (drop (startOf heads k) (map f (join heads))) ≡ map f (head k)
-  head-part k n l e =
+  from-head : (k : ℕ) → k < length layouts → (rest : List ℕ) × (drop (startOf heads k) (map f (join heads)) ≡ map f (head k) ++ rest)
+  from-head k l =
       let r = from-start heads k l in
+      (r .0, rw (head-is k) at (r .1))
+
+  -- the head's part of a table, and its field j
+  pub head-part : (k n : ℕ) → k < length layouts → n ≡ length (head k) → take n (drop (startOf heads k) (map f (join heads))) ≡ map f (head k)
+  head-part k n l e =
+      let r = from-head k l in
       ap (λ (xs : List ℕ). take n xs) (r .1) ∙ take-at (map f (head k)) (r .0) n (length-map (head k) f ∙ sym e)
 
-  pub head-at : (k j : ℕ) → k < 7 → j < length (head k) → f noRule ≡ 0 → getD (map f (join heads)) (startOf heads k + j) 0 ≡ f (getD (head k) j noRule)
+  pub head-at : (k j : ℕ) → k < length layouts → j < length (head k) → f noRule ≡ 0 → getD (map f (join heads)) (startOf heads k + j) 0 ≡ f (getD (head k) j noRule)
   head-at k j l h z =
-      let r = from-start heads k l in
+      let r = from-head k l in
       sym (getD-drop (startOf heads k) (map f (join heads)) j 0)
       ∙ ap (λ (xs : List ℕ). getD xs j 0) (r .1)
       ∙ List·getD-append (map f (head k)) (r .0) 0 j (omega (arith, length-map (head k) f))
       ∙ rw z at (List·getD-map f (head k) j noRule)
 
   -- as the code takes them
-  pub part-is : (k start count : ℕ) (table : List ℕ) → k < 7 → start ≡ startOf heads k → count ≡ length (head k) → table ≡ map f (join heads)
+  pub part-is : (k start count : ℕ) (table : List ℕ) → k < length layouts → start ≡ startOf heads k → count ≡ length (head k) → table ≡ map f (join heads)
       → take (start + count - start) (drop start table) ≡ map f (head k)
   part-is k start count table l e n t =
       let same : startOf heads k + count - startOf heads k ≡ length (head k) = omega arith in
       rw (t, e) (head-part k _ l same)
 
-  pub rest-is : (k start count : ℕ) (table : List ℕ) → k < 7 → start ≡ startOf heads k → count ≡ length (head k) → 1 ≤ count → table ≡ map f (join heads)
+  pub rest-is : (k start count : ℕ) (table : List ℕ) → k < length layouts → start ≡ startOf heads k → count ≡ length (head k) → 1 ≤ count → table ≡ map f (join heads)
       → take (start + count - (start + 1)) (drop (start + 1) table) ≡ drop 1 (map f (head k))
   rest-is k start count table l e n some t =
-      let r = from-start heads k l in
+      let r = from-head k l in
       let long : 1 ≤ length (map f (head k)) = omega (arith, length-map (head k) f) in
       let same : length (drop 1 (map f (head k))) ≡ start + count - (start + 1) = omega (arith, length-drop 1 (map f (head k)), length-map (head k) f) in
       let whole : drop start table ≡ map f (head k) ++ r .0 = rw (t, e) (r .1) in
@@ -72,6 +80,6 @@ module _ (f : Rule → ℕ) where
       sym (drop-drop 1 start table) ∙ ap (λ (l : List ℕ). drop 1 l) whole ∙ drop-append-le 1 (map f (head k)) (r .0) long in
       rw part (take-at (drop 1 (map f (head k))) (r .0) _ same)
 
-  pub limit-is : f noRule ≡ 0 → (k j start x : ℕ) (table : List ℕ) → k < 7 → j < length (head k) → start ≡ startOf heads k → table ≡ map f (join heads) → x ≡ getD table (start + j) 0
+  pub limit-is : f noRule ≡ 0 → (k j start x : ℕ) (table : List ℕ) → k < length layouts → j < length (head k) → start ≡ startOf heads k → table ≡ map f (join heads) → x ≡ getD table (start + j) 0
       → x ≡ f (getD (head k) j noRule)
   limit-is z k j start x table l h e t g = g ∙ rw (t, e) (head-at k j l h z)

@@ -6,7 +6,7 @@ ghost use lib.Dec.{eqb};
 ghost use lib.ListN.{length};
 ghost use Rattle.bits.specs.Bits.{fieldAt};
 ghost use Rattle.bits.specs.Pack.{bytesFor};
-ghost use Rattle.layouts.specs.Layout.{head};
+ghost use Rattle.layouts.specs.Layout.{layouts, head};
 ghost use Rattle.layouts.specs.Questions.{isKind, permitted, rises};
 ghost use Rattle.layouts.specs.Shapes.{pairsPermit, listsPermit, listsRise, rulesIn, Sized};
 use crate::Shape;
@@ -18,7 +18,10 @@ use crate::start_at;
 pub fn is_kind(kind: u64) -> bool
     ensures { λ r. ⌜ r ≡ isKind kind ⌝ }
 {
-    if kind < 1 { false } else { kind <= 6 }
+    if 7 <= kind {
+        return false;
+    }
+    0 < count_at(kind as usize)
 }
 
 fn wide(x: u32) -> u64
@@ -29,7 +32,7 @@ fn wide(x: u32) -> u64
 
 // Is each number of the head permitted?
 pub fn head_permitted(kind: usize, values: &[u64]) -> bool
-    requires { ⌜ kind < 7 ⌝ }
+    requires { ⌜ kind < length layouts ⌝ }
     requires { ⌜ length (head kind) ≤ length (now values) ⌝ }
     ensures { λ r. ⌜ r ≡ permitted (head kind) (now (values .entry)) ⌝ }
 {
@@ -90,7 +93,7 @@ pub fn lists_permitted(s: Shape, values: &[u64]) -> bool
 // Do the ids of the n pairs from a place on rise strictly?
 fn rising(values: &[u64], at: usize, n: usize) -> bool
     requires { ⌜ at + 2 * n ≤ length (now values) ⌝ }
-    ensures { λ r. ⌜ r ≡ rises (now (values .entry)) at n ⌝ }
+    ensures { λ r. ⌜ r ≡ rises (now (values .entry)) 2 at n ⌝ }
 {
     let mut k = 0;
     while k + 1 < n {

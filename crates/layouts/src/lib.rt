@@ -3,8 +3,8 @@ ghost use mathlib.Core.Path.{_≡_};
 ghost use Prim.Native.Nat.{_≤_, _<_};
 ghost use lib.ListN.{length};
 ghost use Rattle.bits.specs.Table.{total};
-ghost use Rattle.layouts.specs.Layout.{heads, head, deficit, entry, hasLists, widths, sizeOf};
-ghost use Rattle.layouts.specs.Shapes.{join, startOf, lows, highs, rulesIn, Shaped, Sized};
+ghost use Rattle.layouts.specs.Layout.{layouts, head, deficit, entry, hasLists, widths, sizeOf};
+ghost use Rattle.layouts.specs.Shapes.{heads, join, startOf, lows, highs, rulesIn, Shaped, Sized};
 
 pub mod checks;
 
@@ -159,21 +159,21 @@ pub fn widths_of_entry() -> [u8; 2]
 }
 
 pub fn start_at(kind: usize) -> usize
-    requires { ⌜ kind < 7 ⌝ }
+    requires { ⌜ kind < length layouts ⌝ }
     ensures { λ r. ⌜ r ≡ startOf heads kind ⌝ }
 {
     STARTS[kind] as usize
 }
 
 pub fn count_at(kind: usize) -> usize
-    requires { ⌜ kind < 7 ⌝ }
+    requires { ⌜ kind < length layouts ⌝ }
     ensures { λ r. ⌜ r ≡ length (head kind) ⌝ }
 {
     COUNTS[kind] as usize
 }
 
 fn bits_at(kind: usize) -> usize
-    requires { ⌜ kind < 7 ⌝ }
+    requires { ⌜ kind < length layouts ⌝ }
     ensures { λ r. ⌜ r ≡ total (widths (head kind)) ⌝ }
 {
     BITS[kind] as usize
@@ -181,7 +181,7 @@ fn bits_at(kind: usize) -> usize
 
 // The shape that a head's numbers state: events and tests have lists, counted in numbers 4 and 5.
 pub fn shape_of(kind: usize, values: &[u64]) -> Shape
-    requires { ⌜ kind < 7 ⌝ }
+    requires { ⌜ kind < length layouts ⌝ }
     requires { ⌜ length (head kind) ≤ length (now values) ⌝ }
     ensures { λ r. ⌜ Shaped kind (now (values .entry)) r ⌝ }
 {

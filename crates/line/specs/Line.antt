@@ -7,7 +7,8 @@ use native.Mathlib.Omega.{arith}
 use lib.Dec.{eqb}
 use lib.ListN.{length, take, replicate, length-append}
 use lib.Seq.{take-append-seam}
-use Rattle.layouts.specs.Questions.{numbersOf, recordNumber, most, row}
+use Rattle.layouts.specs.Layout.{most}
+use Rattle.layouts.specs.Questions.{numbersOf, recordNumber, row}
 use Rattle.records.specs.Calls.{Parses}
 use Rattle.records.specs.Accepted.{accepted, taken-numbers, numbers-few}
 use Rattle.text.specs.Lines.{numbersLine}

@@ -5,7 +5,7 @@ use mathlib.Core.List.{List, [], _∷_, _++_}
 use mathlib.Core.Path.{_≡_, refl, ap, _∙_}
 use lib.ListN.{length, take, drop}
 use Rattle.layouts.specs.Questions.{recordNumber, consumed}
-use Rattle.layouts.specs.QuestionLaws.{longestRecord}
+use Rattle.layouts.specs.Layout.{longestRecord}
 use Rattle.file.specs.Walk.{ends, recordsIn}
 use Rattle.file.specs.WalkLaws.{records-in}
 use Rattle.file.specs.Window.{Alike, cut-alike, same-number, same-numbers, same-consumed}

@@ -15,7 +15,8 @@ use Rattle.bits.specs.Written.{joined, Wrote, Finished}
 use Rattle.bits.specs.WrittenLaws.{written-size, written-encodes}
 use Rattle.layouts.specs.declared.Shape.{Shape}
 use Rattle.layouts.specs.Layout.{head, deficit, entry, widths, sizeOf}
-use Rattle.layouts.specs.LayoutLaws.{length-widths, length-rules}
+use Rattle.layouts.specs.LayoutLaws.{length-widths}
+use Rattle.layouts.specs.PairLaws.{length-pairs}
 use Rattle.layouts.specs.Questions.{rulesBy}
 use Rattle.records.specs.Calls.{over, bytesBy}
 use Rattle.layouts.specs.Shapes.{rulesIn}
@@ -57,7 +58,7 @@ module _ {vs : List ℕ} {s : Shape} (w : Passed vs s) where
   counted = w .counted ∙ ap length (sym (w .rules))
 
   hc : length vs ≡ length ws + length us + length ts
-  hc = omega (arith, counted, length-rules (s .kind) (s .deficits) (s .entries), length-widths (head (s .kind)), length-times (widths deficit) (s .deficits), length-times (widths entry) (s .entries))
+  hc = omega (arith, counted, length-pairs (s .kind) (s .deficits) (s .entries), length-widths (head (s .kind)), length-times (widths deficit) (s .deficits), length-times (widths entry) (s .entries))
 
   pub laid-places : (a ≤ b) × (b ≤ length vs)
   laid-places = (omega arith, omega (arith, hb, hc))

@@ -17,27 +17,16 @@ use Rattle.bits.specs.Table.{total, fieldsAt, laid, narrow}
 use Rattle.bits.specs.TableLaws.{length-fields, narrow-split}
 use Rattle.bits.specs.Pack.{bytesFor}
 use Rattle.layouts.specs.declared.Shape.{Shape}
-use Rattle.layouts.specs.Layout.{head, deficitsIn, entriesIn, widths, sizeOf}
+use Rattle.layouts.specs.Layout.{layouts, head, deficitsIn, entriesIn, widths, sizeOf, most}
 use Rattle.layouts.specs.LayoutLaws.{and-parts, head-small, sound-heads, narrow-sound, length-widths}
-use Rattle.layouts.specs.Questions.{firstFailed, kindOf, headOf, rulesOf, numbersOf, isKind, isWhole, permitted, isFilled, idsRise, recordQuestions, recordNumber, consumed, most, row}
-use Rattle.layouts.specs.QuestionLaws.{head-kind, at-row, permitted-same, permitted-row, rises-row, head-refused, counts-same, counts-written, few-numbers, numbers-head, numbers-kind, numbers-counts}
+use Rattle.layouts.specs.Questions.{firstFailed, kindOf, headOf, rulesOf, numbersOf, isKind, isWhole, permitted, isFilled, idsRise, recordQuestions, recordNumber, consumed, rises, row}
+use Rattle.layouts.specs.QuestionLaws.{head-kind, at-row, permitted-same, permitted-row, rises-same, head-refused, counts-same, counts-written, few-numbers, kind-in, numbers-head, numbers-kind}
+use Rattle.layouts.specs.PairLaws.{rules-pairs, ids-pairs, written-few}
 use Rattle.records.specs.Accepted.{number-first, number-later, taken-numbers, taken-none}
 use Rattle.records.specs.Calls.{readNumber, over, readBuffer, Reads}
 use Rattle.layouts.specs.Shapes.{rulesIn, Shaped, Sized, listsPermit, listsRise}
 use Rattle.records.specs.Parsing.{Whole, Fills}
 use Rattle.layouts.specs.ShapeLaws.{lists-permit, row-more}
-
-pub kind-small : (k : ℕ) → isKind k ≡ true → k < 7
-unfolding isKind
-kind-small k e = omega (arith, leb-true k 6 (and-parts (leb 1 k) (leb k 6) e .1))
-
--- a kind is in a byte
-pub kind-byte : (bytes : List ℕ) → isKind (kindOf bytes) ≡ true → 1 ≤ length bytes
-unfolding isKind kindOf
-kind-byte bytes e = elim (decLt (length bytes) 1) [
-  | yes l ↦ omega (arith, leb-true 1 (fieldAt bytes 0 4) (and-parts (leb 1 (fieldAt bytes 0 4)) (leb (fieldAt bytes 0 4) 6) e .0), field-past bytes 0 4 (omega arith))
-  | no l ↦ omega arith
-]
 
 -- a head is its kind's four bits, and the fields behind them
 module _ (k : ℕ) (e : isKind k ≡ true) where
@@ -116,10 +105,10 @@ fills f n v t = record { numbers = t .numbers; uses = f ∙ t .uses; counts = n 
 module _ {bytes : List ℕ} {s : Shape} (w : Whole bytes s) where
   pub whole-rules : rulesIn s ≡ rulesOf bytes
   unfolding rulesOf
-  whole-rules = rw (w .kind, w .deficits, w .entries)
+  whole-rules = rw (w .kind, w .deficits, w .entries) (sym (rules-pairs (kindOf bytes) (headOf bytes)))
 
   pub whole-few : length (rulesIn s) ≤ most
-  whole-few = rw (w .kind, w .deficits, w .entries) (few-numbers (kindOf bytes) (headOf bytes) (w .permits))
+  whole-few = rw (w .kind, w .deficits, w .entries, ← rules-pairs (kindOf bytes) (headOf bytes)) (few-numbers (kindOf bytes) (headOf bytes) (w .permits))
 
   pub whole-bytes : sizeOf (rulesIn s) ≤ length bytes
   unfolding isWhole
@@ -141,13 +130,15 @@ module _ {bytes : List ℕ} {s : Shape} (w : Whole bytes s) where
   whole-filled n e = rw (e, whole-rules)
 
   pub whole-rise : (values : List ℕ) → values ≡ row (numbersOf bytes) → listsRise s values ≡ idsRise (numbersOf bytes)
-  unfolding listsRise idsRise
+  unfolding listsRise
   whole-rise values e =
       let vs = numbersOf bytes in
-      let c = numbers-counts bytes (w .first) in
-      let p = length (head (kindOf bytes)) in
-      let d = deficitsIn (kindOf bytes) (headOf bytes) in
-      rw (e, w .kind, w .deficits, w .entries, numbers-kind bytes (w .first), c .0, c .1, rises-row vs p d, rises-row vs (p + 2 * d))
+      let k = kindOf bytes in
+      let c = counts-same k vs (headOf bytes) (numbers-head bytes (w .first)) in
+      let same : (p n : ℕ) → rises (row vs) 2 p n ≡ rises vs 2 p n = λ p n. rises-same (row vs) vs 2 p n (λ j l. at-row vs (p + 2 * j)) in
+      let d = deficitsIn k (headOf bytes) in
+      rw (e, w .kind, w .deficits, w .entries, same (length (head k)) d, same (length (head k) + 2 * d) (entriesIn k (headOf bytes)))
+      (sym (ids-pairs k vs (numbers-kind bytes (w .first)) ∙ rw (c 0, c 1)))
 
   pub whole-count : length (rulesIn s) ≡ length (numbersOf bytes)
   unfolding numbersOf
@@ -180,18 +171,18 @@ module _ {bytes values : List ℕ} {s : Shape} (h : Headed bytes values s) where
   counts : (s .deficits ≡ deficitsIn (kindOf bytes) (headOf bytes)) × (s .entries ≡ entriesIn (kindOf bytes) (headOf bytes))
   counts =
       let c = counts-same (kindOf bytes) values (headOf bytes) (λ j l. same j) in
-      (h .shaped .deficits ∙ c .0, h .shaped .entries ∙ c .1)
+      (h .shaped .deficits ∙ c 0, h .shaped .entries ∙ c 1)
 
   pub headed-rules : rulesIn s ≡ rulesOf bytes
   unfolding rulesOf
-  headed-rules = rw (h .shaped .kind, counts .0, counts .1)
+  headed-rules = rw (h .shaped .kind, counts .0, counts .1) (sym (rules-pairs (kindOf bytes) (headOf bytes)))
 
   pub headed-sized : Sized s
   headed-sized =
-      let c = counts-written bytes in
+      let c = written-few bytes in
       let k = h .shaped .kind in
       record {
-        kind = rw k (kind-small (kindOf bytes) (h .first));
+        kind = rw k (kind-in (kindOf bytes) (h .first));
         count = rw k (h .shaped .count);
         bits = rw k (h .shaped .bits);
         deficits = rw (counts .0) (c .0);
@@ -210,7 +201,7 @@ module _ {bytes values : List ℕ} {s : Shape} (h : Headed bytes values s) where
   unfolding rulesOf
   headed-refused e =
       let k = kindOf bytes in
-      head-refused k _ _ (numbersOf bytes) (permitted-same (head k) (numbersOf bytes) values (λ j l. numbers-head bytes (h .first) j l ∙ sym (same j)) ∙ e)
+      head-refused k _ (numbersOf bytes) (permitted-same (head k) (numbersOf bytes) values (λ j l. numbers-head bytes (h .first) j l ∙ sym (same j)) ∙ e)
 
   pub headed-made : sizeOf (rulesIn s) ≤ length bytes → permitted (head (kindOf bytes)) values ≡ true → Whole bytes s
   headed-made l e =

@@ -2,7 +2,7 @@
 use Prim.Native.Nat.{ℕ, _≤_, _<_}
 use mathlib.Core.Bool.{true, false, _&&_, and-false}
 use mathlib.Core.List.{List}
-use mathlib.Core.Path.{_≡_, sym, ap, _∙_}
+use mathlib.Core.Path.{_≡_, refl, sym, ap, _∙_}
 use native.Mathlib.Omega.{arith}
 use borrow.Author.Tests.{lt-leb, le-leb, eq-eqb, ne-eqb}
 use lib.Dec.{eqb}
@@ -10,14 +10,14 @@ use lib.ListN.{length}
 use Rattle.ids.specs.Ids.{at}
 use Rattle.ids.specs.Tests.{cond-true, cond-false}
 use Rattle.layouts.specs.declared.Shape.{Shape}
-use Rattle.layouts.specs.Layout.{head, deficitsIn, entriesIn, rulesFor, sizeOf}
-use Rattle.layouts.specs.LayoutLaws.{length-rules}
+use Rattle.layouts.specs.Layout.{head, rulesFor, sizeOf}
+use Rattle.layouts.specs.LayoutLaws.{rules-long}
 use Rattle.layouts.specs.Questions.{firstFailed, rulesBy, isKind, permitted, idsRise}
-use Rattle.layouts.specs.QuestionLaws.{head-refused, counts-permitted}
+use Rattle.layouts.specs.QuestionLaws.{head-refused, kind-in}
+use Rattle.layouts.specs.PairLaws.{rules-pairs, ids-pairs, permitted-few}
 use Rattle.records.specs.Calls.{writeNumber, writeBuffer, bytesBy, over, Writes}
 use Rattle.layouts.specs.Shapes.{rulesIn, Shaped, Sized, listsPermit, listsRise}
 use Rattle.layouts.specs.ShapeLaws.{lists-permit}
-use Rattle.records.proofs.Reading.{kind-small}
 
 module _ (vs : List ℕ) (room : ℕ) where
   pub stops-1 : isKind (at vs 0) ≡ false → 1 ≡ writeNumber vs room
@@ -61,12 +61,12 @@ pub short-stops : (vs : List ℕ) → length vs < length (head (at vs 0)) → (e
 unfolding rulesBy
 short-stops vs l =
     let k = at vs 0 in
-    let more = length-rules k (deficitsIn k vs) (entriesIn k vs) in
-    rw (ne-eqb (length vs) (length (rulesFor k (deficitsIn k vs) (entriesIn k vs))) (λ e. omega arith))
+    let more = rules-long k vs in
+    rw (ne-eqb (length vs) (length (rulesFor k vs)) (λ e. omega arith))
 
 pub head-stops : (vs : List ℕ) → permitted (head (at vs 0)) vs ≡ false → (eqb (length vs) (length (rulesBy vs)) && permitted (rulesBy vs) vs) ≡ false
 unfolding rulesBy
-head-stops vs e = rw (head-refused (at vs 0) _ _ vs e, and-false)
+head-stops vs e = rw (head-refused (at vs 0) vs vs e, and-false)
 
 -- numbers with a kind and a head that is permitted, and the shape s that they say
 pub record Numbered (vs : List ℕ) (s : Shape) : Type 0 where
@@ -77,14 +77,14 @@ pub record Numbered (vs : List ℕ) (s : Shape) : Type 0 where
 module _ {vs : List ℕ} {s : Shape} (h : Numbered vs s) where
   pub numbered-rules : rulesIn s ≡ rulesBy vs
   unfolding rulesBy
-  numbered-rules = rw (h .shaped .kind, h .shaped .deficits, h .shaped .entries)
+  numbered-rules = rw (h .shaped .kind, h .shaped .deficits, h .shaped .entries) (sym (rules-pairs (at vs 0) vs))
 
   pub numbered-sized : Sized s
   numbered-sized =
-      let c = counts-permitted (at vs 0) vs (h .permits) in
+      let c = permitted-few (at vs 0) vs (h .permits) in
       let k = h .shaped .kind in
       record {
-        kind = rw k (kind-small (at vs 0) (h .first));
+        kind = rw k (kind-in (at vs 0) (h .first));
         count = rw k (h .shaped .count);
         bits = rw k (h .shaped .bits);
         deficits = omega (arith, h .shaped .deficits, c .0);
@@ -95,8 +95,8 @@ module _ {vs : List ℕ} {s : Shape} (h : Numbered vs s) where
   numbered-permitted = sym (lists-permit s vs (rw (h .shaped .kind) (h .permits))) ∙ ap (λ (rs : _). permitted rs vs) numbered-rules
 
   pub numbered-rise : listsRise s vs ≡ idsRise vs
-  unfolding listsRise idsRise
-  numbered-rise = rw (h .shaped .kind, h .shaped .deficits, h .shaped .entries)
+  unfolding listsRise
+  numbered-rise = rw (h .shaped .kind, h .shaped .deficits, h .shaped .entries) (sym (ids-pairs (at vs 0) vs refl))
 
 -- a shape that lets pass is one that writing goes on with
 pub passes : (vs : List ℕ) → length vs ≡ length (rulesBy vs) → permitted (rulesBy vs) vs ≡ true → (eqb (length vs) (length (rulesBy vs)) && permitted (rulesBy vs) vs) ≡ true

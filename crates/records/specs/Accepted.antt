@@ -10,10 +10,11 @@ use lib.Dec.{leb, eqb}
 use lib.ListN.{length, getD}
 use Rattle.ids.specs.Ids.{at}
 use Rattle.bits.specs.TableLaws.{length-fields}
-use Rattle.layouts.specs.Layout.{Rule, noRule, head, hasLists, deficit, entry, deficitsIn, entriesIn, rulesFor, widths, sizeOf}
-use Rattle.layouts.specs.LayoutLaws.{and-parts, every, length-widths, length-rules, rule-head, rule-deficit, rule-entry}
-use Rattle.layouts.specs.Questions.{firstFailed, kindOf, rulesOf, numbersOf, isKind, isWhole, permitted, isFilled, idsRise, recordQuestions, recordNumber, numbersTaken, consumed, most, row}
-use Rattle.layouts.specs.QuestionLaws.{at-row, permitted-at, head-permitted, few-numbers, lists-kind, numbers-kind, numbers-counts}
+use Rattle.layouts.specs.Layout.{Rule, noRule, head, hasLists, deficit, entry, deficitsIn, entriesIn, rulesFor, widths, sizeOf, most}
+use Rattle.layouts.specs.LayoutLaws.{and-parts, every, length-widths, rules-long, rule-head}
+use Rattle.layouts.specs.Questions.{firstFailed, kindOf, rulesOf, numbersOf, rulesBy, isKind, isWhole, permitted, isFilled, idsRise, recordQuestions, recordNumber, numbersTaken, consumed, row}
+use Rattle.layouts.specs.QuestionLaws.{at-row, permitted-at, head-permitted, few-numbers, numbers-kind, rules-by}
+use Rattle.layouts.specs.PairLaws.{pairRules, lists-kind, lists-six, deficits-are, entries-are, rules-pairs, length-pairs, rule-deficit, rule-entry}
 
 -- questions 1 to 5, each answered yes
 pub record Accepted (bytes : List ℕ) : Type 0 where
@@ -146,16 +147,17 @@ module _ (bytes : List ℕ) (a : Accepted bytes) where
   pub kind-number : at (row vs) 0 ≡ kindOf bytes
   kind-number = at-row vs 0 ∙ numbers-kind bytes (a .kind)
 
-  rules : rulesFor (kindOf bytes) d n ≡ rulesOf bytes
-  unfolding rulesOf
-  rules =
-      let c = numbers-counts bytes (a .kind) in
-      rw (c .0, c .1)
+  rules : rulesFor (kindOf bytes) vs ≡ rulesOf bytes
+  unfolding rulesBy
+  rules = rw (numbers-kind bytes (a .kind)) at (rules-by bytes (a .kind))
+
+  pairs : pairRules (kindOf bytes) d n ≡ rulesOf bytes
+  pairs = sym (rules-pairs (kindOf bytes) vs) ∙ rules
 
   pub numbers-few : length vs ≤ most
   numbers-few =
       let k = kindOf bytes in
-      let yes-head : permitted (head k) vs ≡ true = head-permitted k d n vs (rw rules (a .permits)) in
+      let yes-head : permitted (head k) vs ≡ true = head-permitted k vs vs (rw rules (a .permits)) in
       omega (arith, numbers-count bytes, ap length rules, few-numbers k vs yes-head)
 
   -- each number is within its rule
@@ -165,11 +167,11 @@ module _ (bytes : List ℕ) (a : Accepted bytes) where
   -- in the head, by the kind's own rules
   pub head-within : (j : ℕ) → j < length (head (kindOf bytes)) → ((getD (head (kindOf bytes)) j noRule) .low ≤ at (row vs) j) × (at (row vs) j ≤ (getD (head (kindOf bytes)) j noRule) .high)
   head-within j l =
-      let m : j < length vs = omega (arith, numbers-count bytes, ap length rules, length-rules (kindOf bytes) d n) in
-      rw (← rules, rule-head (kindOf bytes) d n j l) at (number-within j m)
+      let m : j < length vs = omega (arith, numbers-count bytes, ap length rules, rules-long (kindOf bytes) vs) in
+      rw (← rules, rule-head (kindOf bytes) vs j l) at (number-within j m)
 
-  rule-within : (j : ℕ) (r : Rule) → j < length vs → getD (rulesFor (kindOf bytes) d n) j noRule ≡ r → (r .low ≤ at (row vs) j) × (at (row vs) j ≤ r .high)
-  rule-within j r l e = rw (← rules, e) at (number-within j l)
+  rule-within : (j : ℕ) (r : Rule) → j < length vs → getD (pairRules (kindOf bytes) d n) j noRule ≡ r → (r .low ≤ at (row vs) j) × (at (row vs) j ≤ r .high)
+  rule-within j r l e = rw (← pairs, e) at (number-within j l)
 
   head-as : (k j : ℕ) → kindOf bytes ≡ k → j < length (head k) → ((getD (head k) j noRule) .low ≤ at (row vs) j) × (at (row vs) j ≤ (getD (head k) j noRule) .high)
   head-as k j e l = rw e at (head-within j (rw e l))
@@ -212,13 +214,12 @@ module _ (bytes : List ℕ) (a : Accepted bytes) where
 
   -- the lists of an event or a test
   pub lists : hasLists (kindOf bytes) ≡ true → Lists (row vs)
-  unfolding deficitsIn entriesIn
   lists q =
       let r = row vs in
-      let six : length (head (kindOf bytes)) ≡ 6 = elim (lists-kind (kindOf bytes) q) [ inl e ↦ rw e | inr e ↦ rw e ] in
-      let ds : d ≡ at r 4 = rw q (sym (at-row vs 4)) in
-      let ns : n ≡ at r 5 = rw q (sym (at-row vs 5)) in
-      let count : length vs ≡ 6 + 2 * at r 4 + 2 * at r 5 = omega (arith, numbers-count bytes, ap length rules, length-rules (kindOf bytes) d n) in
+      let six = lists-six (kindOf bytes) q in
+      let ds : d ≡ at r 4 = rw q at (deficits-are (kindOf bytes) vs) ∙ sym (at-row vs 4) in
+      let ns : n ≡ at r 5 = rw q at (entries-are (kindOf bytes) vs) ∙ sym (at-row vs 5) in
+      let count : length vs ≡ 6 + 2 * at r 4 + 2 * at r 5 = omega (arith, numbers-count bytes, ap length pairs, length-pairs (kindOf bytes) d n) in
       let first : (k : ℕ) → (2 * k) % 2 ≡ 0 = λ k. omega arith in
       let second : (k : ℕ) → (2 * k + 1) % 2 ≡ 1 = λ k. omega arith in
       let deficit-at : (j : ℕ) → j < 2 * at r 4 → ((getD deficit (j % 2) noRule) .low ≤ at r (6 + j)) × (at r (6 + j) ≤ (getD deficit (j % 2) noRule) .high) =

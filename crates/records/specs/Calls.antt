@@ -7,8 +7,8 @@ use lib.ListN.{length, drop}
 use lib.Dec.{leb, eqb}
 use Rattle.ids.specs.Ids.{at}
 use Rattle.bits.specs.Pack.{encode}
-use Rattle.layouts.specs.Layout.{widths, sizeOf}
-use Rattle.layouts.specs.Questions.{firstFailed, rulesOf, numbersOf, numbersTaken, rulesBy, isKind, permitted, idsRise, recordQuestions, recordNumber, consumed, most, row}
+use Rattle.layouts.specs.Layout.{widths, sizeOf, most}
+use Rattle.layouts.specs.Questions.{firstFailed, rulesOf, numbersOf, numbersTaken, rulesBy, isKind, permitted, idsRise, recordQuestions, recordNumber, consumed, row}
 
 -- reading, with a buffer for so many numbers: questions 1 to 5, then 16
 unfoldable pub readNumber : List ℕ → ℕ → ℕ

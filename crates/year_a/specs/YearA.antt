@@ -12,7 +12,7 @@ use Rattle.allotment.specs.Allot.{share}
 use Rattle.bits.specs.Bits.{bitAt, number}
 use Rattle.bits.specs.Table.{times}
 use Rattle.bits.specs.Pack.{bitsOf, spell, byteOf, bytesOf, pack, encode}
-use Rattle.layouts.specs.Layout.{hasLists, deficitsIn, entriesIn, rulesFor}
+use Rattle.layouts.specs.Layout.{itemsIn, rulesTo, rulesFor}
 use Rattle.layouts.specs.Questions.{recordQuestions, firstFailed, kindOf, headOf, rulesOf, numbersOf, isKind, isWhole, permits, permitted, isFilled, rises, idsRise, row}
 use Rattle.year.specs.declared.Year.{Year}
 use Rattle.year.specs.Year.{newYear, listed, reduction, deficit, known, seller, area, zone, product, committed, rate, obligation}
@@ -123,5 +123,5 @@ figures : (
     )
     × (printed (answers 1 newYear others) ≡ [])
     × (compliance (after newYear others) 13 3 ≡ 20833) × (test (after newYear others) 13 4 ≡ 2931660) × (lse (after newYear others) 13 5 ≡ 2952493)
-unfolding sumTo anyTo allTo tabulate convert days due callable testable share bitAt number bitsOf spell byteOf bytesOf pack encode hasLists deficitsIn entriesIn times rulesFor recordQuestions firstFailed kindOf headOf rulesOf numbersOf isKind isWhole permits permitted isFilled rises idsRise row listed reduction deficit known seller area zone product committed rate obligation byId pairedBy called calls uncapped raised part total shortfall shortOf u cap asked daily overEvents charge excessOf e charged creditOf tested base testOf overTests compliance credit test charges credits lse amounts countTo difference hasRegistration hasObligation sellerColumns lineFields linesTo statementFields statementOf value42 listingIn inArea inGroup everyListed deficitsListed listsExactly inTime q6 q7 q8 q9 q10 q11 q12 q13 q14 q15 q16 questions valuesOf postNumber yearWith bufferWith yearAfter bufferAfter digitsTo decimal cents refusalLine linesFrom monthLine partyLine statementLines answerLines bytes answers printed after
+unfolding sumTo anyTo allTo tabulate convert days due callable testable share bitAt number bitsOf spell byteOf bytesOf pack encode itemsIn times rulesTo rulesFor recordQuestions firstFailed kindOf headOf rulesOf numbersOf isKind isWhole permits permitted isFilled rises idsRise row listed reduction deficit known seller area zone product committed rate obligation byId pairedBy called calls uncapped raised part total shortfall shortOf u cap asked daily overEvents charge excessOf e charged creditOf tested base testOf overTests compliance credit test charges credits lse amounts countTo difference hasRegistration hasObligation sellerColumns lineFields linesTo statementFields statementOf value42 listingIn inArea inGroup everyListed deficitsListed listsExactly inTime q6 q7 q8 q9 q10 q11 q12 q13 q14 q15 q16 questions valuesOf postNumber yearWith bufferWith yearAfter bufferAfter digitsTo decimal cents refusalLine linesFrom monthLine partyLine statementLines answerLines bytes answers printed after
 figures = (refl, refl, refl, refl, refl, refl)

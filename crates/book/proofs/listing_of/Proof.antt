@@ -2,9 +2,10 @@
 use mathlib.Core.Path.{_≡_}
 use mathlib.Core.Bool.{true}
 use mathlib.Core.Logic.{⊎-elim}
-use borrow.Author.Tests.{ne-eqb, eqb-true}
+use borrow.Author.Tests.{eqb-true, eqb-false}
 use Rattle.ids.specs.Ids.{at}
-use Rattle.layouts.specs.Layout.{hasLists, deficitsIn, entriesIn}
+use Rattle.layouts.specs.Layout.{hasLists}
+use Rattle.layouts.specs.PairLaws.{other-kinds, deficits-are, entries-are}
 use Rattle.questions.specs.Questions.{listingIn}
 use Rattle.book.specs.Made.{listed-pairs}
 use borrow.Author.Needs.{needs}
@@ -25,13 +26,17 @@ listing-of-requires : tie.Need-listing-of-requires
 listing-of-requires c κs = listed-pairs (c .before .pre) (has-lists c)
 
 returns : tie.Need-returns
-unfolding listingIn deficitsIn entriesIn
-returns c = rw (has-lists (c .before)) (c .listing-of .ensures .0)
+unfolding listingIn
+returns c =
+    let vs = c .before .before .args .t1 in
+    rw (deficits-are (at vs 0) vs, entries-are (at vs 0) vs, has-lists (c .before)) (c .listing-of .ensures .0)
 
 returns-2 : tie.Need-returns-2
-unfolding listingIn deficitsIn entriesIn hasLists
+unfolding listingIn
 returns-2 c =
-    rw (ne-eqb (at (c .before .before .before .args .t1) 0) 4 (c .before .before .if1 .left), c .before .if2 .left) (c .listing-of2 .ensures .0)
+    let vs = c .before .before .before .args .t1 in
+    let no = other-kinds (at vs 0) (c .before .before .if1 .left) (eqb-false (at vs 0) 5 (c .before .if2 .left)) in
+    rw (deficits-are (at vs 0) vs, entries-are (at vs 0) vs, no) (c .listing-of2 .ensures .0)
 
 pub listing-of-spec : {M : Type 1} → statement M
 listing-of-spec =

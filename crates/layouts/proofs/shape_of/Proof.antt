@@ -4,16 +4,15 @@ use mathlib.Core.Path.{_≡_, refl, sym, _∙_}
 use borrow.Author.Needs.{needs}
 use borrow.Author.Tests.{not-true, not-false}
 use native.Mathlib.Omega.{arith}
-use Rattle.layouts.specs.Layout.{hasLists, deficitsIn, entriesIn}
-use Rattle.layouts.specs.QuestionLaws.{lists-six}
+use Rattle.layouts.specs.Layout.{hasLists}
+use Rattle.layouts.specs.PairLaws.{lists-six, deficits-are, entries-are}
 use Rattle.layouts.proofs.shape_of.Statement.{statement}
 use Rattle.layouts.proofs.shape_of.Tie as tie
 
 returns : tie.Need-returns
-unfolding deficitsIn entriesIn
 returns c =
     let no : hasLists (c .before .before .before .before .before .args .kind) ≡ false = sym (c .before .has-lists .ensures) ∙ not-true _ (c .if1 .taken) in
-    record { kind = refl; count = c .before .before .before .count-at .ensures; bits = c .before .before .bits-at .ensures; deficits = rw no; entries = rw no }
+    record { kind = refl; count = c .before .before .before .count-at .ensures; bits = c .before .before .bits-at .ensures; deficits = sym (rw no at (deficits-are (c .before .before .before .before .before .args .kind) (c .before .before .before .before .before .args .values .now))); entries = sym (rw no at (entries-are (c .before .before .before .before .before .args .kind) (c .before .before .before .before .before .args .values .now))) }
 
 shared-slice-read-t8 : tie.Need-shared-slice-read-t8
 shared-slice-read-t8 c =
@@ -26,10 +25,9 @@ shared-slice-read-t11 c =
     omega (arith, lists-six (c .before .before .before .before .before .before .before .args .kind) yes)
 
 returns-2 : tie.Need-returns-2
-unfolding deficitsIn entriesIn
 returns-2 c =
     let yes : hasLists (c .before .before .before .before .before .before .before .args .kind) ≡ true = sym (c .before .before .before .has-lists .ensures) ∙ not-false _ (c .before .before .if1 .left) in
-    record { kind = refl; count = c .before .before .before .before .before .count-at .ensures; bits = c .before .before .before .before .bits-at .ensures; deficits = rw yes; entries = rw yes }
+    record { kind = refl; count = c .before .before .before .before .before .count-at .ensures; bits = c .before .before .before .before .bits-at .ensures; deficits = sym (rw yes at (deficits-are (c .before .before .before .before .before .before .before .args .kind) (c .before .before .before .before .before .before .before .args .values .now))); entries = sym (rw yes at (entries-are (c .before .before .before .before .before .before .before .args .kind) (c .before .before .before .before .before .before .before .args .values .now))) }
 
 pub shape-of-spec : {M : Type 1} → statement M
 shape-of-spec =

@@ -3,7 +3,7 @@ use mathlib.Core.Path.{_∙_}
 use borrow.Author.Needs.{needs}
 use native.Mathlib.Nat.{zero-add}
 use native.Mathlib.Omega.{arith}
-use Rattle.layouts.specs.Layout.{heads}
+use Rattle.layouts.specs.Shapes.{heads}
 use Rattle.layouts.specs.Tables.{starts, starts-at, head-ends}
 use Rattle.layouts.proofs.start_at.Statement.{statement}
 use Rattle.layouts.proofs.start_at.Tie as tie

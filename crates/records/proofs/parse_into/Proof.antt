@@ -6,7 +6,8 @@ use borrow.Author.Tests.{not-true, not-false}
 use native.Mathlib.Omega.{arith}
 use Rattle.layouts.specs.Layout.{sizeOf}
 use Rattle.layouts.specs.Questions.{isKind}
-use Rattle.records.proofs.Reading.{kind-small, head-long, fails-1, fails-2, fails-3, refuses, Headed, headed, headed-rules, headed-sized, headed-short, headed-whole, headed-refused, headed-made}
+use Rattle.layouts.specs.QuestionLaws.{kind-in}
+use Rattle.records.proofs.Reading.{head-long, fails-1, fails-2, fails-3, refuses, Headed, headed, headed-rules, headed-sized, headed-short, headed-whole, headed-refused, headed-made}
 use Rattle.records.proofs.parse_into.Statement.{statement}
 use Rattle.records.proofs.parse_into.Tie as tie
 
@@ -27,7 +28,7 @@ take-head-requires : tie.Need-take-head-requires
 take-head-requires c κs = (c .before .before .before .kind-of .ensures .0, (c .before .before .before .kind-of .ensures .1, (first-at (c .before), c .before .before .before .before .before .before .pre)))
 
 shape-of-requires : tie.Need-shape-of-requires
-shape-of-requires c κs = (kind-small _ (first-at (c .before .before .before .before .before)), head-long (c .before .before .before .before .before .before .before .before .before .before .args .bytes .now) (c .before .before .before .before .before .before .before .kind-of .result .value) (c .before .before .before .take-head .ensures .1))
+shape-of-requires c κs = (kind-in _ (first-at (c .before .before .before .before .before)), head-long (c .before .before .before .before .before .before .before .before .before .before .args .bytes .now) (c .before .before .before .before .before .before .before .kind-of .result .value) (c .before .before .before .take-head .ensures .1))
 
 returns-2 : tie.Need-returns-2
 returns-2 c =
@@ -35,7 +36,7 @@ returns-2 c =
     refuses (c .refused2 .ensures .0) (c .refused2 .ensures .2) (c .refused2 .ensures .1) (λ e. omega arith) (fails-2 _ (h .first) (headed-short h (rw (c .before .before .size-of .ensures) at (c .before .if2 .taken))))
 
 head-permitted-requires : tie.Need-head-permitted-requires
-head-permitted-requires c κs = (kind-small _ (first-at (c .before .before .before .before .before .before .before .before .before)), head-long (c .before .before .before .before .before .before .before .before .before .before .before .before .before .before .args .bytes .now) (c .before .before .before .before .before .before .before .before .before .before .before .kind-of .result .value) (c .before .before .before .before .before .before .before .take-head .ensures .1))
+head-permitted-requires c κs = (kind-in _ (first-at (c .before .before .before .before .before .before .before .before .before)), head-long (c .before .before .before .before .before .before .before .before .before .before .before .before .before .before .args .bytes .now) (c .before .before .before .before .before .before .before .before .before .before .before .kind-of .result .value) (c .before .before .before .before .before .before .before .take-head .ensures .1))
 
 returns-3 : tie.Need-returns-3
 returns-3 c =

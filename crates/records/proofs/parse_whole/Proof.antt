@@ -5,7 +5,8 @@ use borrow.Author.Needs.{needs}
 use borrow.Author.Tests.{not-true, not-false}
 use native.Mathlib.Omega.{arith}
 use Rattle.layouts.specs.Layout.{sizeOf}
-use Rattle.layouts.specs.LayoutLaws.{total-rules, head-small}
+use Rattle.layouts.specs.LayoutLaws.{head-small}
+use Rattle.layouts.specs.PairLaws.{total-pairs}
 use Rattle.layouts.specs.Questions.{rulesOf, numbersOf, permitted, isFilled, row}
 use Rattle.records.proofs.Reading.{fails-3, fails-4, fails-5, fails-none, refuses, fills, whole-rules, whole-few, whole-bytes, whole-values, whole-permitted, whole-filled, whole-rise, whole-count, whole-long}
 use Rattle.records.proofs.parse_whole.Statement.{statement}
@@ -47,7 +48,7 @@ is-filled-requires c κs =
     let w = c .before .before .before .before .before .before .before .before .before .before .pre .0 in
     let z = w .sized in
     let e = c .before .before .before .before .before .take-lists .ensures .0 in
-    (rw e (whole-bytes w), omega (arith, total-rules (s .kind) (s .deficits) (s .entries), head-small (s .kind)))
+    (rw e (whole-bytes w), omega (arith, total-pairs (s .kind) (s .deficits) (s .entries), head-small (s .kind)))
 
 returns-2 : tie.Need-returns-2
 returns-2 c =

@@ -8,24 +8,25 @@ use Rattle.bits.specs.Table.{fieldsAt}
 use Rattle.bits.specs.TableLaws.{length-fields}
 use Rattle.layouts.specs.Layout.{head, widths}
 use Rattle.layouts.specs.LayoutLaws.{head-small, length-widths}
-use Rattle.layouts.specs.QuestionLaws.{head-kind}
-use Rattle.layouts.specs.Questions.{most, row}
+use Rattle.layouts.specs.QuestionLaws.{kind-in, kind-byte, head-kind}
+use Rattle.layouts.specs.Layout.{most}
+use Rattle.layouts.specs.Questions.{row}
 use Rattle.layouts.specs.ShapeLaws.{length-row}
-use Rattle.records.proofs.Reading.{kind-small, kind-byte, head-split, head-rest, head-row}
+use Rattle.records.proofs.Reading.{head-split, head-rest, head-row}
 use Rattle.layouts.specs.Tables.{head-ends, rest-is}
 use Rattle.records.proofs.take_head.Statement.{statement}
 use Rattle.records.proofs.take_head.Tie as tie
 
 start-at-requires : tie.Need-start-at-requires
-start-at-requires c κs = kind-small _ (c .before .before .pre .1 .1 .0)
+start-at-requires c κs = kind-in _ (c .before .before .pre .1 .1 .0)
 
 count-at-requires : tie.Need-count-at-requires
-count-at-requires c κs = kind-small _ (c .before .before .before .pre .1 .1 .0)
+count-at-requires c κs = kind-in _ (c .before .before .before .pre .1 .1 .0)
 
 add-end : tie.Need-add-end
 add-end c =
     let first = c .before .before .before .before .pre .1 .1 .0 in
-    omega (arith, head-ends (c .before .before .before .before .args .kind .value) (kind-small _ first), c .before .start-at .ensures, c .count-at .ensures)
+    omega (arith, head-ends (c .before .before .before .before .args .kind .value) (kind-in _ first), c .before .start-at .ensures, c .count-at .ensures)
 
 slice-write-values : tie.Need-slice-write-values
 slice-write-values c = omega (arith, ap length (c .before .before .before .before .before .pre .1 .1 .1), length-replicate {A = ℕ} most 0)
@@ -33,7 +34,7 @@ slice-write-values c = omega (arith, ap length (c .before .before .before .befor
 add-take-all : tie.Need-add-take-all
 add-take-all c =
     let first = c .before .before .before .before .before .pre .1 .1 .0 in
-    omega (arith, head-ends (c .before .before .before .before .before .args .kind .value) (kind-small _ first), c .before .before .start-at .ensures)
+    omega (arith, head-ends (c .before .before .before .before .before .args .kind .value) (kind-in _ first), c .before .before .start-at .ensures)
 
 sub-take-all : tie.Need-sub-take-all
 sub-take-all c =
@@ -43,12 +44,12 @@ sub-take-all c =
 part-take-all-start : tie.Need-part-take-all-start
 part-take-all-start c =
     let first = c .before .before .before .before .before .before .pre .1 .1 .0 in
-    omega (arith, head-kind (c .before .before .before .before .before .before .args .kind .value) first .0, head-ends (c .before .before .before .before .before .before .args .kind .value) (kind-small _ first), c .before .before .before .start-at .ensures, c .before .before .count-at .ensures, ap length (c .before .widths-of-heads .ensures))
+    omega (arith, head-kind (c .before .before .before .before .before .before .args .kind .value) first .0, head-ends (c .before .before .before .before .before .before .args .kind .value) (kind-in _ first), c .before .before .before .start-at .ensures, c .before .before .count-at .ensures, ap length (c .before .widths-of-heads .ensures))
 
 part-take-all-end : tie.Need-part-take-all-end
 part-take-all-end c =
     let first = c .before .before .before .before .before .before .pre .1 .1 .0 in
-    omega (arith, head-ends (c .before .before .before .before .before .before .args .kind .value) (kind-small _ first), c .before .before .before .start-at .ensures, c .before .before .count-at .ensures, ap length (c .before .widths-of-heads .ensures))
+    omega (arith, head-ends (c .before .before .before .before .before .before .args .kind .value) (kind-in _ first), c .before .before .before .start-at .ensures, c .before .before .count-at .ensures, ap length (c .before .widths-of-heads .ensures))
 
 take-all-requires : tie.Need-take-all-requires
 take-all-requires c κs =
@@ -56,7 +57,7 @@ take-all-requires c κs =
     let k = c .before .before .before .before .before .before .before .before .args .kind .value in
     let first = p .1 .1 .0 in
     let n = c .before .before .before .before .count-at .ensures in
-    let part = rest-is (λ r. r .width) k (c .before .before .before .before .before .start-at .result) (c .before .before .before .before .count-at .result) (c .before .before .before .widths-of-heads .result) (kind-small _ first) (c .before .before .before .before .before .start-at .ensures) n (omega (arith, head-kind k first .0)) (c .before .before .before .widths-of-heads .ensures) in
+    let part = rest-is (λ r. r .width) k (c .before .before .before .before .before .start-at .result) (c .before .before .before .before .count-at .result) (c .before .before .before .widths-of-heads .result) (kind-in _ first) (c .before .before .before .before .before .start-at .ensures) n (omega (arith, head-kind k first .0)) (c .before .before .before .widths-of-heads .ensures) in
     let rest = head-rest k first in
     let some = kind-byte (c .before .before .before .before .before .before .before .before .args .bytes .now) (rw (p .0) at first) in
     rw (part, length-set) (record { narrows = rest .0; begins = omega (arith, some, p .1 .0); ends = omega (arith, rest .1, p .1 .0); small = omega (arith, rest .1, p .1 .0) }, omega (arith, rest .2, ap length (p .1 .1 .1), length-replicate {A = ℕ} most 0))
@@ -68,7 +69,7 @@ part-at c =
     let k = c .before .before .before .before .before .before .before .before .before .args .kind .value in
     let first = c .before .before .before .before .before .before .before .before .before .pre .1 .1 .0 in
     let n = c .before .before .before .before .before .count-at .ensures in
-    rest-is (λ r. r .width) k (c .before .before .before .before .before .before .start-at .result) (c .before .before .before .before .before .count-at .result) (c .before .before .before .before .widths-of-heads .result) (kind-small _ first) (c .before .before .before .before .before .before .start-at .ensures) n (omega (arith, head-kind k first .0)) (c .before .before .before .before .widths-of-heads .ensures)
+    rest-is (λ r. r .width) k (c .before .before .before .before .before .before .start-at .result) (c .before .before .before .before .before .count-at .result) (c .before .before .before .before .widths-of-heads .result) (kind-in _ first) (c .before .before .before .before .before .before .start-at .ensures) n (omega (arith, head-kind k first .0)) (c .before .before .before .before .widths-of-heads .ensures)
 
 row-at : (c : tie.After-take-all) → let k = c .before .before .before .before .before .before .before .before .before .args .kind .value in c .take-all .last .1 .1 .1 .0 ≡ row (fieldsAt (c .before .before .before .before .before .before .before .before .before .args .bytes .now) 0 (widths (head k)))
 row-at c =

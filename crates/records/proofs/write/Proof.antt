@@ -8,7 +8,7 @@ use lib.ListN.{length}
 use Rattle.layouts.specs.Layout.{sizeOf}
 use Rattle.layouts.specs.Questions.{rulesBy}
 use Rattle.records.specs.Parsing.{Passed}
-use Rattle.records.proofs.Reading.{kind-small}
+use Rattle.layouts.specs.QuestionLaws.{kind-in}
 use Rattle.records.proofs.Writing.{stops-1, stops-3, stops-5, stops-16, stops-none, denies, grants, short-stops, head-stops, passes, Numbered, numbered-rules, numbered-sized, numbered-permitted, numbered-rise}
 use Rattle.records.proofs.write.Statement.{statement}
 use Rattle.records.proofs.write.Tie as tie
@@ -34,7 +34,7 @@ returns c =
     denies 1 (u .0) (u .1) refl (λ e. omega arith) (stops-1 _ _ none)
 
 count-at-requires : tie.Need-count-at-requires
-count-at-requires c κs = kind-small _ (sym (c .before .is-kind .ensures) ∙ not-false _ (c .if1 .left))
+count-at-requires c κs = kind-in _ (sym (c .before .is-kind .ensures) ∙ not-false _ (c .if1 .left))
 
 returns-2 : tie.Need-returns-2
 returns-2 c =
@@ -43,7 +43,7 @@ returns-2 c =
     denies 3 (u .0) (u .1) refl (λ e. omega arith) (stops-3 _ _ (rw (c .before .before .before .before .before .first-of .ensures) at (sym (c .before .before .before .before .is-kind .ensures)) ∙ not-false _ (c .before .before .before .if1 .left)) short)
 
 head-permitted-requires : tie.Need-head-permitted-requires
-head-permitted-requires c κs = (kind-small _ (sym (c .before .before .before .is-kind .ensures) ∙ not-false _ (c .before .before .if1 .left)), rw (← c .before .count-at .ensures) (c .if2 .left))
+head-permitted-requires c κs = (kind-in _ (sym (c .before .before .before .is-kind .ensures) ∙ not-false _ (c .before .before .if1 .left)), rw (← c .before .count-at .ensures) (c .if2 .left))
 
 returns-3 : tie.Need-returns-3
 returns-3 c =
@@ -52,7 +52,7 @@ returns-3 c =
     denies 3 (u .0) (u .1) refl (λ e. omega arith) (stops-3 _ _ (rw (c .before .before .before .before .before .before .before .first-of .ensures) at (sym (c .before .before .before .before .before .before .is-kind .ensures)) ∙ not-false _ (c .before .before .before .before .before .if1 .left)) (head-stops (c .before .before .before .before .before .before .before .before .before .before .args .numbers .now) no))
 
 shape-of-requires : tie.Need-shape-of-requires
-shape-of-requires c κs = (kind-small _ (sym (c .before .before .before .before .before .is-kind .ensures) ∙ not-false _ (c .before .before .before .before .if1 .left)), rw (← c .before .before .before .count-at .ensures) (c .before .before .if2 .left))
+shape-of-requires c κs = (kind-in _ (sym (c .before .before .before .before .before .is-kind .ensures) ∙ not-false _ (c .before .before .before .before .if1 .left)), rw (← c .before .before .before .count-at .ensures) (c .before .before .if2 .left))
 
 count-of-requires : tie.Need-count-of-requires
 count-of-requires c κs = numbered-sized (numbered-at c)

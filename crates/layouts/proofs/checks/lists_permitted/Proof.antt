@@ -6,7 +6,7 @@ use borrow.Author.Tests.{not-true, not-false}
 use native.Mathlib.Omega.{arith}
 use lib.ListN.{length}
 use Rattle.layouts.specs.Layout.{head}
-use Rattle.layouts.specs.LayoutLaws.{length-rules}
+use Rattle.layouts.specs.PairLaws.{length-pairs}
 use Rattle.layouts.specs.Shapes.{pairsPermit, listsPermit}
 use Rattle.layouts.proofs.checks.lists_permitted.Statement.{statement}
 use Rattle.layouts.proofs.checks.lists_permitted.Tie as tie
@@ -14,7 +14,7 @@ use Rattle.layouts.proofs.checks.lists_permitted.Tie as tie
 pairs-permitted-requires : tie.Need-pairs-permitted-requires
 pairs-permitted-requires c κs =
     let s = c .before .args .s in
-    omega (arith, c .before .pre .0 .count, length-rules (s .kind) (s .deficits) (s .entries))
+    omega (arith, c .before .pre .0 .count, length-pairs (s .kind) (s .deficits) (s .entries))
 
 returns : tie.Need-returns
 unfolding listsPermit
@@ -26,12 +26,12 @@ returns c =
 add-pairs-permitted : tie.Need-add-pairs-permitted
 add-pairs-permitted c =
     let s = c .before .before .before .before .before .args .s in
-    omega (arith, c .before .before .before .before .before .pre .0 .count, length-rules (s .kind) (s .deficits) (s .entries))
+    omega (arith, c .before .before .before .before .before .pre .0 .count, length-pairs (s .kind) (s .deficits) (s .entries))
 
 pairs-permitted-requires-2 : tie.Need-pairs-permitted-requires-2
 pairs-permitted-requires-2 c κs =
     let s = c .before .before .before .before .before .args .s in
-    omega (arith, c .before .before .before .before .before .pre .0 .count, length-rules (s .kind) (s .deficits) (s .entries))
+    omega (arith, c .before .before .before .before .before .pre .0 .count, length-pairs (s .kind) (s .deficits) (s .entries))
 
 returns-2 : tie.Need-returns-2
 unfolding listsPermit
