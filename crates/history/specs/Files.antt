@@ -1,10 +1,10 @@
 -- A record file as a list of calls, one for each of its records, and the numbers and statements of such a list. Demand 3 holds of it as of every list.
-use Prim.Native.Nat.{ℕ, _+_, _*_}
+use Prim.Native.Nat.{ℕ}
 use mathlib.Core.List.{List, [], _∷_, _++_}
 use lib.ListN.{length, take}
 use Rattle.bits.specs.Pack.{bytesFor}
 use Rattle.year.specs.declared.Year.{Year}
-use Rattle.statement.specs.ReadBack.{sellersIn, lsesIn}
+use Rattle.statement.specs.ReadBack.{lsesIn, lseLine}
 use Rattle.book.specs.Outcome.{postNumber}
 use Rattle.history.specs.Runs.{Call, step}
 
@@ -23,9 +23,9 @@ unfoldable pub numbers : Year → List Call → List ℕ
 numbers y [] = []
 numbers y (c ∷ cs) = numberOf y c ∷ numbers (step y c) cs
 
--- of a buffer: the bytes of the statement in its front, by the counts in it
+-- of a buffer: the bytes of the statement in its front, up to the end of its last line by the counts in it
 unfoldable pub statementIn : List ℕ → List ℕ
-statementIn buffer = take (bytesFor (14 + 130 * sellersIn buffer + 46 * lsesIn buffer)) buffer
+statementIn buffer = take (bytesFor (lseLine buffer (lsesIn buffer))) buffer
 
 -- the statements in the fronts of buffers, one after another
 unfoldable pub joined : List (List ℕ) → List ℕ
