@@ -1,14 +1,17 @@
 /*
  * The settlement engine for C: libpiermint.a, for x86-64 Linux.
  *
- * Every content of the slices is answered; nothing is allocated, and nothing is kept after a call.
+ * Every content of the slices is answered; nothing is allocated, and nothing is kept after a call:
+ * a book's year lies in cells that the caller holds.
  * A slice is a pointer and a length in elements. What a call owes, and the library does not test:
  *
  * - each pointer is not null, also where the length is 0, and is aligned for its type;
  * - behind it lie that many elements, all of them initialised, below 2^63 bytes in all;
  * - what a pointer without const points to overlaps nothing else that the call is given;
  * - during the call no other thread writes what it is given, or reads what it writes;
- * - 256 KB of stack are free.
+ * - 256 KB of stack are free;
+ * - cells that piermint_post is given were made by piermint_new, and since then written by
+ *   piermint_post alone (a copy of such cells is as good, and so is one kept in a file).
  *
  * A number is 0 where a record is accepted, and 1 to 16 where it is refused: the first question
  * that fails (the README's "The sixteen numbers").
@@ -19,10 +22,14 @@
 #include <stddef.h>
 #include <stdint.h>
 
-/* The most numbers of a record, the most bytes of a statement, and the most closes of a book. */
+/*
+ * The most numbers of a record, the most bytes of a statement, the most closes of a book, and the
+ * cells of its year.
+ */
 #define PIERMINT_NUMBERS 166
 #define PIERMINT_STATEMENT 354
 #define PIERMINT_CLOSES 15
+#define PIERMINT_CELLS 3447
 
 #ifdef __cplusplus
 extern "C" {
@@ -42,6 +49,18 @@ uint64_t piermint_read(const uint8_t *bytes, size_t bytes_length, uint64_t *numb
  */
 uint64_t piermint_write(const uint64_t *numbers, size_t numbers_length, uint8_t *bytes,
                         size_t bytes_length, size_t *used);
+
+/* Makes the PIERMINT_CELLS cells a new book's, whatever they held. */
+void piermint_new(uint64_t *cells);
+
+/*
+ * Takes the record at the front of bytes, and answers its number. *used is how many bytes it takes,
+ * 0 after number 1 or 2. Refused, the cells and the buffer are as they were. An accepted close writes
+ * its statement to the front of buffer, *written bytes, with what lies past it as it was; else
+ * *written is 0. A close with a buffer of fewer than PIERMINT_STATEMENT bytes is refused with 16.
+ */
+uint64_t piermint_post(uint64_t *cells, const uint8_t *bytes, size_t bytes_length, uint8_t *buffer,
+                       size_t buffer_length, size_t *used, size_t *written);
 
 /*
  * Bills a record file from a new book, and answers how many records it took. It ends at the end

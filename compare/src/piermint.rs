@@ -1,6 +1,7 @@
 //! The proved engine through its C interface (piermint.h), as safe functions.
 
 use crate::bill::Billed;
+use crate::book::Taken;
 use crate::numbers::{Read, Written};
 
 extern "C" {
@@ -21,6 +22,18 @@ extern "C" {
         used: *mut usize,
     ) -> u64;
 
+    fn piermint_new(cells: *mut u64);
+
+    fn piermint_post(
+        cells: *mut u64,
+        bytes: *const u8,
+        bytes_len: usize,
+        buffer: *mut u8,
+        buffer_len: usize,
+        used: *mut usize,
+        written: *mut usize,
+    ) -> u64;
+
     fn piermint_bill(
         records: *const u8,
         records_len: usize,
@@ -35,7 +48,8 @@ extern "C" {
 
 // SAFETY, of each call below: what piermint.h asks of pointers, Rust's slices and references have
 // (not null, aligned, initialised, no overlap with what is mutable), and every slice comes with its
-// own length. The library keeps no pointer. Its 256 KB of stack are within any thread's default.
+// own length. The library keeps no pointer. Its 256 KB of stack are within any thread's default. A
+// book's cells are private to it: `piermint_new` makes them, and `piermint_post` alone writes them.
 
 /// Reads one record into the lent numbers.
 pub fn read(bytes: &[u8], numbers: &mut [u64]) -> Read {
@@ -66,6 +80,50 @@ pub fn write(numbers: &[u64], bytes: &mut [u8]) -> Written {
         )
     };
     written
+}
+
+/// The cells of a book's year.
+const CELLS: usize = 3447;
+
+/// A book whose year lies in cells of its own, which only the library's calls write.
+#[derive(Clone, PartialEq, Eq)]
+pub struct Book {
+    cells: Box<[u64; CELLS]>,
+}
+
+impl Book {
+    pub fn new() -> Self {
+        let mut cells = Box::new([0; CELLS]);
+        unsafe { piermint_new(cells.as_mut_ptr()) };
+        Book { cells }
+    }
+
+    /// Takes the first record of the bytes; an accepted close leaves its statement in the buffer.
+    pub fn take(&mut self, bytes: &[u8], buffer: &mut [u8]) -> Taken {
+        let [mut consumed, mut written] = [0; 2];
+        let number = unsafe {
+            piermint_post(
+                self.cells.as_mut_ptr(),
+                bytes.as_ptr(),
+                bytes.len(),
+                buffer.as_mut_ptr(),
+                buffer.len(),
+                &mut consumed,
+                &mut written,
+            )
+        };
+        Taken {
+            number,
+            consumed,
+            written,
+        }
+    }
+}
+
+impl Default for Book {
+    fn default() -> Self {
+        Book::new()
+    }
 }
 
 /// Bills a record file from a new book.

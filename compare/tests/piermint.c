@@ -112,6 +112,34 @@ static void bills(uint8_t *year, size_t length)
     expect(used == 0 && written == 0, "uses nothing");
 }
 
+/* The same records one at a time, on cells of this program's own. */
+static void takes_each(const uint8_t *year, size_t length)
+{
+    static uint64_t cells[PIERMINT_CELLS], before[PIERMINT_CELLS];
+    uint8_t buffer[PIERMINT_STATEMENT];
+    size_t at = 0, used = 99, written = 99;
+
+    memset(cells, MARK, sizeof cells);
+    piermint_new(cells);
+    memcpy(before, cells, sizeof cells);
+    memset(buffer, MARK, sizeof buffer);
+    expect(piermint_post(cells, year, 4, buffer, sizeof buffer, &used, &written) == 2, "an opening cut off: 2");
+    expect(used == 0 && written == 0 && memcmp(cells, before, sizeof cells) == 0, "changes no cell");
+    for (int i = 0; i < 6; i++, at += used) {
+        expect(piermint_post(cells, year + at, length - at, buffer, sizeof buffer, &used, &written) == 0, "six records");
+        expect(written == 0 && buffer[0] == MARK, "without a statement");
+    }
+    memcpy(before, cells, sizeof cells);
+    expect(piermint_post(cells, year + at, length - at, buffer, sizeof buffer - 1, &used, &written) == 16, "no room to close: 16");
+    expect(used == 1 && written == 0 && buffer[0] == MARK, "writes nothing");
+    expect(memcmp(cells, before, sizeof cells) == 0, "and changes no cell");
+    expect(piermint_post(cells, year + at, length - at, buffer, sizeof buffer, &used, &written) == 0, "close 1");
+    expect(used == 1 && written == 46 && buffer[46] == MARK, "a statement of 46 bytes");
+    says_close_1(buffer);
+    expect(piermint_post(cells, year + at, length - at, buffer, sizeof buffer, &used, &written) == 15, "close 1 again: 15");
+    expect(used == 1 && written == 0, "writes no statement");
+}
+
 int main(int argc, char **argv)
 {
     uint8_t year[1024];
@@ -125,6 +153,7 @@ int main(int argc, char **argv)
 
     reads_and_writes();
     bills(year, length);
+    takes_each(year, length);
     printf("%s\n", failures == 0 ? "the static library answers as document 01 says" : "the static library differs");
     return failures != 0;
 }

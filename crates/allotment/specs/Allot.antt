@@ -40,18 +40,22 @@ pub share-zero : (n : ℕ) (w : ℕ → ℕ) (a i : ℕ) → w i ≡ 0 → share
 unfolding share sumTo
 share-zero n w a i e = rw (e, add-zero (sumTo i w)) (sub-self (a * sumTo i w / sumTo n w))
 
--- no share exceeds its weight, if the amount is at most all weights
-share-le : (n : ℕ) (w : ℕ → ℕ) (a i : ℕ) → a ≤ sumTo n w → share n w a i ≤ w i
+-- no share exceeds b, if the amount times its weight is at most b times all weights
+pub share-most : (n : ℕ) (w : ℕ → ℕ) (a i b : ℕ) → a * w i ≤ b * sumTo n w → share n w a i ≤ b
 unfolding share sumTo
-share-le n w a i h = elim (eq-zero-or-pos (sumTo n w)) [
+share-most n w a i b h = elim (eq-zero-or-pos (sumTo n w)) [
   | inl e ↦ rw (e, div-zero (a * (sumTo i w + w i)), div-zero (a * sumTo i w)) (omega arith)
   | inr l ↦
       omega (
         arith,
-        add-mul-div-right (a * sumTo i w) (w i) l,
-        div-mono (a * (sumTo i w + w i)) (a * sumTo i w + w i * sumTo n w) (sumTo n w) (omega (arith, mul-le-mul-right (w i) h)),
+        add-mul-div-right (a * sumTo i w) b l,
+        div-mono (a * (sumTo i w + w i)) (a * sumTo i w + b * sumTo n w) (sumTo n w) (omega arith),
       )
 ]
+
+-- nor its weight, if the amount is at most all weights
+share-le : (n : ℕ) (w : ℕ → ℕ) (a i : ℕ) → a ≤ sumTo n w → share n w a i ≤ w i
+share-le n w a i h = share-most n w a i (w i) (omega (arith, mul-le-mul-right (w i) h))
 
 -- weights that are equal have equal shares
 pub share-same : {n i : ℕ} {w v : ℕ → ℕ} (a : ℕ) → ((j : ℕ) → j < n → w j ≡ v j) → i < n → share n w a i ≡ share n v a i

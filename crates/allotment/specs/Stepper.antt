@@ -51,6 +51,6 @@ module _ {n : ℕ} {w : ℕ → ℕ} {a i : ℕ} {s : Allotment} (b : Before n w
   share-next e g =
       let k = b .carried in record { carried = rw (sum-step i w, ← e) (rw (k .amount, k .total, k .passed) at (g .next)) }
 
-  -- a weight of 0 may be passed over
+  -- an id that is no party has no weight: no share is made for it
   pub share-skip : w i ≡ 0 → Before n w a (i + 1) s
   share-skip e = record { carried = rw (sum-step i w, e, add-zero (sumTo i w)) (b .carried) }

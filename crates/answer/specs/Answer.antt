@@ -5,7 +5,6 @@ use lib.ListN.{length}
 use Rattle.layouts.specs.Questions.{kindOf}
 use Rattle.year.specs.declared.Year.{Year}
 use Rattle.year.specs.Year.{newYear}
-use Rattle.year.specs.Sound.{Sound}
 use Rattle.file.specs.Walk.{recordsIn}
 use Rattle.history.specs.Runs.{Call, buffered, step}
 use Rattle.history.specs.Claim.{Demand3}
@@ -37,7 +36,6 @@ bill-demand3 file buffer = demand3 (calls file buffer)
 
 -- what a step needs: a byte, a position that can be counted on, and room for a statement and for a report
 pub record Ready (c : Course) (bytes statement out : List ℕ) : Type 0 where
-  pub sound : Sound (c .year)
   pub some : 0 < length bytes
   pub counted : c .position + 1 < 2 ^ 64
   pub stated : statementRoom ≤ length statement

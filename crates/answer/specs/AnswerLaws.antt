@@ -25,8 +25,8 @@ kind-first : (bytes : List ℕ) → getD bytes 0 0 < 2 ^ 8 → getD bytes 0 0 / 
 unfolding kindOf
 kind-first bytes l = omega (arith, byte-field bytes 0 l, field-mid bytes 0 0 4 4)
 
-pub printed : (position : ℕ) {y next : Year} {bytes before after old new : List ℕ} {number used at end : ℕ}
-    → getD bytes 0 0 < 2 ^ 8 → Posts y bytes before number used next after
+pub printed : (position : ℕ) {y next : Year} {bytes before after old new : List ℕ} {number used written at end : ℕ}
+    → getD bytes 0 0 < 2 ^ 8 → Posts y bytes before number used written next after
     → Pasted old new at (answerLines position (getD bytes 0 0 / 2 ^ 4) number after) end
     → Pasted old new at (answerText position y (record { bytes = bytes; buffer = before })) end
 unfolding answerText buffered

@@ -1,49 +1,50 @@
 // One record of the bill program: taken, and its answer printed.
-use year::Year;
+use book::Posted;
+use cells::Cells;
 ghost use mathlib.Core.Path.{_≡_};
 ghost use Prim.Native.Nat.{_+_};
-ghost use Rattle.year.specs.Sound.{Sound};
+ghost use Rattle.cells.specs.Layout.{yearIn, Held};
 ghost use Rattle.book.specs.Outcome.{Posts};
 ghost use Rattle.text.specs.Pasted.{Pasted};
 ghost use Rattle.answer.specs.Answer.{answerText, Ready};
 
-// What goes from record to record: the year, the next record's position, and the place behind what is printed.
+// What goes from record to record beside the year: the next record's position, and the place behind what is printed.
 pub struct Course {
-    pub year: Year,
     pub position: u64,
     pub at: usize,
 }
 
-// A record's number, the bytes consumed, and how it goes on.
+// The call's answer, and how it goes on.
 pub struct Answered {
-    pub number: u64,
-    pub used: usize,
+    pub posted: Posted,
     pub next: Course,
 }
 
 // Takes the record at the front of the bytes.
-pub fn step(course: Course, bytes: &[u8], statement: &mut [u8], out: &mut [u8]) -> Answered
+pub fn step(
+    year: &mut Cells,
+    course: Course,
+    bytes: &[u8],
+    statement: &mut [u8],
+    out: &mut [u8],
+) -> Answered
+    requires { ⌜ Held (now year) ⌝ }
     requires { ⌜ Ready course (now bytes) (now statement) (now out) ⌝ }
-    ensures posts { λ r. ⌜ Posts (course .year) (now (bytes .entry)) (now (statement .entry)) (r .number) (r .used) (r .next .year) (now (statement .exit)) ⌝ }
-    ensures prints { λ r. ⌜ Pasted (now (out .entry)) (now (out .exit)) (course .at) (answerText (course .position) (course .year) (record { bytes = now (bytes .entry); buffer = now (statement .entry) })) (r .next .at) ⌝ }
+    ensures posts { λ r. ⌜ Posts (yearIn (now (year .entry))) (now (bytes .entry)) (now (statement .entry)) (r .posted .number) (r .posted .used) (r .posted .written) (yearIn (now (year .exit))) (now (statement .exit)) ⌝ }
+    ensures prints { λ r. ⌜ Pasted (now (out .entry)) (now (out .exit)) (course .at) (answerText (course .position) (yearIn (now (year .entry))) (record { bytes = now (bytes .entry); buffer = now (statement .entry) })) (r .next .at) ⌝ }
     ensures counts { λ r. ⌜ r .next .position ≡ course .position + 1 ⌝ }
-    ensures sound { λ r. ⌜ Sound (r .next .year) ⌝ }
+    ensures held { λ r. ⌜ Held (now (year .exit)) ⌝ }
 {
-    let year = course.year;
     let position = course.position;
     let kind = bytes[0] >> 4;
     let posted = book::post(year, bytes, statement);
-    let number = posted.number;
-    let at = report::answer_lines(position, kind, number, statement, out, course.at);
-    let after = posted.year;
+    let at = report::answer_lines(position, kind, posted.number, statement, out, course.at);
     let next = Course {
-        year: after,
         position: position + 1,
         at: at,
     };
     Answered {
-        number: number,
-        used: posted.used,
+        posted: posted,
         next: next,
     }
 }

@@ -3,23 +3,19 @@ use answer::Course;
 use libc::STDIN_FILENO;
 ghost use Prim.Native.Nat.{_≤_};
 ghost use lib.ListN.{length};
-ghost use Rattle.report.specs.Text.{room, statementRoom};
+ghost use Rattle.report.specs.Text.{room};
 ghost use Rattle.layouts.specs.Layout.{longestRecord};
 
 // One record after another, up to the end or a number that ends the file; answers whether all is read and written.
 // A failed read or write ends it with nothing more written. No contract can name what is read or written: that
 // each step on what is at hand prints the file's bill is a law of `answer` (text-first).
-fn bill(input: i32, buffer: &mut [u8], statement: &mut [u8], out: &mut [u8]) -> bool
+fn bill(input: i32, buffer: &mut [u8], out: &mut [u8]) -> bool
     requires { ⌜ longestRecord ≤ length (now buffer) ⌝ }
-    requires { ⌜ statementRoom ≤ length (now statement) ⌝ }
     requires { ⌜ room ≤ length (now out) ⌝ }
 {
-    let year = book::new_book();
-    let mut course = Course {
-        year: year,
-        position: 1,
-        at: 0,
-    };
+    let mut statement = [0u8; report::STATEMENT];
+    let mut year = book::new_book();
+    let mut course = Course { position: 1, at: 0 };
     let mut window = stream::input::new_window();
     while course.position < u64::MAX {
         window = stream::input::filled(input, buffer, window, records::LONGEST);
@@ -31,26 +27,23 @@ fn bill(input: i32, buffer: &mut [u8], statement: &mut [u8], out: &mut [u8]) -> 
         if start == end {
             return stream::output::finish(out, course.at);
         }
-        let answered = answer::step(course, &buffer[start..end], statement, out);
+        let answered = answer::step(&mut year, course, &buffer[start..end], &mut statement, out);
         course = answered.next;
-        if file::ends(answered.number) {
-            return stream::output::finish(out, course.at);
-        }
         let gathered = stream::output::with_room(out, course.at, report::ROOM);
         if gathered.failed {
             return false;
         }
         course.at = gathered.at;
-        window.start = start + answered.used;
+        let posted = answered.posted;
+        window = stream::input::behind(window, posted.used, file::ends(posted.number));
     }
     false
 }
 
 fn bill_input(input: i32) -> bool {
     let mut buffer = io::large_buffer();
-    let mut statement = [0u8; report::STATEMENT];
     let mut out = io::large_buffer();
-    bill(input, &mut buffer, &mut statement, &mut out)
+    bill(input, &mut buffer, &mut out)
 }
 
 // The file that an argument names.

@@ -10,16 +10,14 @@ use lib.Seq.{drop-drop, take-all}
 use Rattle.layouts.specs.Questions.{consumed}
 use Rattle.layouts.specs.QuestionLaws.{consumed-within}
 use Rattle.records.specs.Calls.{over}
-use Rattle.year.specs.declared.Amounts.{Amounts}
 use Rattle.year.specs.declared.Year.{Year}
 use Rattle.year.specs.Year.{newYear}
 use Rattle.year.specs.Sound.{Sound}
-use Rattle.statement.specs.Statement.{statementOf}
 use Rattle.book.specs.Outcome.{postNumber, Posts}
 use Rattle.file.specs.Walk.{ends}
 use Rattle.history.specs.Runs.{Call, step}
 use Rattle.billing.specs.Billed.{statement, calls, billed, Bills}
-use Rattle.billing.proofs.Closing.{statement-there, statement-none, buffer-over}
+use Rattle.billing.proofs.Closing.{written-is, buffer-over}
 use Rattle.billing.proofs.Along.{Along, nothing, from, along-none, along-more, along-all, from-zero, from-first, from-none}
 
 -- a slice from n on, as it is lent, and as it is put back
@@ -76,7 +74,7 @@ module _ {records numbers₀ statements₀ numbers statements : List ℕ} {year 
   lent-same : drop written statements ≡ buffer
   lent-same = g .along .leaves .kept
 
-  module _ {number u : ℕ} {next : Year} {after : List ℕ} (p : Posts year bytes (drop written statements) number u next after) where
+  module _ {number u w : ℕ} {next : Year} {after : List ℕ} (p : Posts year bytes (drop written statements) number u w next after) where
     years : next ≡ step year call
     unfolding step
     years = rw lent-same at (p .years)
@@ -88,25 +86,24 @@ module _ {records numbers₀ statements₀ numbers statements : List ℕ} {year 
     next-within = omega (arith, g .within, p .uses, consumed-within bytes, length-drop used records)
 
     -- a statement goes no further than its buffer
-    pub statement-within : length after ≡ length (drop written statements) → written + length wrote ≤ length statements₀
+    statement-within : length after ≡ length (drop written statements) → written + length wrote ≤ length statements₀
     statement-within e =
         omega (arith, e, ap length lent-same, ap length leaves, length-append wrote (drop (length wrote) (drop written statements)), length-drop (length wrote) (drop written statements), length-drop written statements₀, g .along .leaves .within)
 
-    -- one more close, or none: the statement's size by the terms after it, or nothing
-    pub size-closed : {size : ℕ} → year .closed < next .closed
-        → ((month : ℕ) (owed billed : Amounts) → size ≡ length (statementOf (next .terms) month owed billed)) → size ≡ length wrote
-    size-closed l h = h _ _ _ ∙ ap length (sym (statement-there year call (g .sound) years l))
+    -- the bytes of its statement
+    pub wrote-is : w ≡ length wrote
+    wrote-is = (rw lent-same at (p .writes)) ∙ written-is year call (g .sound)
 
-    pub size-none : next .closed ≤ year .closed → 0 ≡ length wrote
-    size-none l = ap length (sym (statement-none year call years l))
+    pub written-within : length after ≡ length (drop written statements) → written + w ≤ length statements₀
+    written-within e = omega (arith, wrote-is, statement-within e)
 
     -- the file with one more record answered
     pub turned : answered < length numbers → used < length records → length after ≡ length (drop written statements)
-        → State (ends number) records numbers₀ statements₀ (set numbers answered number) (take written statements ++ after) next (answered + 1) (used + u) (written + length wrote)
+        → State (ends number) records numbers₀ statements₀ (set numbers answered number) (take written statements ++ after) next (answered + 1) (used + u) (written + w)
     turned more some e =
         let n = length numbers₀ - (answered + 1) in
         let turns : length numbers₀ - answered ≡ suc n = omega (arith, g .along .answers .long) in
         let first = from-first n year bytes buffer (omega (arith, length-drop used records)) in
         let numbered : number ≡ postNumber year bytes (length buffer) = rw lent-same at (p .numbers) in
-        rw (leaves, numbered, years, p .uses, ← drop-drop (consumed bytes) used records, ← drop-drop (length wrote) written statements₀)
+        rw (wrote-is, leaves, numbered, years, p .uses, ← drop-drop (consumed bytes) used records, ← drop-drop (length wrote) written statements₀)
         (along-more (postNumber year bytes (length buffer)) (consumed bytes) wrote (rw (turns, first) at (g .along)) (omega (arith, g .along .answers .long)) (statement-within e))

@@ -24,17 +24,12 @@ pub fn bill(records: &[u8], numbers: &mut [u64], statements: &mut [u8]) -> Total
                 written,
             };
         }
-        let closed = year.closed;
-        let posted = book::post(year, &records[used..], &mut statements[written..]);
-        year = posted.year;
+        let posted = book::post(&mut year, &records[used..], &mut statements[written..]);
         let number = posted.number;
         numbers[answered] = number;
         answered += 1;
         used += posted.used;
-        if closed < year.closed {
-            let terms = year.terms;
-            written += statement::size_of(terms);
-        }
+        written += posted.written;
         if file::ends(number) {
             return Totals {
                 answered,

@@ -1,4 +1,4 @@
--- Bits and fields of a list of bytes, the most significant bit of each byte first, and what it means to take a field.
+-- Bits and fields of a list of bytes, the most significant bit of each byte first, and what it means to read a field.
 use mathlib.Core.Path.{_≡_}
 use mathlib.Core.List.{List}
 use Prim.Native.Nat.{ℕ, zero, suc, _+_, _-_, _*_, _/_, _%_, _^_, _≤_, _<_}
@@ -22,13 +22,13 @@ abbrev pub fieldAt : List ℕ → ℕ → ℕ → ℕ
 fieldAt xs p w = number (bitAt xs) p w
 
 -- a field of 1 to 42 bits that lies within the bytes, and whose end is a number that a position can hold
-pub record Room (xs : List ℕ) (p w : ℕ) : Type 0 where
+pub record FieldFits (xs : List ℕ) (p w : ℕ) : Type 0 where
   pub some : 1 ≤ w
   pub narrow : w ≤ 42
   pub within : p + w ≤ 8 * length xs
   pub small : p + w ≤ 2 ^ 60
 
 -- v is the field of w bits at p, and the next field is at e
-pub record Taken (xs : List ℕ) (p w v e : ℕ) : Type 0 where
+pub record FieldRead (xs : List ℕ) (p w v e : ℕ) : Type 0 where
   pub value : v ≡ fieldAt xs p w
   pub next : e ≡ p + w

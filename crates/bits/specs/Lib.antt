@@ -5,5 +5,3 @@ pub mod TableLaws
 pub mod ItemLaws
 pub mod Pack
 pub mod PackLaws
-pub mod Written
-pub mod WrittenLaws

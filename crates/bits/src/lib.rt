@@ -1,12 +1,11 @@
-// Fields of bits in a byte slice, the most significant bit of each byte first: read at a cursor by value, and tables of them read and written.
+// Fields of bits in a byte slice, the most significant bit of each byte first, read at a cursor by value: one field, a table of them, and items.
 ghost use mathlib.Core.Path.{_≡_};
 ghost use Prim.Native.Nat.{_+_, _-_, _*_, _/_, _%_, _^_, _≤_, _<_};
 ghost use lib.ListN.{length};
-ghost use Rattle.bits.specs.Bits.{Room, Taken};
+ghost use Rattle.bits.specs.Bits.{FieldFits, FieldRead};
 ghost use Rattle.bits.specs.Table.{total, times, fieldsAt, laid, Fit, InWord};
 
 mod words;
-pub mod writer;
 
 // The position of a bit.
 pub struct Cursor {
@@ -41,10 +40,11 @@ impl Cursor {
 
     // The field of width bits here.
     pub fn take(self, bytes: &[u8], width: usize) -> Field
-        requires { ⌜ Room (now bytes) (self .at) width ⌝ }
-        ensures { λ r. ⌜ Taken (now (bytes .entry)) (self .at) width (r .value) (r .next .at) ⌝ }
+        requires { ⌜ FieldFits (now bytes) (self .at) width ⌝ }
+        ensures { λ r. ⌜ FieldRead (now (bytes .entry)) (self .at) width (r .value) (r .next .at) ⌝ }
     {
-        self.field(words::field_at(bytes, self.at, width), width)
+        let first = self.at / 8;
+        self.cut(words::ahead(bytes, first), 8 * first, width)
     }
 
     // The field of width bits here, out of the word of the eight bytes from bit base on.

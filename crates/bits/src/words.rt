@@ -2,7 +2,7 @@
 ghost use mathlib.Core.Path.{_≡_};
 ghost use Prim.Native.Nat.{_+_, _-_, _*_, _/_, _%_, _^_, _≤_, _<_};
 ghost use lib.ListN.{length};
-ghost use Rattle.bits.specs.Bits.{fieldAt, Room};
+ghost use Rattle.bits.specs.Bits.{fieldAt};
 
 fn wide(b: u8) -> u64
     ensures { λ r. ⌜ r ≡ b ⌝ }
@@ -75,12 +75,4 @@ pub fn ahead(bytes: &[u8], first: usize) -> u64
         return eight(bytes, first);
     }
     top(bytes, first, n)
-}
-
-// The field of width bits from a bit on, out of the eight bytes from its first byte on.
-pub fn field_at(bytes: &[u8], at: usize, width: usize) -> u64
-    requires { ⌜ Room (now bytes) at width ⌝ }
-    ensures { λ r. ⌜ r ≡ fieldAt (now (bytes .entry)) at width ⌝ }
-{
-    cut(ahead(bytes, at >> 3), at & 7, width)
 }

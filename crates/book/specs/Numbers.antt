@@ -5,12 +5,12 @@ use mathlib.Core.Path.{_≡_}
 use Rattle.layouts.specs.Questions.{firstFailed, recordNumber}
 use Rattle.records.specs.Accepted.{Accepted, accepted, number-first, number-later, number-none}
 use Rattle.year.specs.declared.Year.{Year}
-use Rattle.questions.specs.Questions.{listingIn, questions}
-use Rattle.book.specs.Outcome.{valuesOf, postNumber}
+use Rattle.questions.specs.Questions.{inTime, questions}
+use Rattle.book.specs.Outcome.{recordIn, postNumber}
 
 module _ (y : Year) (bytes : List ℕ) (room : ℕ) where
   abbrev laterNumber : ℕ
-  laterNumber = firstFailed (questions y (valuesOf bytes) (listingIn (valuesOf bytes)) room)
+  laterNumber = firstFailed (questions inTime y (recordIn bytes) room)
 
   pub record-refused : (recordNumber bytes ≡ 0 → ⊥) → postNumber y bytes room ≡ recordNumber bytes
   unfolding postNumber

@@ -5,63 +5,84 @@ use mathlib.Core.List.{List, _++_}
 use mathlib.Core.Path.{_≡_}
 use lib.ListN.{length, drop}
 use lib.Dec.{eqb}
-use Rattle.ids.specs.Ids.{at}
 use Rattle.layouts.specs.Questions.{firstFailed, numbersOf, recordQuestions, consumed, row}
 use Rattle.year.specs.declared.Registration.{Registration}
+use Rattle.year.specs.declared.Listing.{Listing}
 use Rattle.year.specs.declared.Event.{Event}
 use Rattle.year.specs.declared.Test.{Test}
 use Rattle.year.specs.declared.Year.{Year}
 use Rattle.year.specs.Steps.{withOpening, withRegistration, withLse, withEvent, withTest, withClose}
+use Rattle.owed.specs.Facts.{factsOf}
 use Rattle.owed.specs.Owed.{amounts}
 use Rattle.statement.specs.Statement.{statementOf}
-use Rattle.questions.specs.Questions.{opening, registering, obliging, event, closing, listingIn, placeOf, questions}
+use Rattle.heads.specs.declared.RegistrationHead.{RegistrationHead}
+use Rattle.heads.specs.declared.EventHead.{EventHead}
+use Rattle.heads.specs.declared.TestHead.{TestHead}
+use Rattle.heads.specs.declared.Head.{Head}
+use Rattle.heads.specs.declared.Head.the-variants as head
+use Rattle.heads.specs.Record.{Record, recordOf, forClose}
+use Rattle.questions.specs.Questions.{testPlace, inTime, questions}
 
 -- a record's numbers, in a row
 unfoldable pub valuesOf : List ℕ → List ℕ
 valuesOf bytes = row (numbersOf bytes)
 
+-- the record that the bytes hold
+abbrev pub recordIn : List ℕ → Record
+recordIn bytes = recordOf (valuesOf bytes)
+
 -- the number of the first of the sixteen questions that fails, 0 where none does
 unfoldable pub postNumber : Year → List ℕ → ℕ → ℕ
-postNumber y bytes room = firstFailed (recordQuestions bytes ++ questions y (valuesOf bytes) (listingIn (valuesOf bytes)) room)
+postNumber y bytes room = firstFailed (recordQuestions bytes ++ questions inTime y (recordIn bytes) room)
 
--- what a record's numbers register, and what it lists as an event or a test
-abbrev pub registrationOf : List ℕ → Registration
-registrationOf vs =
-    record { known = true; seller = at vs 2; area = at vs 3; zone = at vs 4; product = at vs 5; committed = record { 0 = at vs 6 }; rate = at vs 7 }
+-- what a registration registers, and what an event and a test are with what they list
+abbrev pub registrationOf : RegistrationHead → Registration
+registrationOf r =
+    record { known = true; seller = r .seller; area = r .area; zone = r .zone; product = r .product; committed = record { 0 = r .committed }; rate = r .rate }
 
-abbrev pub eventOf : List ℕ → Event
-eventOf vs = record { area = at vs 1; month = at vs 2; period = at vs 3; listing = listingIn vs }
+abbrev pub eventOf : EventHead → Listing → Event
+eventOf e l = record { area = e .area; month = e .month; period = e .period; listing = l }
 
-abbrev pub testOf : List ℕ → Test
-testOf vs = record { taken = true; month = at vs 3; listing = listingIn vs }
+abbrev pub testOf : TestHead → Listing → Test
+testOf t l = record { taken = true; month = t .month; listing = l }
 
--- the year after an accepted record with these numbers
-unfoldable pub yearWith : Year → List ℕ → Year
-yearWith y vs =
-    cond (eqb (at vs 0) opening) (withOpening y (at vs 1) (at vs 2) (at vs 3))
-    (cond (eqb (at vs 0) registering) (withRegistration y (at vs 1) (registrationOf vs))
-    (cond (eqb (at vs 0) obliging) (withLse y (at vs 1) (at vs 2))
-    (cond (eqb (at vs 0) event) (withEvent y (eventOf vs))
-    (cond (eqb (at vs 0) closing) (withClose y (amounts y (at vs 1)))
-    (withTest y (placeOf (at vs 1) (at vs 2)) (testOf vs))))))
+-- the year after an accepted record, by its kind
+unfoldable pub yearBy : Year → Listing → Head → Year
+yearBy y l (head.Opening o) = withOpening y (o .leap) (o .factor) (o .requirement)
+yearBy y l (head.Registration r) = withRegistration y (r .id) (registrationOf r)
+yearBy y l (head.Lse j) = withLse y (j .id) (j .obligation)
+yearBy y l (head.Event e) = withEvent y (eventOf e l)
+yearBy y l (head.Test t) = withTest y (testPlace (t .zone) (t .product)) (testOf t l)
+yearBy y l (head.Close c) = withClose y (amounts (factsOf y) (c .month))
 
--- what an accepted record with these numbers leaves in the buffer: a close its statement, with the rest as it was
-unfoldable pub bufferWith : Year → List ℕ → List ℕ → List ℕ
-bufferWith y vs buffer =
-    cond (eqb (at vs 0) closing)
-    (let s = statementOf (y .terms) (at vs 1) (amounts y (at vs 1)) (y .billed) in s ++ drop (length s) buffer)
-    buffer
+abbrev pub yearWith : Year → Record → Year
+yearWith y r = yearBy y (r .listing) (r .head)
 
--- a refusal changes neither
+-- the statement of a close
+abbrev pub closing : Year → ℕ → List ℕ
+closing y month = statementOf (y .terms) month (amounts (factsOf y) month) (y .billed)
+
+-- what an accepted record leaves in the buffer: a close its statement, with the rest as it was; and the statement's bytes
+unfoldable pub bufferWith : Year → Record → List ℕ → List ℕ
+bufferWith y r buffer = forClose (λ c. let s = closing y (c .month) in s ++ drop (length s) buffer) (λ h. buffer) (r .head)
+
+unfoldable pub writtenWith : Year → Record → ℕ
+writtenWith y r = forClose (λ c. length (closing y (c .month))) (λ h. 0) (r .head)
+
+-- a refusal changes neither, and writes nothing
 unfoldable pub yearAfter : Year → List ℕ → ℕ → Year
-yearAfter y bytes room = cond (eqb (postNumber y bytes room) 0) (yearWith y (valuesOf bytes)) y
+yearAfter y bytes room = cond (eqb (postNumber y bytes room) 0) (yearWith y (recordIn bytes)) y
 
 unfoldable pub bufferAfter : Year → List ℕ → List ℕ → List ℕ
 bufferAfter y bytes buffer =
-    cond (eqb (postNumber y bytes (length buffer)) 0) (bufferWith y (valuesOf bytes) buffer) buffer
+    cond (eqb (postNumber y bytes (length buffer)) 0) (bufferWith y (recordIn bytes) buffer) buffer
 
-pub record Posts (y : Year) (bytes before : List ℕ) (number used : ℕ) (year : Year) (after : List ℕ) : Type 0 where
+unfoldable pub writtenAfter : Year → List ℕ → ℕ → ℕ
+writtenAfter y bytes room = cond (eqb (postNumber y bytes room) 0) (writtenWith y (recordIn bytes)) 0
+
+pub record Posts (y : Year) (bytes before : List ℕ) (number used written : ℕ) (year : Year) (after : List ℕ) : Type 0 where
   pub numbers : number ≡ postNumber y bytes (length before)
   pub uses : used ≡ consumed bytes
+  pub writes : written ≡ writtenAfter y bytes (length before)
   pub years : year ≡ yearAfter y bytes (length before)
   pub leaves : after ≡ bufferAfter y bytes before

@@ -27,15 +27,12 @@ fn dump(input: i32, buffer: &mut [u8], out: &mut [u8]) -> bool
             return stream::output::finish(out, at);
         }
         let printed = line::print(position, &buffer[start..end], out, at);
-        if file::ends(printed.number) {
-            return stream::output::finish(out, printed.at);
-        }
         let gathered = stream::output::with_room(out, printed.at, report::ROOM);
         if gathered.failed {
             return false;
         }
         at = gathered.at;
-        window.start = start + printed.used;
+        window = stream::input::behind(window, printed.used, file::ends(printed.number));
         position += 1;
     }
     false

@@ -1,3 +1,4 @@
 -- What is asked of a record's entries and deficits, and the loops that ask it.
 pub mod Entries
+pub mod Meets
 pub mod Passes

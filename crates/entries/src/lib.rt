@@ -7,6 +7,10 @@ pub use listings::every_listed;
 pub use listings::lists_uncalled;
 pub use registrations::any_lse;
 pub use registrations::any_registration;
-pub use registrations::callable_in;
-pub use registrations::in_area;
-pub use registrations::in_group;
+
+// A registration is known and in an area, or known and of a zone and product, or its product may be called in a month and period.
+pub enum Condition {
+    InArea(u64),
+    InGroup(u64, u64),
+    Callable(u64, u64),
+}

@@ -1,37 +1,43 @@
-// Tests over what a record lists.
+// Tests over what a record lists, its listing a row by id: 64 marks, 64 reductions, 16 deficits.
 ghost use mathlib.Core.Path.{_≡_};
-ghost use mathlib.Core.Bool.{not, _&&_, _||_, Bool·beq};
+ghost use mathlib.Core.Bool.{not, _&&_, _||_};
+ghost use Prim.Native.Nat.{_<_};
 ghost use lib.Dec.{eqb};
-ghost use Rattle.ids.specs.Ids.{holds, anyTo, allTo, tabulate};
-ghost use Rattle.year.specs.Year.{accepted, seller, size};
-ghost use Rattle.year.specs.Sound.{SoundTerms, Sound};
+ghost use lib.ListN.{length};
+ghost use Rattle.ids.specs.Ids.{at, anyTo, tabulate};
+ghost use Rattle.year.specs.Year.{registration, listed, seller, size};
+ghost use Rattle.owed.specs.Facts.{factsOf};
 ghost use Rattle.owed.specs.Owed.{called};
-ghost use Rattle.entries.specs.Entries.{deficitsListed};
-use year::Listing;
-use year::Terms;
-use year::Year;
+ghost use Rattle.cells.specs.Layout.{listingAt, yearIn, Held};
+ghost use Rattle.entries.specs.Entries.{everyListed, deficitsListed, listsExactly};
+ghost use Rattle.entries.specs.Meets.{fulfils};
+use crate::Condition;
+use crate::registrations::is_called;
+use crate::registrations::meets;
+use cells::Cells;
 
-// Does every listed registration pass?
-pub fn every_listed(listed: [bool; 64], passes: [bool; 64]) -> bool
-    ensures { λ r. ⌜ r ≡ allTo 64 (λ i. not (holds listed i) || holds passes i) ⌝ }
+// Does a registration meet the condition, if it is listed?
+fn passes(year: &Cells, listing: &[u64], condition: Condition, i: usize) -> bool
+    requires { ⌜ length (now listing) ≡ 144 ⌝ }
+    requires { ⌜ i < 64 ⌝ }
+    ensures { λ r. ⌜ r ≡ (not (listed (listingAt (at (now (listing .entry)))) i) || fulfils condition (registration (yearIn (now (year .entry)) .terms) i)) ⌝ }
 {
-    let mut i: usize = 0;
-    while i < 64 {
-        if listed[i] && !passes[i] {
-            return false;
-        }
-        i += 1;
+    if listing[i] == 0 {
+        return true;
     }
-    true
+    let r = cells::registration_at(year, i);
+    meets(r, condition)
 }
 
-// Are exactly those listed that pass?
-fn lists_exactly(listed: [bool; 64], passes: [bool; 64]) -> bool
-    ensures { λ r. ⌜ r ≡ allTo 64 (λ i. Bool·beq (holds listed i) (holds passes i)) ⌝ }
+// Does every listed registration meet the condition?
+pub fn every_listed(year: &Cells, listing: &[u64], condition: Condition) -> bool
+    requires { ⌜ Held (now year) ⌝ }
+    requires { ⌜ length (now listing) ≡ 144 ⌝ }
+    ensures { λ r. ⌜ r ≡ (let T = yearIn (now (year .entry)) .terms in everyListed T (listingAt (at (now (listing .entry)))) (λ i. fulfils condition (registration T i))) ⌝ }
 {
     let mut i: usize = 0;
     while i < 64 {
-        if listed[i] != passes[i] {
+        if !passes(year, listing, condition, i) {
             return false;
         }
         i += 1;
@@ -40,15 +46,16 @@ fn lists_exactly(listed: [bool; 64], passes: [bool; 64]) -> bool
 }
 
 // Which sellers have an entry.
-fn sellers_listed(terms: Terms, listed: [bool; 64]) -> [bool; 16]
-    requires { ⌜ SoundTerms terms ⌝ }
-    ensures { λ r. ⌜ r ≡ tabulate 16 (λ s. anyTo (size terms) (λ i. holds listed i && eqb (seller terms i) s)) ⌝ }
+fn sellers_listed(year: &Cells, listing: &[u64]) -> [bool; 16]
+    requires { ⌜ Held (now year) ⌝ }
+    requires { ⌜ length (now listing) ≡ 144 ⌝ }
+    ensures { λ r. ⌜ r ≡ (let T = yearIn (now (year .entry)) .terms in tabulate 16 (λ s. anyTo (size T) (λ i. listed (listingAt (at (now (listing .entry)))) i && eqb (seller T i) s))) ⌝ }
 {
     let mut sellers = [false; 16];
     let mut i: usize = 0;
     while i < 64 {
-        if listed[i] {
-            let r = terms.registrations[i];
+        if listing[i] != 0 {
+            let r = cells::registration_at(year, i);
             let s = r.seller as usize;
             sellers[s] = true;
         }
@@ -58,15 +65,15 @@ fn sellers_listed(terms: Terms, listed: [bool; 64]) -> [bool; 16]
 }
 
 // Has every deficit's seller an entry?
-fn deficits_listed(terms: Terms, listing: Listing) -> bool
-    requires { ⌜ SoundTerms terms ⌝ }
-    ensures { λ r. ⌜ r ≡ deficitsListed terms listing ⌝ }
+fn deficits_listed(year: &Cells, listing: &[u64]) -> bool
+    requires { ⌜ Held (now year) ⌝ }
+    requires { ⌜ length (now listing) ≡ 144 ⌝ }
+    ensures { λ r. ⌜ r ≡ deficitsListed (yearIn (now (year .entry)) .terms) (listingAt (at (now (listing .entry)))) ⌝ }
 {
-    let listed = listing.listed;
-    let sellers = sellers_listed(terms, listed);
+    let sellers = sellers_listed(year, listing);
     let mut s: usize = 0;
     while s < 16 {
-        if listing.deficits[s] != 0 && !sellers[s] {
+        if listing[128 + s] != 0 && !sellers[s] {
             return false;
         }
         s += 1;
@@ -74,24 +81,38 @@ fn deficits_listed(terms: Terms, listing: Listing) -> bool
     true
 }
 
-// Does every listed registration pass, and has every deficit's seller an entry?
-pub fn entries_pass(terms: Terms, listing: Listing, passes: [bool; 64]) -> bool
-    requires { ⌜ SoundTerms terms ⌝ }
-    ensures { λ r. ⌜ r ≡ (allTo 64 (λ i. not (holds (listing .listed) i) || holds passes i) && deficitsListed terms listing) ⌝ }
+// Does every listed registration meet the condition, and has every deficit's seller an entry?
+pub fn entries_pass(year: &Cells, listing: &[u64], condition: Condition) -> bool
+    requires { ⌜ Held (now year) ⌝ }
+    requires { ⌜ length (now listing) ≡ 144 ⌝ }
+    ensures { λ r. ⌜ r ≡ (let T = yearIn (now (year .entry)) .terms in let l = listingAt (at (now (listing .entry))) in everyListed T l (λ i. fulfils condition (registration T i)) && deficitsListed T l) ⌝ }
 {
-    let listed = listing.listed;
-    every_listed(listed, passes) && deficits_listed(terms, listing)
+    every_listed(year, listing, condition) && deficits_listed(year, listing)
 }
 
-// Does a test list exactly those of its group that no event lists?
-pub fn lists_uncalled(year: Year, listing: Listing, group: [bool; 64]) -> bool
-    requires { ⌜ Sound year ⌝ }
-    ensures { λ r. ⌜ r ≡ allTo 64 (λ i. Bool·beq (holds (listing .listed) i) (holds group i && not (called (accepted year) i))) ⌝ }
+// Does a registration meet the condition, and does no accepted event list it?
+fn meets_uncalled(year: &Cells, condition: Condition, i: usize) -> bool
+    requires { ⌜ Held (now year) ⌝ }
+    requires { ⌜ i < 64 ⌝ }
+    ensures { λ r. ⌜ r ≡ (let y = yearIn (now (year .entry)) in fulfils condition (registration (y .terms) i) && not (called (factsOf y) i)) ⌝ }
 {
-    let events = year.events;
-    let calls = tallies::calls_of(events, year.held);
-    let called = calls.called;
-    let listed = listing.listed;
-    let uncalled = tallies::left(&group, &called);
-    lists_exactly(listed, uncalled)
+    let r = cells::registration_at(year, i);
+    meets(r, condition) && !is_called(year, i)
+}
+
+// Are exactly those listed that meet the condition and that no accepted event lists?
+pub fn lists_uncalled(year: &Cells, listing: &[u64], condition: Condition) -> bool
+    requires { ⌜ Held (now year) ⌝ }
+    requires { ⌜ length (now listing) ≡ 144 ⌝ }
+    ensures { λ r. ⌜ r ≡ (let y = yearIn (now (year .entry)) in listsExactly (y .terms) (listingAt (at (now (listing .entry)))) (λ i. fulfils condition (registration (y .terms) i) && not (called (factsOf y) i))) ⌝ }
+{
+    let mut i: usize = 0;
+    while i < 64 {
+        let listed = listing[i] != 0;
+        if listed != meets_uncalled(year, condition, i) {
+            return false;
+        }
+        i += 1;
+    }
+    true
 }

@@ -1,22 +1,25 @@
-// Which registrations pass a test, each test an array by registration; and whether there is a registration or an LSE at all.
+// Is there a registration or an LSE at all, and what is asked of one registration.
 ghost use mathlib.Core.Path.{_≡_};
-ghost use mathlib.Core.Bool.{_&&_};
 ghost use lib.Dec.{ltb};
-ghost use Rattle.ids.specs.Ids.{anyTo, tabulate};
-ghost use Rattle.calendar.specs.Calendar.{callable};
-ghost use Rattle.year.specs.Year.{known, product, obligation, size, lses};
-ghost use Rattle.year.specs.Sound.{SoundTerms};
-ghost use Rattle.entries.specs.Entries.{inArea, inGroup};
-use year::Terms;
+ghost use Prim.Native.Nat.{_<_};
+ghost use Rattle.ids.specs.Ids.{anyTo};
+ghost use Rattle.year.specs.Year.{known, obligation, size, lses};
+ghost use Rattle.owed.specs.Facts.{factsOf};
+ghost use Rattle.owed.specs.Owed.{called};
+ghost use Rattle.cells.specs.Layout.{yearIn, Held};
+ghost use Rattle.entries.specs.Meets.{fulfils};
+use crate::Condition;
+use cells::Cells;
+use year::Registration;
 
 // Is there a registration?
-pub fn any_registration(terms: Terms) -> bool
-    requires { ⌜ SoundTerms terms ⌝ }
-    ensures { λ r. ⌜ r ≡ anyTo (size terms) (known terms) ⌝ }
+pub fn any_registration(year: &Cells) -> bool
+    requires { ⌜ Held (now year) ⌝ }
+    ensures { λ r. ⌜ r ≡ (let T = yearIn (now (year .entry)) .terms in anyTo (size T) (known T)) ⌝ }
 {
     let mut i: usize = 0;
     while i < 64 {
-        let r = terms.registrations[i];
+        let r = cells::registration_at(year, i);
         if r.known {
             return true;
         }
@@ -26,13 +29,13 @@ pub fn any_registration(terms: Terms) -> bool
 }
 
 // Is there an LSE?
-pub fn any_lse(terms: Terms) -> bool
-    requires { ⌜ SoundTerms terms ⌝ }
-    ensures { λ r. ⌜ r ≡ anyTo (lses terms) (λ j. ltb 0 (obligation terms j)) ⌝ }
+pub fn any_lse(year: &Cells) -> bool
+    requires { ⌜ Held (now year) ⌝ }
+    ensures { λ r. ⌜ r ≡ (let T = yearIn (now (year .entry)) .terms in anyTo (lses T) (λ j. ltb 0 (obligation T j))) ⌝ }
 {
     let mut j: usize = 0;
     while j < 16 {
-        if 0 < terms.obligations[j] {
+        if 0 < cells::obligation_of(year, j) {
             return true;
         }
         j += 1;
@@ -40,44 +43,30 @@ pub fn any_lse(terms: Terms) -> bool
     false
 }
 
-// The known registrations of an area.
-pub fn in_area(terms: Terms, area: u64) -> [bool; 64]
-    ensures { λ r. ⌜ r ≡ tabulate 64 (inArea terms area) ⌝ }
+// Does a registration meet the condition?
+pub fn meets(r: Registration, condition: Condition) -> bool
+    ensures { λ b. ⌜ b ≡ fulfils condition r ⌝ }
 {
-    let mut passes = [false; 64];
-    let mut i: usize = 0;
-    while i < 64 {
-        let r = terms.registrations[i];
-        passes[i] = r.known && r.area == area;
-        i += 1;
+    match condition {
+        Condition::InArea(area) => r.known && r.area == area,
+        Condition::InGroup(zone, product) => r.known && (r.zone == zone && r.product == product),
+        Condition::Callable(month, period) => calendar::callable(r.product, month, period),
     }
-    passes
 }
 
-// The known registrations of a zone and product.
-pub fn in_group(terms: Terms, zone: u64, product: u64) -> [bool; 64]
-    ensures { λ r. ⌜ r ≡ tabulate 64 (inGroup terms zone product) ⌝ }
+// Does an accepted event list the registration?
+pub fn is_called(year: &Cells, i: usize) -> bool
+    requires { ⌜ Held (now year) ⌝ }
+    requires { ⌜ i < 64 ⌝ }
+    ensures { λ r. ⌜ r ≡ called (factsOf (yearIn (now (year .entry)))) i ⌝ }
 {
-    let mut passes = [false; 64];
-    let mut i: usize = 0;
-    while i < 64 {
-        let r = terms.registrations[i];
-        passes[i] = r.known && (r.zone == zone && r.product == product);
-        i += 1;
+    let n = cells::held(year);
+    let mut e: usize = 0;
+    while e < n {
+        if cells::listed_in(year, e, i) {
+            return true;
+        }
+        e += 1;
     }
-    passes
-}
-
-// The registrations whose product may be called.
-pub fn callable_in(terms: Terms, month: u64, period: u64) -> [bool; 64]
-    ensures { λ r. ⌜ r ≡ tabulate 64 (λ i. callable (product terms i) month period) ⌝ }
-{
-    let mut passes = [false; 64];
-    let mut i: usize = 0;
-    while i < 64 {
-        let r = terms.registrations[i];
-        passes[i] = calendar::callable(r.product, month, period);
-        i += 1;
-    }
-    passes
+    false
 }

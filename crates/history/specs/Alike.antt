@@ -1,37 +1,35 @@
--- Numbers that are alike but for one seller's reductions: what the questions and the year see of them.
+-- Records that are alike but for one seller's reductions: what the questions and the year see of them.
 use Prim.Native.Nat.{ℕ, _+_, _*_, _<_}
 use mathlib.Core.Bool.{Bool, true, false}
 use mathlib.Core.List.{List}
+use mathlib.Core.Logic.{inl, inr}
 use mathlib.Core.Path.{_≡_, refl, sym, _∙_}
 use native.Mathlib.Omega.{arith}
-use lib.ListN.{length}
 use Rattle.ids.specs.Ids.{at}
-use Rattle.layouts.specs.Layout.{head, hasLists, deficitsIn, entriesIn}
+use Rattle.heads.specs.Pairs.{deficitsIn, entriesIn}
 use Rattle.layouts.specs.Questions.{row}
 use Rattle.layouts.specs.QuestionLaws.{at-row}
-use Rattle.layouts.specs.PairLaws.{lists-six, deficits-are, entries-are}
 use Rattle.year.specs.declared.Terms.{Terms}
 use Rattle.year.specs.Year.{seller, listed, reduction, deficit}
 use Rattle.year.specs.Listing.{listingOf}
 use Rattle.year.specs.ListingLaws.{SameIds, same-paired, same-kilowatts-at, same-kilowatts}
-use Rattle.owed.specs.Independent.{SameListing}
-use Rattle.questions.specs.Questions.{listingIn}
+use Rattle.heads.specs.Pairs.{hasLists, lists-kind, lists-six, deficits-are, entries-are}
+use Rattle.heads.specs.Record.{Record, headOf, listingIn, recordOf}
 use Rattle.history.specs.Runs.{replaced, entriesAt}
+use Rattle.history.specs.Same.{SameListing}
 use Rattle.history.specs.Replaced.{kept-before, kept-id, kept-other, kept-all, kept-head}
 
-pub record Alike (T : Terms) (s : ℕ) (vs ws : List ℕ) : Type 0 where
-  pub heads : (j : ℕ) → j < 6 → at vs j ≡ at ws j
-  pub listed : listingIn vs .listed ≡ listingIn ws .listed
-  pub deficits : listingIn vs .deficits ≡ listingIn ws .deficits
-  pub reductions : (i : ℕ) → (seller T i ≡ s → ⊥) → reduction (listingIn vs) i ≡ reduction (listingIn ws) i
-  pub others : hasLists (at vs 0) ≡ false → vs ≡ ws
+pub record Alike (T : Terms) (s : ℕ) (r q : Record) : Type 0 where
+  pub heads : r .head ≡ q .head
+  pub listed : r .listing .listed ≡ q .listing .listed
+  pub deficits : r .listing .deficits ≡ q .listing .deficits
+  pub reductions : (i : ℕ) → (seller T i ≡ s → ⊥) → reduction (r .listing) i ≡ reduction (q .listing) i
 
-pub alike-refl : (T : Terms) (s : ℕ) (vs : List ℕ) → Alike T s vs vs
-alike-refl T s vs =
-    record { heads = λ j l. refl; listed = refl; deficits = refl; reductions = λ i n. refl; others = λ e. refl }
+pub alike-refl : (T : Terms) (s : ℕ) (r : Record) → Alike T s r r
+alike-refl T s r = record { heads = refl; listed = refl; deficits = refl; reductions = λ i n. refl }
 
 -- another seller's view of the listing
-pub alike-listing : {T : Terms} {s r : ℕ} {vs ws : List ℕ} → (r ≡ s → ⊥) → Alike T s vs ws → SameListing T r (listingIn vs) (listingIn ws)
+pub alike-listing : {T : Terms} {s t : ℕ} {r q : Record} → (t ≡ s → ⊥) → Alike T s r q → SameListing T t (r .listing) (q .listing)
 unfolding listed deficit
 alike-listing n a =
     record {
@@ -50,44 +48,56 @@ module _ (T : Terms) (s : ℕ) (f : ℕ → ℕ) (vs : List ℕ) where
   abbrev n : ℕ
   n = entriesIn (at vs 0) vs
 
-  -- numbers with the same head list as much
-  listing-is : (us : List ℕ) → ((j : ℕ) → j < 6 → at us j ≡ at vs j) → listingIn us ≡ listingOf us 6 d n
-  unfolding listingIn
-  listing-is us h =
-      rw (
-        deficits-are (at us 0) us,
-        entries-are (at us 0) us,
-        deficits-are (at vs 0) vs,
-        entries-are (at vs 0) vs,
-        h 0 (omega arith),
-        h 4 (omega arith),
-        h 5 (omega arith),
-      )
-
   row-at : (j : ℕ) → at ws j ≡ at vs j → at (row vs) j ≡ at (row ws) j
   row-at j e = at-row vs j ∙ sym e ∙ sym (at-row ws j)
 
-  listings : length (head (at vs 0)) ≡ 6 → hasLists (at vs 0) ≡ true → Alike T s (row vs) (row ws)
-  unfolding reduction
-  listings six lists =
-      let start : entriesAt T s f vs ≡ 6 + 2 * d = rw six in
-      let front : (j : ℕ) → j < 6 + 2 * d → at (row vs) j ≡ at (row ws) j = λ j l. row-at j (kept-before T s f vs j (rw start l)) in
-      let ids : SameIds (row vs) (row ws) (6 + 2 * d) n = λ k l. row-at (6 + 2 * d + 2 * k) (rw start at (kept-id T s f vs k)) in
-      let v : listingIn (row vs) ≡ listingOf (row vs) 6 d n = listing-is (row vs) (λ j l. at-row vs j) in
-      let w : listingIn (row ws) ≡ listingOf (row ws) 6 d n = listing-is (row ws) (λ j l. at-row ws j ∙ kept-head T s f vs j l) in
-      record {
-        heads = λ j l. front j (omega arith);
-        listed = rw (v, w) (same-paired 64 (row vs) (row ws) (6 + 2 * d) n ids);
-        deficits = rw (v, w) (same-kilowatts 16 (row vs) (row ws) 6 d (λ k l. front (6 + 2 * k) (omega arith)) (λ k l. front (6 + 2 * k + 1) (omega arith)));
-        reductions = λ i m. rw (v, w)
-            (same-kilowatts-at 64 (row vs) (row ws) (6 + 2 * d) n i ids (λ k l q.
-            row-at (6 + 2 * d + 2 * k + 1) (rw start at (kept-other T s f vs k (λ z. m (rw (start, ← at-row vs (6 + 2 * d + 2 * k), q) at z))))));
-        others = λ e. absurd (let z : _≡_ {A = ℕ} 0 1 = cc (e, lists, at-row vs 0) in omega arith);
-      }
+  -- a record with lists
+  module _ (lists : hasLists (at vs 0) ≡ true) where
+    same-head : headOf (row vs) ≡ headOf (row ws)
+    unfolding headOf
+    same-head =
+        let e : (j : ℕ) → j < 6 → at (row vs) j ≡ at (row ws) j = λ j l. row-at j (kept-head T s f vs j l) in
+        let kind = at-row ws 0 ∙ kept-head T s f vs 0 (omega arith) in
+        elim (lists-kind (at vs 0) lists) [
+          | inl k ↦ rw (e 0 (omega arith), e 1 (omega arith), e 2 (omega arith), e 3 (omega arith), kind, k)
+          | inr k ↦ rw (e 0 (omega arith), e 1 (omega arith), e 2 (omega arith), e 3 (omega arith), kind, k)
+        ]
 
-  pub alike-replaced : Alike T s (row vs) (row ws)
+    -- numbers with the same head list as much
+    listing-is : (us : List ℕ) → ((j : ℕ) → j < 6 → at us j ≡ at vs j) → listingIn us ≡ listingOf us 6 d n
+    unfolding listingIn
+    listing-is us h =
+        rw (
+          deficits-are (at us 0) us,
+          entries-are (at us 0) us,
+          deficits-are (at vs 0) vs,
+          entries-are (at vs 0) vs,
+          h 0 (omega arith),
+          h 4 (omega arith),
+          h 5 (omega arith),
+          lists-six (at vs 0) lists,
+        )
+
+    listings : Alike T s (recordOf (row vs)) (recordOf (row ws))
+    unfolding reduction
+    listings =
+        let start : entriesAt T s f vs ≡ 6 + 2 * d = rw (lists-six (at vs 0) lists) in
+        let front : (j : ℕ) → j < 6 + 2 * d → at (row vs) j ≡ at (row ws) j = λ j l. row-at j (kept-before T s f vs j (rw start l)) in
+        let ids : SameIds (row vs) (row ws) (6 + 2 * d) n = λ k l. row-at (6 + 2 * d + 2 * k) (rw start at (kept-id T s f vs k)) in
+        let v : listingIn (row vs) ≡ listingOf (row vs) 6 d n = listing-is (row vs) (λ j l. at-row vs j) in
+        let w : listingIn (row ws) ≡ listingOf (row ws) 6 d n = listing-is (row ws) (λ j l. at-row ws j ∙ kept-head T s f vs j l) in
+        record {
+          heads = same-head;
+          listed = rw (v, w) (same-paired 64 (row vs) (row ws) (6 + 2 * d) n ids);
+          deficits = rw (v, w) (same-kilowatts 16 (row vs) (row ws) 6 d (λ k l. front (6 + 2 * k) (omega arith)) (λ k l. front (6 + 2 * k + 1) (omega arith)));
+          reductions = λ i m. rw (v, w)
+              (same-kilowatts-at 64 (row vs) (row ws) (6 + 2 * d) n i ids (λ k l q.
+              row-at (6 + 2 * d + 2 * k + 1) (rw start at (kept-other T s f vs k (λ z. m (rw (start, ← at-row vs (6 + 2 * d + 2 * k), q) at z))))));
+        }
+
+  pub alike-replaced : Alike T s (recordOf (row vs)) (recordOf (row ws))
   alike-replaced = go (hasLists (at vs 0)) refl
     where
-      go : (b : Bool) → hasLists (at vs 0) ≡ b → Alike T s (row vs) (row ws)
-      go true q = listings (lists-six (at vs 0) q) q
-      go false q = rw (kept-all T s f vs q) (alike-refl T s (row vs))
+      go : (b : Bool) → hasLists (at vs 0) ≡ b → Alike T s (recordOf (row vs)) (recordOf (row ws))
+      go true q = listings q
+      go false q = rw (kept-all T s f vs q) (alike-refl T s (recordOf (row vs)))

@@ -4,16 +4,17 @@ use mathlib.Core.Bool.{true}
 use mathlib.Core.List.{List, [], _∷_, _++_}
 use mathlib.Core.Path.{_≡_, sym, _∙_}
 use lib.IntN.{pos, +ℤ-idr}
-use Rattle.ids.specs.Ids.{at}
 use Rattle.year.specs.declared.Year.{Year}
 use Rattle.year.specs.Year.{newYear}
 use Rattle.year.specs.Steps.{withClose}
-use Rattle.year.specs.Limits.{committed-blank}
+use Rattle.owed.specs.Facts.{factsOf}
 use Rattle.owed.specs.Owed.{compliance, amounts}
-use Rattle.owed.specs.Bound.{sound-amounts}
-use Rattle.owed.specs.Cap.{yearly-limit}
+use Rattle.owed_laws.specs.Limits.{limits}
+use Rattle.owed_laws.specs.Totals.{sound-amounts}
+use Rattle.owed_laws.specs.Cap.{yearly-limit}
 use Rattle.statement.specs.Starts.{starts}
-use Rattle.book.specs.Outcome.{valuesOf}
+use Rattle.heads.specs.Record.{monthOf}
+use Rattle.book.specs.Outcome.{recordIn}
 use Rattle.history.specs.Runs.{Call, closes, run, statements, soFar}
 use Rattle.history.specs.Claim.{AtClose}
 use Rattle.history.specs.Along.{run-append, run-years}
@@ -29,25 +30,25 @@ module _ (before : List Call) (c : Call) (e : closes (run newYear before) c ≡ 
   there = run newYear before
 
   abbrev month : ℕ
-  month = at (valuesOf (c .bytes)) 1
+  month = monthOf (recordIn (c .bytes) .head)
 
   kept : Kept there
   kept = kept-run kept-new before
 
-  after : run newYear (before ++ c ∷ []) ≡ withClose there (amounts there month)
+  after : run newYear (before ++ c ∷ []) ≡ withClose there (amounts (factsOf there) month)
   unfolding run
   after = run-append newYear before (c ∷ []) ∙ close-step there c e
 
   -- in each column the amounts so far are the amount to date
   so-far : (col : Column) (i : ℕ) → party col (there .terms) i ≡ true
-      → soFar (λ x. lineIn col x i) (statements newYear (before ++ c ∷ [])) ≡ pos (owes col there month i)
+      → soFar (λ x. lineIn col x i) (statements newYear (before ++ c ∷ [])) ≡ pos (owes col (factsOf there) month i)
   so-far col i p =
       sym (+ℤ-idr (soFar (λ x. lineIn col x i) (statements newYear (before ++ c ∷ []))))
       ∙ (rw (none-at col i) at (telescopes col i kept-new (before ++ c ∷ []) (rw after p)))
-      ∙ rw (after, amounts-at col there (kept .sound) month i (party-below col (kept .sound .terms) i p))
+      ∙ rw (after, amounts-at col (factsOf there) month i (party-below col (kept .sound .terms) i p))
 
   -- what this close bills
-  bills : Billed (there .terms) (amounts there month)
+  bills : Billed (there .terms) (amounts (factsOf there) month)
   bills = rw (close-step there c e) at (kept-step kept c .billed)
 
   pub at-close : AtClose before c
@@ -56,12 +57,12 @@ module _ (before : List Call) (c : Call) (e : closes (run newYear before) c ≡ 
       record {
         balanced =
             rw (← run-years newYear before, close-buffer there c e)
-            (balanced (starts (amounts there month) (there .billed) _ (kept .sound .terms) (close-month there c e)) (sound-amounts there (kept .sound) month) (kept .sound .billed) bills (kept .billed));
+            (balanced (starts (amounts (factsOf there) month) (there .billed) _ (kept .sound .terms) (close-month there c e)) (sound-amounts (limits (kept .sound)) month) (kept .sound .billed) bills (kept .billed));
         compliances = rw (← run-years newYear before) (so-far pays);
         tests = rw (← run-years newYear before) (so-far tests);
         credits = rw (← run-years newYear before) (so-far gets);
         lses = rw (← run-years newYear before) (so-far receives);
         limited =
             rw (← run-years newYear before)
-            (λ s p. (compliance there month s, so-far pays s p, yearly-limit there (λ i l. committed-blank (kept .sound .terms) i) month s));
+            (λ s p. (compliance (factsOf there) month s, so-far pays s p, yearly-limit (limits (kept .sound)) month s));
       }

@@ -1,100 +1,73 @@
--- The questions do not look at reductions: they are answered alike for numbers that are alike, and in years that are the same for a seller.
-use Prim.Native.Nat.{ℕ, _<_}
-use mathlib.Core.Bool.{Bool, true, not, _&&_, cond}
-use mathlib.Core.List.{List}
-use mathlib.Core.Path.{_≡_, refl, ap, fun-ext, _∙_}
-use native.Mathlib.Omega.{arith}
-use lib.Dec.{eqb}
+-- The questions do not look at reductions: they are answered alike for records that are alike, and in years that are the same for a seller.
+use Prim.Native.Nat.{ℕ}
+use mathlib.Core.Bool.{Bool, true, not}
+use mathlib.Core.Path.{_≡_, ap, fun-ext}
 use lib.ListN.{getD}
-use Rattle.ids.specs.Ids.{at}
-use Rattle.year.specs.declared.Listing.{Listing}
 use Rattle.year.specs.declared.Year.{Year}
 use Rattle.year.specs.Year.{listed, deficit, pastTest}
-use Rattle.owed.specs.Independent.{same-called}
-use Rattle.questions.specs.Questions.{testing, placeOf, q6, q7, q8, q9, q10, q11, q12, q13, q14, q15, q16, questions}
-use Rattle.entries.specs.Entries.{inGroup, everyListed, deficitsListed, listsExactly}
-use Rattle.history.specs.Same.{Same, pairs-at, taken-refl}
+use Rattle.owed.specs.Facts.{factsOf}
+use Rattle.owed.specs.Owed.{called}
+use Rattle.heads.specs.declared.Head.{Head}
+use Rattle.heads.specs.Record.{Record, forTest}
+use Rattle.entries.specs.Entries.{everyListed, deficitsListed, listsExactly}
+use Rattle.questions.specs.Questions.{testPlace, q6, q7, q8, q9, q10, q11, q12, q13, q14, q15, questions}
+use Rattle.history.specs.Same.{Same, same-called}
 
-module _ (y : Year) (vs ws : List ℕ) (l m : Listing) (h : (j : ℕ) → j < 6 → at vs j ≡ at ws j) (a : l .listed ≡ m .listed)
-    (b : l .deficits ≡ m .deficits) (room : ℕ) where
-  e0 : at vs 0 ≡ at ws 0
-  e0 = h 0 (omega arith)
+module _ (rule : ℕ → ℕ → Bool) (room : ℕ) where
+  pub records-blind : (y : Year) (r q : Record) → r .head ≡ q .head → r .listing .listed ≡ q .listing .listed → r .listing .deficits ≡ q .listing .deficits
+      → questions rule y r room ≡ questions rule y q room
+  unfolding questions q10 q11 q14 everyListed deficitsListed listsExactly listed deficit
+  records-blind y r q h a b = rw (h, a, b)
 
-  e1 : at vs 1 ≡ at ws 1
-  e1 = h 1 (omega arith)
+  module _ {s : ℕ} {y z : Year} (h : Same s y z) (r : Record) where
+    alike-taken : (k : ℕ) → getD (y .tests) k pastTest .taken ≡ getD (z .tests) k pastTest .taken
+    alike-taken k = h .tests k .taken
 
-  e2 : at vs 2 ≡ at ws 2
-  e2 = h 2 (omega arith)
+    same-calls : called (factsOf y) ≡ called (factsOf z)
+    same-calls = fun-ext (same-called h)
 
-  e3 : at vs 3 ≡ at ws 3
-  e3 = h 3 (omega arith)
+    six : (k : Head) → q6 y k ≡ q6 z k
+    unfolding q6
+    six k = rw (h .opened, h .closed)
 
-  ten : q10 y vs l ≡ q10 y ws m
-  unfolding q10 everyListed deficitsListed listed deficit
-  ten = rw (e0, e1, e2, a, b)
+    seven : (k : Head) → q7 y k ≡ q7 z k
+    unfolding q7
+    seven k = rw (h .started)
 
-  eleven : q11 y vs l ≡ q11 y ws m
-  unfolding q11 everyListed listed
-  eleven = rw (e0, e2, e3, a)
+    eight : (k : Head) → q8 y k ≡ q8 z k
+    unfolding q8
+    eight k = rw (h .terms)
 
-  fourteen : q14 y vs l ≡ q14 y ws m
-  unfolding q14 listsExactly listed
-  fourteen = rw (e0, e1, e2, a)
+    nine : (k : Head) → q9 y k ≡ q9 z k
+    unfolding q9
+    nine k = rw (h .terms)
 
-  pub numbers-blind : questions y vs l room ≡ questions y ws m room
-  unfolding questions q6 q7 q8 q9 q12 q13 q15 q16
-  numbers-blind = rw (ten, eleven, fourteen, e0, e1, e2)
+    ten : (k : Head) → q10 y (r .listing) k ≡ q10 z (r .listing) k
+    unfolding q10
+    ten k = rw (h .terms)
 
-module _ {r : ℕ} {y z : Year} (h : Same r y z) (vs : List ℕ) (l : Listing) (room : ℕ) where
-  alike-taken : (k : ℕ) → getD (y .tests) k pastTest .taken ≡ getD (z .tests) k pastTest .taken
-  alike-taken k = pairs-at (h .tests) pastTest (taken-refl (y .terms) r pastTest) k .taken
+    eleven : (k : Head) → q11 y rule (r .listing) k ≡ q11 z rule (r .listing) k
+    unfolding q11
+    eleven k = rw (h .closed, h .terms)
 
-  six : q6 y vs l ≡ q6 z vs l
-  unfolding q6
-  six = cc (h .opened, h .closed)
+    twelve : (k : Head) → q12 y k ≡ q12 z k
+    unfolding q12
+    twelve k = rw (h .held)
 
-  seven : q7 y vs l ≡ q7 z vs l
-  unfolding q7
-  seven = cc (h .started)
+    thirteen : (k : Head) → q13 y k ≡ q13 z k
+    unfolding q13
+    thirteen k = ap (λ (f : ℕ → Bool). forTest (λ t. not (f (testPlace (t .zone) (t .product)))) (λ k. true) k) (fun-ext alike-taken)
 
-  eight : q8 y vs l ≡ q8 z vs l
-  unfolding q8
-  eight = rw (h .terms)
+    fourteen : (k : Head) → q14 y (r .listing) k ≡ q14 z (r .listing) k
+    unfolding q14
+    fourteen k = rw (same-calls, h .terms)
 
-  nine : q9 y vs l ≡ q9 z vs l
-  unfolding q9
-  nine = rw (h .terms)
+    fifteen : (k : Head) → q15 y k ≡ q15 z k
+    unfolding q15
+    fifteen k = rw (h .closed)
 
-  ten′ : q10 y vs l ≡ q10 z vs l
-  unfolding q10
-  ten′ = rw (h .terms)
-
-  eleven′ : q11 y vs l ≡ q11 z vs l
-  unfolding q11
-  eleven′ = rw (h .closed, h .terms)
-
-  twelve : q12 y vs l ≡ q12 z vs l
-  unfolding q12
-  twelve = cc (h .held)
-
-  thirteen : q13 y vs l ≡ q13 z vs l
-  unfolding q13
-  thirteen = cc (alike-taken (placeOf (at vs 1) (at vs 2)))
-
-  fourteen′ : q14 y vs l ≡ q14 z vs l
-  unfolding q14
-  fourteen′ =
-      ap (λ (c : ℕ → Bool). cond (eqb (at vs 0) testing) (listsExactly (y .terms) l (λ i. inGroup (y .terms) (at vs 1) (at vs 2) i && not (c i))) true) (fun-ext (same-called (y .terms) r (h .events)))
-      ∙ rw (h .terms)
-
-  fifteen : q15 y vs l ≡ q15 z vs l
-  unfolding q15
-  fifteen = cc (h .closed)
-
-  sixteen : q16 y vs l room ≡ q16 z vs l room
-  unfolding q16
-  sixteen = refl
-
-  pub years-blind : questions y vs l room ≡ questions z vs l room
-  unfolding questions
-  years-blind = rw (six, seven, eight, nine, ten′, eleven′, twelve, thirteen, fourteen′, fifteen, sixteen)
+    pub years-blind : questions rule y r room ≡ questions rule z r room
+    unfolding questions
+    years-blind =
+        let k = r .head in
+        rw (six k, seven k, eight k, nine k, ten k, eleven k, twelve k, thirteen k, fourteen k, fifteen k)

@@ -6,13 +6,14 @@ use mathlib.Core.Path.{_≡_}
 use lib.ListN.{length}
 use lib.Dec.{eqb}
 use lib.IntN.{ℤ, pos}
-use Rattle.ids.specs.Ids.{at}
 use Rattle.year.specs.declared.Year.{Year}
 use Rattle.year.specs.Year.{newYear}
+use Rattle.owed.specs.Facts.{Facts, factsOf}
 use Rattle.owed.specs.Owed.{compliance, test, credit, lse, revenue}
 use Rattle.statement.specs.Statement.{hasRegistration, hasObligation}
 use Rattle.statement.specs.ReadBack.{complianceIn, testIn, creditIn, lseIn, chargesIn, creditsIn}
-use Rattle.book.specs.Outcome.{valuesOf, postNumber}
+use Rattle.heads.specs.Record.{monthOf}
+use Rattle.book.specs.Outcome.{recordIn, postNumber}
 use Rattle.history.specs.Runs.{Call, accepts, closes, buffered, step, run, acceptedIn, yearOf, acceptances, statements, soFar, Variant}
 
 -- at an accepted close c of a list, after the calls before it
@@ -21,8 +22,12 @@ module _ (before : List Call) (c : Call) where
   abbrev there : Year
   there = yearOf newYear (acceptedIn newYear before)
 
+  -- what the rules read of it
+  abbrev facts : Facts
+  facts = factsOf there
+
   abbrev month : ℕ
-  month = at (valuesOf (c .bytes)) 1
+  month = monthOf (recordIn (c .bytes) .head)
 
   -- what stands in the buffer afterwards, and a sum over the statements up to this one, itself included
   abbrev here : List ℕ
@@ -35,14 +40,14 @@ module _ (before : List Call) (c : Call) where
     -- charges equal credits in cents
     pub balanced : chargesIn here ≡ creditsIn here
     -- each party's amounts so far, each sort for itself, are its amount to date
-    pub compliances : (s : ℕ) → hasRegistration (there .terms) s ≡ true → sum (λ x. complianceIn x s) ≡ pos (compliance there month s)
-    pub tests : (s : ℕ) → hasRegistration (there .terms) s ≡ true → sum (λ x. testIn x s) ≡ pos (test there month s)
-    pub credits : (s : ℕ) → hasRegistration (there .terms) s ≡ true → sum (λ x. creditIn x s) ≡ pos (credit there month s)
-    pub lses : (j : ℕ) → hasObligation (there .terms) j ≡ true → sum (λ x. lseIn x j) ≡ pos (lse there month j)
+    pub compliances : (s : ℕ) → hasRegistration (there .terms) s ≡ true → sum (λ x. complianceIn x s) ≡ pos (compliance facts month s)
+    pub tests : (s : ℕ) → hasRegistration (there .terms) s ≡ true → sum (λ x. testIn x s) ≡ pos (test facts month s)
+    pub credits : (s : ℕ) → hasRegistration (there .terms) s ≡ true → sum (λ x. creditIn x s) ≡ pos (credit facts month s)
+    pub lses : (j : ℕ) → hasObligation (there .terms) j ≡ true → sum (λ x. lseIn x j) ≡ pos (lse facts month j)
     -- yearly limit: compliance so far, times 1,000, is at most revenue to date
     pub limited :
         (s : ℕ) → hasRegistration (there .terms) s ≡ true
-        → (n : ℕ) × (sum (λ x. complianceIn x s) ≡ pos n) × (n * 1000 ≤ revenue (there .terms) month s)
+        → (n : ℕ) × (sum (λ x. complianceIn x s) ≡ pos n) × (n * 1000 ≤ revenue facts month s)
 
 -- seller r's charge lines: its compliance and test amount in each statement
 unfoldable pub chargeLines : ℕ → Year → List Call → List (ℤ × ℤ)

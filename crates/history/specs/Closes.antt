@@ -1,83 +1,116 @@
--- At an accepted close: the year after it, and what stands in the buffer. Other calls leave what is billed.
+-- At an accepted close: the year after it, and what stands in the buffer. Other calls leave the buffer, what is billed and the count of closes.
 use Prim.Native.Nat.{ℕ, _<_}
 use mathlib.Core.Bool.{Bool, true, false, _&&_, cond}
-use mathlib.Core.List.{List, _++_}
+use mathlib.Core.List.{_++_}
 use mathlib.Core.Path.{_≡_, refl, _∙_}
 use native.Mathlib.Omega.{arith}
-use lib.Dec.{eqb}
 use lib.ListN.{length, drop}
 use lib.IntN.{pos}
-use borrow.Author.Tests.{eqb-true, eqb-false}
-use Rattle.ids.specs.Ids.{at}
-use Rattle.layouts.specs.LayoutLaws.{and-parts}
+use Rattle.ids.specs.Tests.{and-parts}
 use Rattle.year.specs.declared.Year.{Year}
 use Rattle.year.specs.Steps.{withClose}
 use Rattle.year.specs.Sound.{Sound}
+use Rattle.owed.specs.Facts.{factsOf}
 use Rattle.owed.specs.Owed.{amounts}
-use Rattle.owed.specs.Bound.{sound-amounts}
+use Rattle.owed_laws.specs.Limits.{limits}
+use Rattle.owed_laws.specs.Totals.{sound-amounts}
 use Rattle.statement.specs.Statement.{statementOf}
 use Rattle.statement.specs.Starts.{less, starts}
-use Rattle.questions.specs.Questions.{closing}
-use Rattle.questions.specs.Passed.{not-finished, next-month}
-use Rattle.book.specs.Outcome.{valuesOf, yearWith, bufferWith, bufferAfter}
+use Rattle.heads.specs.declared.CloseHead.{CloseHead}
+use Rattle.heads.specs.declared.Head.{Head}
+use Rattle.heads.specs.declared.Head.the-variants.{Opening, Registration, Lse, Event, Test, Close}
+use Rattle.heads.specs.Record.{Record, isClose, monthOf}
+use Rattle.questions.specs.Admitted.{not-finished, next-month}
+use Rattle.book.specs.Outcome.{recordIn, yearBy, bufferWith, bufferAfter, writtenWith, writtenAfter}
 use Rattle.history.specs.Runs.{Call, accepts, closes, buffered, step}
 use Rattle.history.specs.Along.{step-by}
-use Rattle.history.specs.Passed as passes
+use Rattle.history.specs.Admitted.{accepted-admitted}
 use Rattle.history.specs.Columns.{Column, party, column, lineIn}
 use Rattle.history.specs.ReadColumns.{reads}
+use Rattle.history.specs.Kept.{never}
+
+-- a close is what passes for one
+is-close : (h : Head) → isClose h ≡ true → (c : CloseHead) × (h ≡ Close c)
+is-close (Opening o) e = never refl e
+is-close (Registration r) e = never refl e
+is-close (Lse j) e = never refl e
+is-close (Event v) e = never refl e
+is-close (Test t) e = never refl e
+is-close (Close c) e = (c, refl)
 
 module _ (y : Year) (c : Call) where
-  abbrev values : List ℕ
-  values = valuesOf (c .bytes)
+  abbrev record-of : Record
+  record-of = recordIn (c .bytes)
 
-  close-parts : closes y c ≡ true → (accepts y c ≡ true) × (at values 0 ≡ closing)
+  abbrev month : ℕ
+  month = monthOf (record-of .head)
+
+  close-parts : closes y c ≡ true → (accepts y c ≡ true) × ((k : CloseHead) × (record-of .head ≡ Close k))
   unfolding closes
   close-parts e =
-      let p = and-parts (accepts y c) (eqb (at values 0) closing) e in
-      (p .0, eqb-true (at values 0) closing (p .1))
+      let p = and-parts (accepts y c) (isClose (record-of .head)) e in
+      (p .0, is-close (record-of .head) (p .1))
 
-  pub close-step : closes y c ≡ true → step y c ≡ withClose y (amounts y (at values 1))
-  unfolding yearWith
+  pub close-step : closes y c ≡ true → step y c ≡ withClose y (amounts (factsOf y) month)
+  unfolding yearBy
   close-step e =
       let p = close-parts e in
-      step-by y c ∙ rw (p .0, p .1)
+      step-by y c ∙ rw (p .0, p .1 .1)
 
-  pub close-month : closes y c ≡ true → at values 1 < 16
+  pub close-month : closes y c ≡ true → month < 16
   close-month e =
       let p = close-parts e in
-      let q = passes.accepted-passed y c (p .0) in
-      omega (arith, next-month q (p .1), not-finished q (p .1))
+      let a = rw (p .1 .1) at (accepted-admitted y c (p .0)) in
+      rw (p .1 .1) (omega (arith, next-month a, not-finished a))
 
   pub close-buffer : closes y c ≡ true
       → buffered y c
-      ≡ statementOf (y .terms) (at values 1) (amounts y (at values 1)) (y .billed)
-      ++ drop (length (statementOf (y .terms) (at values 1) (amounts y (at values 1)) (y .billed))) (c .buffer)
+      ≡ statementOf (y .terms) month (amounts (factsOf y) month) (y .billed)
+      ++ drop (length (statementOf (y .terms) month (amounts (factsOf y) month) (y .billed))) (c .buffer)
   unfolding buffered bufferAfter bufferWith accepts
   close-buffer e =
       let p = close-parts e in
-      rw (p .0, p .1)
+      rw (p .0, p .1 .1)
+
+  pub close-written : closes y c ≡ true → writtenAfter y (c .bytes) (length (c .buffer)) ≡ length (statementOf (y .terms) month (amounts (factsOf y) month) (y .billed))
+  unfolding writtenAfter writtenWith accepts
+  close-written e =
+      let p = close-parts e in
+      rw (p .0, p .1 .1)
 
   -- what its statement says in a column
   pub close-line : Sound y → closes y c ≡ true → (col : Column) (i : ℕ)
       → lineIn col (buffered y c) i
-      ≡ cond (party col (y .terms) i) (less (column col (amounts y (at values 1))) (column col (y .billed)) i) (pos 0)
+      ≡ cond (party col (y .terms) i) (less (column col (amounts (factsOf y) month)) (column col (y .billed)) i) (pos 0)
   close-line S e col i =
       rw (close-buffer e)
-      (reads (starts (amounts y (at values 1)) (y .billed) _ (S .terms) (close-month e)) (S .terms) (sound-amounts y S (at values 1)) (S .billed) col i)
+      (reads (starts (amounts (factsOf y) month) (y .billed) _ (S .terms) (close-month e)) (S .terms) (sound-amounts (limits S) month) (S .billed) col i)
 
-  pub other-billed : closes y c ≡ false → step y c .billed ≡ y .billed
-  unfolding closes yearWith
-  other-billed e = rw (step-by y c) (go (accepts y c) refl (eqb (at values 0) closing) refl e)
+  pub other-same : closes y c ≡ false → (step y c .billed ≡ y .billed) × (step y c .closed ≡ y .closed)
+  unfolding closes yearBy
+  other-same e = rw (step-by y c) (go (accepts y c) (record-of .head) e)
     where
-      by-kind : passes.Kind (at values 0) → eqb (at values 0) closing ≡ false → yearWith y values .billed ≡ y .billed
-      by-kind (passes.opens q) n = rw q
-      by-kind (passes.registers q) n = rw q
-      by-kind (passes.obliges q) n = rw q
-      by-kind (passes.calls q) n = rw q
-      by-kind (passes.tests q) n = rw q
-      by-kind (passes.closes q) n = absurd (eqb-false (at values 0) closing n q)
+      go : (a : Bool) (h : Head) → (a && isClose h) ≡ false
+          → let z = cond a (yearBy y (record-of .listing) h) y in (z .billed ≡ y .billed) × (z .closed ≡ y .closed)
+      go false h e = (refl, refl)
+      go true (Opening o) e = (refl, refl)
+      go true (Registration r) e = (refl, refl)
+      go true (Lse j) e = (refl, refl)
+      go true (Event v) e = (refl, refl)
+      go true (Test t) e = (refl, refl)
+      go true (Close k) e = never e refl
 
-      go : (a : Bool) → accepts y c ≡ a → (b : Bool) → eqb (at values 0) closing ≡ b → (a && b) ≡ false → (cond a (yearWith y values) y) .billed ≡ y .billed
-      go false p b q e = refl
-      go true p true q e = absurd (let z : _≡_ {A = ℕ} 0 1 = cc in omega arith)
-      go true p false q e = by-kind (passes.accepted-kind y c p) q
+  -- any other call leaves the buffer, and writes no statement
+  pub other-leaves : closes y c ≡ false → (bufferAfter y (c .bytes) (c .buffer) ≡ c .buffer) × (writtenAfter y (c .bytes) (length (c .buffer)) ≡ 0)
+  unfolding closes accepts bufferAfter bufferWith writtenAfter writtenWith
+  other-leaves e = go (accepts y c) (record-of .head) e
+    where
+      go : (a : Bool) (h : Head) → (a && isClose h) ≡ false
+          → let r : Record = record { head = h; listing = record-of .listing } in (cond a (bufferWith y r (c .buffer)) (c .buffer) ≡ c .buffer) × (cond a (writtenWith y r) 0 ≡ 0)
+      go false h e = (refl, refl)
+      go true (Opening o) e = (refl, refl)
+      go true (Registration r) e = (refl, refl)
+      go true (Lse j) e = (refl, refl)
+      go true (Event v) e = (refl, refl)
+      go true (Test t) e = (refl, refl)
+      go true (Close k) e = never e refl

@@ -11,14 +11,13 @@ use lib.IntN.{ℤ}
 use borrow.Author.Tests.{eqb-true, ltb-true}
 use Rattle.ids.specs.Ids.{at}
 use Rattle.ids.specs.Tables.{getD-tabulate}
-use Rattle.ids.specs.Tests.{any-some}
-use Rattle.layouts.specs.LayoutLaws.{and-parts}
+use Rattle.ids.specs.Tests.{and-parts, any-some}
 use Rattle.year.specs.declared.Terms.{Terms}
 use Rattle.year.specs.declared.Amounts.{Amounts}
-use Rattle.year.specs.declared.Year.{Year}
-use Rattle.year.specs.Year.{known, seller, obligation, size, lses, sellers}
-use Rattle.year.specs.Sound.{SoundTerms, Sound}
+use Rattle.year.specs.Year.{known, seller, obligation, size}
+use Rattle.year.specs.Sound.{SoundTerms}
 use Rattle.year.specs.Limits.{seller-below, lses-is}
+use Rattle.owed.specs.Facts.{Facts, sellers, lses}
 use Rattle.owed.specs.Owed.{compliance, test, credit, lse, amounts}
 use Rattle.statement.specs.Statement.{hasRegistration, hasObligation}
 use Rattle.statement.specs.ReadBack.{complianceIn, testIn, creditIn, lseIn}
@@ -42,11 +41,11 @@ column tests a = a .test
 column gets a = a .credit
 column receives a = a .lse
 
-unfoldable pub owes : Column → Year → ℕ → ℕ → ℕ
-owes pays y k s = compliance y k s
-owes tests y k s = test y k s
-owes gets y k s = credit y k s
-owes receives y k j = lse y k j
+unfoldable pub owes : Column → Facts → ℕ → ℕ → ℕ
+owes pays F k s = compliance F k s
+owes tests F k s = test F k s
+owes gets F k s = credit F k s
+owes receives F k j = lse F k j
 
 unfoldable pub lineIn : Column → List ℕ → ℕ → ℤ
 lineIn pays x s = complianceIn x s
@@ -78,9 +77,9 @@ party-below tests {T} S i e = registered-below T S i e
 party-below gets {T} S i e = registered-below T S i e
 party-below receives {T} S i e = obliged-below T S i e
 
-pub amounts-at : (c : Column) (y : Year) → Sound y → (k i : ℕ) → i < 16 → at (column c (amounts y k)) i ≡ owes c y k i
+pub amounts-at : (c : Column) (F : Facts) (k i : ℕ) → i < 16 → at (column c (amounts F k)) i ≡ owes c F k i
 unfolding column owes amounts
-amounts-at pays y S k i l = getD-tabulate (compliance y k) sellers i 0 l
-amounts-at tests y S k i l = getD-tabulate (test y k) sellers i 0 l
-amounts-at gets y S k i l = getD-tabulate (credit y k) sellers i 0 l
-amounts-at receives y S k i l = getD-tabulate (lse y k) (lses (y .terms)) i 0 (omega (arith, lses-is (S .terms)))
+amounts-at pays F k i l = getD-tabulate (compliance F k) sellers i 0 l
+amounts-at tests F k i l = getD-tabulate (test F k) sellers i 0 l
+amounts-at gets F k i l = getD-tabulate (credit F k) sellers i 0 l
+amounts-at receives F k i l = getD-tabulate (lse F k) lses i 0 l

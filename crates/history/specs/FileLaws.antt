@@ -8,20 +8,22 @@ use lib.Dec.{eqb, ltb}
 use lib.ListN.{length, drop}
 use lib.Seq.{take-at}
 use borrow.Author.Tests.{ltb-true, eqb-true, eqb-false, ne-eqb}
-use Rattle.ids.specs.Ids.{at}
 use Rattle.bits.specs.Pack.{bytesFor}
-use Rattle.layouts.specs.LayoutLaws.{and-parts, every}
+use Rattle.ids.specs.Tests.{and-parts}
+use Rattle.layouts.specs.LayoutLaws.{every}
 use Rattle.layouts.specs.Questions.{firstFailed, recordNumber}
 use Rattle.year.specs.declared.Year.{Year}
 use Rattle.year.specs.Sound.{Sound}
 use Rattle.year.specs.Limits.{lses-is}
+use Rattle.owed.specs.Facts.{factsOf}
 use Rattle.owed.specs.Owed.{amounts}
 use Rattle.statement.specs.Statement.{statementOf}
 use Rattle.statement.specs.Sizes.{bits-counted, statement-length}
 use Rattle.statement.specs.ReadBack.{sellersIn, lsesIn}
 use Rattle.statement.specs.Starts.{starts}
-use Rattle.questions.specs.Questions.{listingIn, questions}
-use Rattle.book.specs.Outcome.{valuesOf, postNumber, yearAfter, bufferAfter}
+use Rattle.heads.specs.Record.{Record, monthOf}
+use Rattle.questions.specs.Questions.{inTime, questions}
+use Rattle.book.specs.Outcome.{valuesOf, recordIn, postNumber, yearWith, yearAfter, bufferAfter}
 use Rattle.book.specs.Numbers.{record-refused, record-accepted}
 use Rattle.file.specs.Walk.{ends}
 use Rattle.file.specs.Window.{Alike, same-number, same-numbers}
@@ -31,9 +33,9 @@ use Rattle.history.specs.Files.{statementIn, joined}
 
 -- a window answers as the whole rest of a file does
 module _ {xs ys : List ℕ} (e : Alike xs ys) where
-  same-values : valuesOf xs ≡ valuesOf ys
+  same-record : recordIn xs ≡ recordIn ys
   unfolding valuesOf
-  same-values = rw (same-numbers e)
+  same-record = rw (same-numbers e)
 
   module _ (y : Year) where
     pub same-post : (room : ℕ) → postNumber y xs room ≡ postNumber y ys room
@@ -42,18 +44,18 @@ module _ {xs ys : List ℕ} (e : Alike xs ys) where
         go : (b : Bool) → eqb (recordNumber ys) 0 ≡ b → postNumber y xs room ≡ postNumber y ys room
         go true q =
             let zero = eqb-true (recordNumber ys) 0 q in
-            record-accepted y xs room (same-number e ∙ zero) ∙ rw same-values (sym (record-accepted y ys room zero))
+            record-accepted y xs room (same-number e ∙ zero) ∙ rw same-record (sym (record-accepted y ys room zero))
         go false q =
             let some = eqb-false (recordNumber ys) 0 q in
             record-refused y xs room (λ z. some (sym (same-number e) ∙ z)) ∙ same-number e ∙ sym (record-refused y ys room some)
 
     pub same-year : (room : ℕ) → yearAfter y xs room ≡ yearAfter y ys room
     unfolding yearAfter
-    same-year room = rw (same-post room, same-values)
+    same-year room = rw (same-post room) (ap (λ (r : Record). cond (eqb (postNumber y ys room) 0) (yearWith y r) y) same-record)
 
     pub same-buffer : (buffer : List ℕ) → bufferAfter y xs buffer ≡ bufferAfter y ys buffer
     unfolding bufferAfter
-    same-buffer buffer = rw (same-post (length buffer), same-values)
+    same-buffer buffer = rw (same-post (length buffer), same-record)
 
 -- questions behind the first two end no file
 later : (qs : List (ℕ × Bool)) → every (λ q. ltb 2 (q .0)) qs ≡ true → ends (firstFailed qs) ≡ false
@@ -74,20 +76,20 @@ ends-post y bytes room = go (eqb (recordNumber bytes) 0) refl
     go : (b : Bool) → eqb (recordNumber bytes) 0 ≡ b → ends (postNumber y bytes room) ≡ ends (recordNumber bytes)
     go true q =
         let zero = eqb-true (recordNumber bytes) 0 q in
-        rw (record-accepted y bytes room zero, zero) (later (questions y (valuesOf bytes) (listingIn (valuesOf bytes)) room) refl)
+        rw (record-accepted y bytes room zero, zero) (later (questions inTime y (recordIn bytes) room) refl)
     go false q = rw (record-refused y bytes room (eqb-false (recordNumber bytes) 0 q))
 
 -- the statement of an accepted close stands in the front of its buffer, and its counts say its length
 pub close-statement : (y : Year) (c : Call) → Sound y → closes y c ≡ true
-    → statementIn (buffered y c) ≡ statementOf (y .terms) (at (valuesOf (c .bytes)) 1) (amounts y (at (valuesOf (c .bytes)) 1)) (y .billed)
+    → statementIn (buffered y c) ≡ (let k = monthOf (recordIn (c .bytes) .head) in statementOf (y .terms) k (amounts (factsOf y) k) (y .billed))
 unfolding statementIn
 close-statement y c S e =
-    let k = at (valuesOf (c .bytes)) 1 in
-    let s = statementOf (y .terms) k (amounts y k) (y .billed) in
+    let k = monthOf (recordIn (c .bytes) .head) in
+    let s = statementOf (y .terms) k (amounts (factsOf y) k) (y .billed) in
     let rest = drop (length s) (c .buffer) in
-    let f = starts {T = y .terms} {k = k} (amounts y k) (y .billed) rest (S .terms) (close-month y c e) in
+    let f = starts {T = y .terms} {k = k} (amounts (factsOf y) k) (y .billed) rest (S .terms) (close-month y c e) in
     let long : length s ≡ bytesFor (14 + 130 * sellersIn (s ++ rest) + 46 * lsesIn (s ++ rest)) =
-    rw (f .sellers, f .lses) (statement-length (S .terms) k (amounts y k) (y .billed) ∙ ap bytesFor (bits-counted (S .terms) k (amounts y k) (y .billed) ∙ rw (lses-is (S .terms)))) in
+    rw (f .sellers, f .lses) (statement-length (S .terms) k (amounts (factsOf y) k) (y .billed) ∙ ap bytesFor (bits-counted (S .terms) k (amounts (factsOf y) k) (y .billed) ∙ rw (lses-is (S .terms)))) in
     rw (close-buffer y c e) (take-at s rest (bytesFor (14 + 130 * sellersIn (s ++ rest) + 46 * lsesIn (s ++ rest))) long)
 
 -- the statements of a list by its first call

@@ -3,67 +3,54 @@ use Prim.Native.Nat.{ℕ}
 use mathlib.Core.Bool.{Bool, true, false, cond}
 use mathlib.Core.List.{List, _∷_}
 use mathlib.Core.Path.{_≡_, refl, ap, sym, _∙_}
-use native.Mathlib.Omega.{arith}
 use lib.Dec.{eqb}
 use lib.ListN.{length}
 use borrow.Author.Tests.{eqb-true, eqb-false}
 use Rattle.ids.specs.Ids.{at}
-use Rattle.layouts.specs.Layout.{hasLists}
 use Rattle.layouts.specs.Questions.{firstFailed, recordNumber}
+use Rattle.year.specs.declared.Listing.{Listing}
 use Rattle.year.specs.declared.Year.{Year}
+use Rattle.owed.specs.Facts.{factsOf}
 use Rattle.owed.specs.Owed.{amounts}
 use Rattle.statement.specs.ReadBack.{complianceIn, testIn}
-use Rattle.questions.specs.Questions.{listingIn, questions}
-use Rattle.questions.specs.Passed.{Passed, not-started, event-held}
-use Rattle.book.specs.Outcome.{valuesOf, postNumber, yearWith}
+use Rattle.heads.specs.declared.Head.{Head}
+use Rattle.heads.specs.declared.Head.the-variants.{Opening, Registration, Lse, Event, Test, Close}
+use Rattle.heads.specs.Record.{monthOf}
+use Rattle.questions.specs.Questions.{inTime, questions}
+use Rattle.questions.specs.Admitted.{Admitted, registration-fresh, event-held}
+use Rattle.book.specs.Outcome.{recordIn, postNumber, yearBy, yearWith}
 use Rattle.book.specs.Numbers.{record-refused, record-accepted}
 use Rattle.history.specs.Runs.{Call, accepts, closes, buffered, step, acceptances, Variant, done, refused, accepted}
 use Rattle.history.specs.Claim.{chargeLines}
 use Rattle.history.specs.Along.{step-by}
-use Rattle.history.specs.Passed as passes
+use Rattle.history.specs.Admitted.{accepted-admitted}
 use Rattle.history.specs.Moves.{unopened, unobliged}
 use Rattle.history.specs.Columns.{Column, pays, tests, column, lineIn}
 use Rattle.history.specs.Kept.{Kept, kept-step}
 use Rattle.history.specs.Closes.{close-line}
-use Rattle.history.specs.Alike.{Alike, alike-listing}
-use Rattle.history.specs.Same.{Same, same-terms, same-event, same-test, same-close}
-use Rattle.history.specs.Blind.{numbers-blind, years-blind}
+use Rattle.history.specs.Alike.{alike-listing}
+use Rattle.history.specs.Same.{SameListing, Same, same-terms, same-event, same-test, same-close}
+use Rattle.history.specs.Blind.{records-blind, years-blind}
 use Rattle.history.specs.Paired.{Paired, paired-refused, paired-accepted}
 
 module _ {s r : ℕ} (other : r ≡ s → ⊥) {y z : Year} (h : Same r y z) (ky : Kept y) (kz : Kept z) where
-  -- records with numbers that are alike
-  module _ {vs ws : List ℕ} (a : Alike (y .terms) s vs ws) where
-    same-record : {room : ℕ} → Passed y vs (listingIn vs) room → passes.Kind (at vs 0) → Same r (yearWith y vs) (yearWith z ws)
-    unfolding yearWith hasLists
-    same-record p (passes.opens e) =
-        let q : vs ≡ ws = a .others (rw e) in
-        rw (← q, e, ← (h .terms)) (same-terms h (ky .sound) (kz .sound) (unopened p (ky .begun) e) _ _)
-    same-record p (passes.registers e) =
-        let q : vs ≡ ws = a .others (rw e) in
-        rw (← q, e, ← (h .terms), ← (h .opened)) (same-terms h (ky .sound) (kz .sound) (not-started p e) _ _)
-    same-record p (passes.obliges e) =
-        let q : vs ≡ ws = a .others (rw e) in
-        rw (← q, e, ← (h .terms), ← (h .opened)) (same-terms h (ky .sound) (kz .sound) (unobliged p e) _ _)
-    same-record p (passes.calls e) =
-        let e′ : at ws 0 ≡ 4 = sym (a .heads 0 (omega arith)) ∙ e in
-        rw (e, e′)
-        (same-event h (ky .sound) (kz .sound) (event-held p e)
-        (record { month = a .heads 2 (omega arith); period = a .heads 3 (omega arith); listing = alike-listing other a }))
-    same-record p (passes.tests e) =
-        let e′ : at ws 0 ≡ 5 = sym (a .heads 0 (omega arith)) ∙ e in
-        rw (e, e′, ← (a .heads 1 (omega arith)), ← (a .heads 2 (omega arith)))
-        (same-test h _ (record { taken = refl; test = record { listing = alike-listing other a } }))
-    same-record p (passes.closes e) =
-        let q : vs ≡ ws = a .others (rw e) in
-        rw (← q, e) (same-close h (at vs 1))
+  -- records that are alike
+  module _ {l m : Listing} where
+    same-record : {room : ℕ} (k : Head) → Admitted inTime y (record { head = k; listing = l }) room → SameListing (y .terms) r l m → Same r (yearBy y l k) (yearBy z m k)
+    unfolding yearBy
+    same-record (Opening o) a q = rw (← (h .terms)) (same-terms h (ky .sound) (kz .sound) (unopened (ky .begun) a) _ _)
+    same-record (Registration p) a q = rw (← (h .terms), ← (h .opened)) (same-terms h (ky .sound) (kz .sound) (registration-fresh a) _ _)
+    same-record (Lse j) a q = rw (← (h .terms), ← (h .opened)) (same-terms h (ky .sound) (kz .sound) (unobliged a) _ _)
+    same-record (Event e) a q = same-event h (ky .sound) (kz .sound) (event-held a) (record { month = refl; period = refl; listing = q })
+    same-record (Test t) a q = same-test h (ky .sound) (kz .sound) _ (record { taken = refl; listing = q })
+    same-record (Close c) a q = same-close h (c .month)
 
   -- a call and its variant: accepted alike, the years after them the same, and the same lines
   module _ {c d : Call} (p : Paired s y c d) where
-    same-questions : questions y (valuesOf (c .bytes)) (listingIn (valuesOf (c .bytes))) (length (c .buffer))
-        ≡ questions z (valuesOf (d .bytes)) (listingIn (valuesOf (d .bytes))) (length (d .buffer))
+    same-questions : questions inTime y (recordIn (c .bytes)) (length (c .buffer)) ≡ questions inTime z (recordIn (d .bytes)) (length (d .buffer))
     same-questions =
-        numbers-blind y (valuesOf (c .bytes)) (valuesOf (d .bytes)) (listingIn (valuesOf (c .bytes))) (listingIn (valuesOf (d .bytes))) (p .alike .heads) (p .alike .listed) (p .alike .deficits) (length (c .buffer))
-        ∙ rw (p .room) (years-blind h (valuesOf (d .bytes)) (listingIn (valuesOf (d .bytes))) (length (d .buffer)))
+        records-blind inTime (length (c .buffer)) y (recordIn (c .bytes)) (recordIn (d .bytes)) (p .alike .heads) (p .alike .listed) (p .alike .deficits)
+        ∙ rw (p .room) (years-blind inTime (length (d .buffer)) h (recordIn (d .bytes)))
 
     same-number : postNumber z (d .bytes) (length (d .buffer)) ≡ postNumber y (c .bytes) (length (c .buffer))
     same-number = go (eqb (recordNumber (c .bytes)) 0) refl
@@ -84,25 +71,25 @@ module _ {s r : ℕ} (other : r ≡ s → ⊥) {y z : Year} (h : Same r y z) (ky
     same-step : Same r (step y c) (step z d)
     same-step = rw (step-by y c, step-by z d, same-accepts) (go (accepts y c) refl)
       where
-        go : (b : Bool) → accepts y c ≡ b → Same r (cond b (yearWith y (valuesOf (c .bytes))) y) (cond b (yearWith z (valuesOf (d .bytes))) z)
+        go : (b : Bool) → accepts y c ≡ b → Same r (cond b (yearWith y (recordIn (c .bytes))) y) (cond b (yearWith z (recordIn (d .bytes))) z)
         go false e = h
-        go true e = same-record (p .alike) (passes.accepted-passed y c e) (passes.accepted-kind y c e)
+        go true e = rw (← (p .alike .heads)) (same-record (recordIn (c .bytes) .head) (accepted-admitted y c e) (alike-listing other (p .alike)))
 
     same-closes : closes z d ≡ closes y c
     unfolding closes
-    same-closes = cc (same-accepts, p .alike .heads 0 (omega arith))
+    same-closes = rw (same-accepts, p .alike .heads)
 
     -- what a close says in a column
     same-line : (col : Column) → closes y c ≡ true
-        → at (column col (amounts y (at (valuesOf (c .bytes)) 1))) r ≡ at (column col (amounts z (at (valuesOf (c .bytes)) 1))) r
+        → at (column col (amounts (factsOf y) (monthOf (recordIn (c .bytes) .head)))) r ≡ at (column col (amounts (factsOf z) (monthOf (recordIn (c .bytes) .head)))) r
         → at (column col (y .billed)) r ≡ at (column col (z .billed)) r → lineIn col (buffered z d) r ≡ lineIn col (buffered y c) r
     same-line col o now before =
-        rw (close-line y c (ky .sound) o col r, close-line z d (kz .sound) (same-closes ∙ o) col r, ← (p .alike .heads 1 (omega arith)), now, before, h .terms)
+        rw (close-line y c (ky .sound) o col r, close-line z d (kz .sound) (same-closes ∙ o) col r, ← (p .alike .heads), now, before, h .terms)
 
     same-lines : closes y c ≡ true → (complianceIn (buffered z d) r ≡ complianceIn (buffered y c) r) × (testIn (buffered z d) r ≡ testIn (buffered y c) r)
     unfolding lineIn column
     same-lines o =
-        let n = same-close h (at (valuesOf (c .bytes)) 1) in
+        let n = same-close h (monthOf (recordIn (c .bytes) .head)) in
         (same-line pays o (n .pays) (h .pays), same-line tests o (n .fails) (h .fails))
 
     both : (cs ds : List Call) → (acceptances (step z d) ds ≡ acceptances (step y c) cs) × (chargeLines r (step z d) ds ≡ chargeLines r (step y c) cs)

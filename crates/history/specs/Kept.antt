@@ -1,31 +1,30 @@
 -- What holds of every year along a list of calls.
 use Prim.Native.Nat.{ℕ, _<_}
-use mathlib.Core.Bool.{Bool, true, false, _||_, cond}
+use mathlib.Core.Bool.{Bool, true, false, cond}
 use mathlib.Core.List.{List, [], _∷_}
 use mathlib.Core.Path.{_≡_, refl, _∙_}
+use native.Mathlib.Nat.{not-suc-le-zero}
 use native.Mathlib.Omega.{arith}
-use lib.ListN.{length, getD, set, replicate, length-set}
-use lib.Seq.{take-set-le, getD-set-same}
+use lib.ListN.{length, getD, replicate}
 use Rattle.ids.specs.Each.{each-replicate}
+use Rattle.year.specs.declared.Listing.{Listing}
 use Rattle.year.specs.declared.Event.{Event}
 use Rattle.year.specs.declared.Test.{Test}
 use Rattle.year.specs.declared.Terms.{Terms}
 use Rattle.year.specs.declared.Year.{Year}
-use Rattle.year.specs.Year.{newYear, noAmounts, noTest, accepted, listed, known, pastEvent, pastTest}
-use Rattle.ids.specs.Sets.{kept-set, getD-replicate-same}
-use Rattle.year.specs.Steps.{withEvent}
-use Rattle.year.specs.Sound.{Sound}
+use Rattle.year.specs.Year.{newYear, noAmounts, noTest, listed, known, pastEvent, pastTest}
+use Rattle.ids.specs.Sets.{kept-set, related-next, getD-replicate-same}
+use Rattle.year.specs.Sound.{SoundTerms, Sound}
 use Rattle.year.specs.Kept.{sound-new}
-use Rattle.year.specs.Limits.{each-anywhere}
-use Rattle.owed.specs.Owed as owed
-use Rattle.owed.specs.Events.{called-step}
-use Rattle.book.specs.Outcome.{valuesOf, yearWith}
+use Rattle.year.specs.Limits.{each-anywhere, size-is, lses-is}
+use Rattle.owed.specs.Facts.{factsOf, registrations, places}
+use Rattle.owed_laws.specs.Parties.{Known}
+use Rattle.book.specs.Outcome.{recordIn, yearWith}
 use Rattle.book.specs.Kept.{sound-after}
 use Rattle.history.specs.Runs.{Call, accepts, step, run}
 use Rattle.history.specs.Along.{step-by}
-use Rattle.history.specs.Passed.{accepted-passed, accepted-kind}
+use Rattle.history.specs.Admitted.{accepted-admitted}
 use Rattle.history.specs.Moves.{Knows, Move, stay, terms, called, tested, closed, moved}
-use Rattle.history.specs.Blank.{AllKnown}
 use Rattle.history.specs.Billed.{Billed, billed-none, billed-amounts}
 
 -- sound; opened before the first event, test or close; nothing billed before them; every listed registration known; what is billed balances
@@ -33,40 +32,34 @@ pub record Kept (y : Year) : Type 0 where
   pub sound : Sound y
   pub begun : y .started ≡ true → y .opened ≡ true
   pub unbilled : y .started ≡ false → y .billed ≡ noAmounts
-  pub all-known : AllKnown y
+  pub known : Known (factsOf y)
   pub billed : Billed (y .terms) (y .billed)
 
-never : {X : Type 0} {b : Bool} → b ≡ false → b ≡ true → X
+pub never : {X : Type 0} {b : Bool} → b ≡ false → b ≡ true → X
 never e t = absurd (let z : _≡_ {A = ℕ} 0 1 = cc in omega arith)
 
+-- as the facts say it
+knows : {T : Terms} → SoundTerms T → (l : Listing) → Knows T l → (i : ℕ) → i < registrations → listed l i ≡ true → known T i ≡ true
+knows S x k i l = k i (omega (arith, size-is S))
+
 -- a test that is not taken lists nothing
-blank-tests : (T : Terms) {ts : List Test} → ts ≡ replicate 24 noTest → (k : ℕ) → Knows T (getD ts k pastTest .listing)
+blank-tests : (T : Terms) {ts : List Test} → ts ≡ replicate 24 noTest → (p : ℕ) → Knows T (getD ts p pastTest .listing)
 unfolding listed
-blank-tests T e k =
+blank-tests T e p =
     rw e (each-anywhere (λ t. Knows T (t .listing)) {d = pastTest} (λ i l q. never refl q)
-    (each-replicate (λ t. Knows T (t .listing)) pastTest 24 (λ i l q. never (getD-replicate-same 64 i false) q)) k)
+    (each-replicate (λ t. Knows T (t .listing)) pastTest 24 (λ i l q. never (getD-replicate-same 64 i false) q)) p)
 
 pub kept-new : Kept newYear
-unfolding owed.called
 kept-new =
     record {
       sound = sound-new;
       begun = λ e. never refl e;
       unbilled = λ e. refl;
-      all-known = record { events = λ i l e. never refl e; tests = blank-tests (newYear .terms) refl };
+      known = record { events = λ ev l. absurd (not-suc-le-zero l); tests = λ p l. knows (sound-new .terms) _ (blank-tests (newYear .terms) refl p) };
       billed = billed-none (newYear .terms);
     }
 
--- one more event
-called-more : (y : Year) → Sound y → y .held < 16 → (e : Event) (i : ℕ) → owed.called (accepted (withEvent y e)) i ≡ (owed.called (accepted y) i || listed (e .listing) i)
-called-more y S l e i =
-    let b : y .held < length (set (y .events) (y .held) e) = rw (length-set (y .events) (y .held) e) (omega (arith, S .events .long)) in
-    let m : y .held < length (y .events) = omega (arith, S .events .long) in
-    called-step (set (y .events) (y .held) e) (y .held) b i
-    ∙ rw (take-set-le (y .held) (y .events) (y .held) e (omega arith), getD-set-same (y .events) (y .held) e pastEvent m)
-
 kept-move : {y z : Year} → Kept y → Sound z → Move y z → Kept z
-unfolding owed.called
 kept-move h s stay = h
 kept-move {y} h s (terms opened T e) =
     let f = h .sound .fresh e in
@@ -74,28 +67,26 @@ kept-move {y} h s (terms opened T e) =
       sound = s;
       begun = λ t. never e t;
       unbilled = h .unbilled;
-      all-known = record { events = λ i l q. never refl (rw (f .0) at q); tests = blank-tests T (f .2) };
+      known = record { events = λ ev l. absurd (omega (arith, f .0)); tests = λ p l. knows (s .terms) _ (blank-tests T (f .2) p) };
       billed = rw (h .unbilled e) (billed-none T);
     }
 kept-move {y} h s (called e o l k) =
+    let P : Event → Event → Type 0 = λ x z. (i : ℕ) → i < registrations → listed (x .listing) i ≡ true → known (y .terms) i ≡ true in
+    let m : y .held < length (y .events) = omega (arith, h .sound .events .long) in
     record {
       sound = s;
       begun = λ t. o;
       unbilled = λ t. never t refl;
-      all-known = record { events = λ i b q. go i (owed.called (accepted y) i) (h .all-known .events i b) (k i b) (rw (called-more y (h .sound) l e i) at q); tests = h .all-known .tests };
+      known = record { events = related-next P pastEvent (y .events) (y .events) (y .held) {v = e} {w = e} m m (knows (s .terms) (e .listing) k) (h .known .events); tests = h .known .tests };
       billed = h .billed;
     }
-  where
-    go : (i : ℕ) (b : Bool) → (b ≡ true → known (y .terms) i ≡ true) → (listed (e .listing) i ≡ true → known (y .terms) i ≡ true)
-        → (b || listed (e .listing) i) ≡ true → known (y .terms) i ≡ true
-    go i true p q r = p refl
-    go i false p q r = q r
 kept-move {y} h s (tested place t o k) =
+    let P : ℕ → Test → Type 0 = λ p x. p < places → (i : ℕ) → i < registrations → listed (x .listing) i ≡ true → known (y .terms) i ≡ true in
     record {
       sound = s;
       begun = λ t. o;
       unbilled = λ t. never t refl;
-      all-known = record { events = h .all-known .events; tests = kept-set (λ j t. Knows (y .terms) (t .listing)) pastTest (y .tests) place k (h .all-known .tests) };
+      known = record { events = h .known .events; tests = kept-set P pastTest (y .tests) place (λ l. knows (s .terms) (t .listing) k) (h .known .tests) };
       billed = h .billed;
     }
 kept-move {y} h s (closed k o l) =
@@ -103,16 +94,16 @@ kept-move {y} h s (closed k o l) =
       sound = s;
       begun = λ t. o;
       unbilled = λ t. never t refl;
-      all-known = record { events = h .all-known .events; tests = h .all-known .tests };
-      billed = billed-amounts y (h .sound) (h .all-known) l k;
+      known = record { events = h .known .events; tests = h .known .tests };
+      billed = billed-amounts (h .sound) (h .known) (rw (lses-is (h .sound .terms)) at l) k;
     }
 
 pub moves : {y : Year} → Kept y → (c : Call) → Move y (step y c)
 moves {y} h c = rw (step-by y c) (go (accepts y c) refl)
   where
-    go : (b : Bool) → accepts y c ≡ b → Move y (cond b (yearWith y (valuesOf (c .bytes))) y)
+    go : (b : Bool) → accepts y c ≡ b → Move y (cond b (yearWith y (recordIn (c .bytes))) y)
     go false e = stay
-    go true e = moved (accepted-passed y c e) (h .begun) (accepted-kind y c e)
+    go true e = moved (h .begun) (recordIn (c .bytes) .head) (accepted-admitted y c e)
 
 pub kept-step : {y : Year} → Kept y → (c : Call) → Kept (step y c)
 unfolding step

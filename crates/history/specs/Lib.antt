@@ -2,7 +2,7 @@
 pub mod Runs
 pub mod Claim
 pub mod Along
-pub mod Passed
+pub mod Admitted
 pub mod Moves
 pub mod Columns
 pub mod ReadColumns

@@ -1,4 +1,4 @@
--- A call and its variant: the same answers to questions 1 to 5, and numbers that are alike.
+-- A call and its variant: the same answers to questions 1 to 5, and records that are alike.
 use Prim.Native.Nat.{ℕ, _≤_}
 use mathlib.Core.Bool.{true}
 use mathlib.Core.List.{_++_}
@@ -11,20 +11,20 @@ use Rattle.records.specs.Calls.{bytesBy}
 use Rattle.records.specs.Accepted.{not-failed, numbers-count}
 use Rattle.records.specs.RoundTrip.{write-reads}
 use Rattle.year.specs.declared.Year.{Year}
-use Rattle.book.specs.Outcome.{valuesOf}
+use Rattle.book.specs.Outcome.{valuesOf, recordIn}
 use Rattle.history.specs.Runs.{Call, accepts, replaced}
-use Rattle.history.specs.Passed.{accepted-record}
+use Rattle.history.specs.Admitted.{accepted-record}
 use Rattle.history.specs.Replaced.{writes}
 use Rattle.history.specs.Alike.{Alike, alike-refl, alike-replaced}
 
 pub record Paired (s : ℕ) (y : Year) (c d : Call) : Type 0 where
   pub room : length (c .buffer) ≡ length (d .buffer)
   pub number : recordNumber (c .bytes) ≡ recordNumber (d .bytes)
-  pub alike : Alike (y .terms) s (valuesOf (c .bytes)) (valuesOf (d .bytes))
+  pub alike : Alike (y .terms) s (recordIn (c .bytes)) (recordIn (d .bytes))
 
 pub paired-refused : (s : ℕ) (y : Year) (c d : Call) → d .bytes ≡ c .bytes → length (d .buffer) ≡ length (c .buffer) → Paired s y c d
 paired-refused s y c d b l =
-    record { room = sym l; number = ap recordNumber (sym b); alike = rw b (alike-refl (y .terms) s (valuesOf (c .bytes))) }
+    record { room = sym l; number = ap recordNumber (sym b); alike = rw b (alike-refl (y .terms) s (recordIn (c .bytes))) }
 
 pub paired-accepted : (s : ℕ) (y : Year) (c d : Call) → accepts y c ≡ true → (f : ℕ → ℕ) → ((e : ℕ) → f e ≤ 100000)
     → d .bytes ≡ bytesBy (replaced (y .terms) s f (numbersOf (c .bytes))) ++ drop (consumed (c .bytes)) (c .bytes)

@@ -12,12 +12,11 @@ use lib.Seq.{ext-getD}
 use borrow.Author.Tests.{leb-true, ltb-true, eqb-true}
 use Rattle.ids.specs.Ids.{at}
 use Rattle.ids.specs.Tables.{length-tabulate, getD-tabulate}
-use Rattle.ids.specs.Tests.{all-same, all-at}
-use Rattle.layouts.specs.Layout.{noRule, head, hasLists, itemsIn, deficitsIn, entriesIn, sizeOf}
-use Rattle.layouts.specs.LayoutLaws.{and-parts}
+use Rattle.ids.specs.Tests.{and-parts, all-same, all-at}
+use Rattle.layouts.specs.Layout.{noRule, head, itemsIn, sizeOf}
 use Rattle.layouts.specs.Questions.{rulesBy, isKind, permits, permitted, idsRise}
 use Rattle.layouts.specs.QuestionLaws.{permits-yes, rises-same, counts-same, rules-same}
-use Rattle.layouts.specs.PairLaws.{lists-six, entries-are, rules-pairs, ids-pairs, rule-entry}
+use Rattle.heads.specs.Pairs.{hasLists, deficitsIn, entriesIn, lists-six, entries-are, rules-pairs, ids-pairs, rule-entry}
 use Rattle.records.specs.Calls.{writeNumber}
 use Rattle.records.specs.RoundTrip.{not-refused}
 use Rattle.year.specs.declared.Terms.{Terms}

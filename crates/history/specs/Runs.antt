@@ -7,14 +7,15 @@ use lib.ListN.{length, drop}
 use lib.Dec.{leb, ltb, eqb}
 use lib.IntN.{ℤ, pos, _+ℤ_}
 use Rattle.ids.specs.Ids.{at, tabulate}
-use Rattle.layouts.specs.Layout.{head, deficitsIn, entriesIn}
+use Rattle.layouts.specs.Layout.{head}
 use Rattle.layouts.specs.Questions.{numbersOf, consumed}
 use Rattle.records.specs.Calls.{bytesBy}
 use Rattle.year.specs.declared.Terms.{Terms}
 use Rattle.year.specs.declared.Year.{Year}
 use Rattle.year.specs.Year.{seller}
-use Rattle.questions.specs.Questions.{closing}
-use Rattle.book.specs.Outcome.{valuesOf, postNumber, yearWith, yearAfter, bufferAfter}
+use Rattle.heads.specs.Record.{Record, isClose}
+use Rattle.heads.specs.Pairs.{deficitsIn, entriesIn}
+use Rattle.book.specs.Outcome.{recordIn, postNumber, yearWith, yearAfter, bufferAfter}
 
 -- a call: any bytes, none too, and a lent buffer of any length and contents
 pub record Call : Type 0 where
@@ -26,7 +27,7 @@ unfoldable pub accepts : Year → Call → Bool
 accepts y c = eqb (postNumber y (c .bytes) (length (c .buffer))) 0
 
 unfoldable pub closes : Year → Call → Bool
-closes y c = accepts y c && eqb (at (valuesOf (c .bytes)) 0) closing
+closes y c = accepts y c && isClose (recordIn (c .bytes) .head)
 
 unfoldable pub buffered : Year → Call → List ℕ
 buffered y c = bufferAfter y (c .bytes) (c .buffer)
@@ -39,14 +40,14 @@ unfoldable pub run : Year → List Call → Year
 run y [] = y
 run y (c ∷ cs) = run (step y c) cs
 
--- the numbers of the accepted records, in order; and the year that such records make
-unfoldable pub acceptedIn : Year → List Call → List (List ℕ)
+-- the accepted records, in order; and the year that such records make
+unfoldable pub acceptedIn : Year → List Call → List Record
 acceptedIn y [] = []
-acceptedIn y (c ∷ cs) = cond (accepts y c) (valuesOf (c .bytes) ∷ acceptedIn (step y c) cs) (acceptedIn (step y c) cs)
+acceptedIn y (c ∷ cs) = cond (accepts y c) (recordIn (c .bytes) ∷ acceptedIn (step y c) cs) (acceptedIn (step y c) cs)
 
-unfoldable pub yearOf : Year → List (List ℕ) → Year
+unfoldable pub yearOf : Year → List Record → Year
 yearOf y [] = y
-yearOf y (vs ∷ rs) = yearOf (yearWith y vs) rs
+yearOf y (r ∷ rs) = yearOf (yearWith y r) rs
 
 -- which calls are accepted, by position
 unfoldable pub acceptances : Year → List Call → List Bool

@@ -1,56 +1,46 @@
 -- Two years that are the same for seller r: all but the reductions, and the amounts, of the others. Steps that are the same for r keep them so.
-use Prim.Native.Nat.{ℕ, zero, suc, _+_, _<_}
+use Prim.Native.Nat.{ℕ, _+_, _<_}
 use mathlib.Core.Bool.{Bool, false}
-use mathlib.Core.List.{List, [], _∷_, _++_}
 use mathlib.Core.Path.{_≡_, refl, ap, sym, _∙_}
 use native.Mathlib.Decide.{decLt}
-use native.Mathlib.Numerals.{add-one}
+use native.Mathlib.Nat.{not-suc-le-zero}
 use native.Mathlib.Omega.{arith}
-use lib.ListN.{length, getD, set, replicate, List·getD-eq-default}
-use lib.Seq.{take-suc-set}
-use Rattle.ids.specs.Ids.{at, tabulate}
+use lib.ListN.{getD, replicate, List·getD-eq-default}
+use Rattle.ids.specs.Ids.{at, anyTo, tabulate}
+use Rattle.ids.specs.Sets.{related-set, related-next}
+use Rattle.ids.specs.Tests.{any-same}
 use Rattle.ids.specs.Tables.{length-tabulate, getD-tabulate}
+use Rattle.year.specs.declared.Listing.{Listing}
 use Rattle.year.specs.declared.Event.{Event}
 use Rattle.year.specs.declared.Test.{Test}
 use Rattle.year.specs.declared.Terms.{Terms}
 use Rattle.year.specs.declared.Year.{Year}
-use Rattle.year.specs.Year.{newYear, noTest, accepted, sellers}
+use Rattle.year.specs.Year.{newYear, noTest, pastEvent, pastTest, listed, reduction, deficit, seller}
 use Rattle.year.specs.Steps.{withTerms, withEvent, withTest, withClose}
 use Rattle.year.specs.Sound.{Sound}
-use Rattle.owed.specs.Owed.{compliance, test, amounts}
-use Rattle.owed.specs.Independent.{Pairwise, nil, cons, SameEvent, SameTest, independent-compliance, independent-test}
+use Rattle.owed.specs.Facts.{factsOf, sellers}
+use Rattle.owed.specs.Owed.{called, compliance, test, amounts}
+use Rattle.owed_laws.specs.Independent as independent
 
-module _ {A : Type 0} {R : A → A → Type 0} where
-  pairs-refl : ((a : A) → R a a) → (xs : List A) → Pairwise R xs xs
-  pairs-refl h [] = nil
-  pairs-refl h (x ∷ xs) = cons (h x) (pairs-refl h xs)
+-- what two records list is the same but for the reductions of registrations that are not seller r's
+module _ (T : Terms) (r : ℕ) where
+  pub record SameListing (a b : Listing) : Type 0 where
+    pub listed : (i : ℕ) → listed a i ≡ listed b i
+    pub deficit : (s : ℕ) → deficit a s ≡ deficit b s
+    pub reduction : (i : ℕ) → seller T i ≡ r → reduction a i ≡ reduction b i
 
-  pairs-snoc : {xs zs : List A} {a b : A} → Pairwise R xs zs → R a b → Pairwise R (xs ++ a ∷ []) (zs ++ b ∷ [])
-  pairs-snoc nil h = cons h nil
-  pairs-snoc (cons q t) h = cons q (pairs-snoc t h)
+  pub record SameEvent (a b : Event) : Type 0 where
+    pub month : a .month ≡ b .month
+    pub period : a .period ≡ b .period
+    pub listing : SameListing (a .listing) (b .listing)
 
-  pairs-set : {xs zs : List A} {a b : A} → Pairwise R xs zs → (k : ℕ) → R a b → Pairwise R (set xs k a) (set zs k b)
-  pairs-set nil k h = nil
-  pairs-set (cons q t) zero h = cons h t
-  pairs-set (cons q t) (suc k) h = cons q (pairs-set t k h)
+  pub record SameTest (a b : Test) : Type 0 where
+    pub taken : a .taken ≡ b .taken
+    pub listing : SameListing (a .listing) (b .listing)
 
-  pub pairs-at : {xs zs : List A} → Pairwise R xs zs → (d : A) → R d d → (k : ℕ) → R (getD xs k d) (getD zs k d)
-  pairs-at nil d h k = h
-  pairs-at (cons q t) d h zero = q
-  pairs-at (cons q t) d h (suc k) = pairs-at t d h k
-
-  pairs-map : {S : A → A → Type 0} → ((a b : A) → R a b → S a b) → {xs zs : List A} → Pairwise R xs zs → Pairwise S xs zs
-  pairs-map f nil = nil
-  pairs-map f (cons {a} {b} q t) = cons (f a b q) (pairs-map f t)
-
--- the same test, taken in both years or in neither
-pub record SameTaken (T : Terms) (r : ℕ) (a b : Test) : Type 0 where
-  pub taken : a .taken ≡ b .taken
-  pub test : SameTest T r a b
-
-pub taken-refl : (T : Terms) (r : ℕ) (a : Test) → SameTaken T r a a
-taken-refl T r a =
-    record { taken = refl; test = record { listing = record { listed = λ i. refl; deficit = λ s. refl; reduction = λ i e. refl } } }
+  pub test-refl : (a : Test) → SameTest a a
+  test-refl a =
+      record { taken = refl; listing = record { listed = λ i. refl; deficit = λ s. refl; reduction = λ i e. refl } }
 
 pub record Same (r : ℕ) (y z : Year) : Type 0 where
   pub opened : y .opened ≡ z .opened
@@ -58,14 +48,14 @@ pub record Same (r : ℕ) (y z : Year) : Type 0 where
   pub closed : y .closed ≡ z .closed
   pub held : y .held ≡ z .held
   pub terms : y .terms ≡ z .terms
-  pub events : Pairwise (SameEvent (y .terms) r) (accepted y) (accepted z)
-  pub tests : Pairwise (SameTaken (y .terms) r) (y .tests) (z .tests)
+  pub events : (ev : ℕ) → ev < y .held → SameEvent (y .terms) r (getD (y .events) ev pastEvent) (getD (z .events) ev pastEvent)
+  pub tests : (p : ℕ) → SameTest (y .terms) r (getD (y .tests) p pastTest) (getD (z .tests) p pastTest)
   pub pays : at (y .billed .compliance) r ≡ at (z .billed .compliance) r
   pub fails : at (y .billed .test) r ≡ at (z .billed .test) r
 
 pub same-new : (r : ℕ) → Same r newYear newYear
 same-new r =
-    record { opened = refl; started = refl; closed = refl; held = refl; terms = refl; events = nil; tests = pairs-refl (taken-refl (newYear .terms) r) (newYear .tests); pays = refl; fails = refl }
+    record { opened = refl; started = refl; closed = refl; held = refl; terms = refl; events = λ ev l. absurd (not-suc-le-zero l); tests = λ p. test-refl (newYear .terms) r (getD (newYear .tests) p pastTest); pays = refl; fails = refl }
 
 -- two tables at one place
 table-at : (n : ℕ) (f g : ℕ → ℕ) (i : ℕ) → f i ≡ g i → at (tabulate n f) i ≡ at (tabulate n g) i
@@ -75,6 +65,35 @@ table-at n f g i e = elim (decLt i n) [
 ]
 
 module _ {r : ℕ} {y z : Year} (h : Same r y z) where
+  -- their facts agree in what is seller r's
+  same-facts : independent.Same r (factsOf y) (factsOf z)
+  same-facts =
+      record {
+        leap = rw (h .terms);
+        factor = rw (h .terms);
+        requirement = rw (h .terms);
+        seller = λ i. rw (h .terms);
+        events = h .held;
+        month = λ ev l. h .events ev l .month;
+        period = λ ev l. h .events ev l .period;
+        deficit = λ ev l. h .events ev l .listing .deficit r;
+        testDeficit = λ p. h .tests p .listing .deficit r;
+        product = λ i own. rw (h .terms);
+        committed = λ i own. rw (h .terms);
+        rate = λ i own. rw (h .terms);
+        listed = λ ev l i own. h .events ev l .listing .listed i;
+        reduction = λ ev l i own. h .events ev l .listing .reduction i own;
+        tested = λ p i own. h .tests p .listing .listed i;
+        testReduction = λ p i own. h .tests p .listing .reduction i own;
+      }
+
+  -- every registration is called in both or in neither
+  pub same-called : (i : ℕ) → called (factsOf y) i ≡ called (factsOf z) i
+  unfolding called
+  same-called i =
+      any-same (y .held) {q = λ ev. factsOf z .listed ev i} (λ ev l. h .events ev l .listing .listed i)
+      ∙ ap (λ n. anyTo n (λ ev. factsOf z .listed ev i)) (h .held)
+
   -- before the first event, test or close
   pub same-terms : Sound y → Sound z → y .started ≡ false → (o : Bool) (T : Terms) → Same r (withTerms y o T) (withTerms z o T)
   same-terms S U e o T =
@@ -86,16 +105,14 @@ module _ {r : ℕ} {y z : Year} (h : Same r y z) where
         closed = h .closed;
         held = h .held;
         terms = refl;
-        events = rw (f .0, g .0) nil;
-        tests = rw (f .2, g .2) (pairs-refl (taken-refl T r) (replicate 24 noTest));
+        events = λ ev l. absurd (omega (arith, f .0));
+        tests = rw (f .2, g .2) (λ p. test-refl T r (getD (replicate 24 noTest) p pastTest));
         pays = h .pays;
         fails = h .fails;
       }
 
   pub same-event : Sound y → Sound z → y .held < 16 → {e g : Event} → SameEvent (y .terms) r e g → Same r (withEvent y e) (withEvent z g)
   same-event S U l {e} {g} q =
-      let a : y .held < length (y .events) = omega (arith, S .events .long) in
-      let b : z .held < length (z .events) = omega (arith, U .events .long, h .held) in
       record {
         opened = h .opened;
         started = refl;
@@ -103,18 +120,28 @@ module _ {r : ℕ} {y z : Year} (h : Same r y z) where
         held = ap (λ n. n + 1) (h .held);
         terms = h .terms;
         events =
-            rw (add-one (y .held), add-one (z .held), take-suc-set (y .events) (y .held) e a, take-suc-set (z .events) (z .held) g b)
-            (pairs-snoc (h .events) q);
+            rw (← (h .held))
+            (related-next (SameEvent (y .terms) r) pastEvent (y .events) (z .events) (y .held) (omega (arith, S .events .long)) (omega (arith, U .events .long)) q (h .events));
         tests = h .tests;
         pays = h .pays;
         fails = h .fails;
       }
 
-  pub same-test : (place : ℕ) {t u : Test} → SameTaken (y .terms) r t u → Same r (withTest y place t) (withTest z place u)
-  same-test place q =
-      record { opened = h .opened; started = refl; closed = h .closed; held = h .held; terms = h .terms; events = h .events; tests = pairs-set (h .tests) place q; pays = h .pays; fails = h .fails }
+  pub same-test : Sound y → Sound z → (place : ℕ) {t u : Test} → SameTest (y .terms) r t u → Same r (withTest y place t) (withTest z place u)
+  same-test S U place q =
+      record {
+        opened = h .opened;
+        started = refl;
+        closed = h .closed;
+        held = h .held;
+        terms = h .terms;
+        events = h .events;
+        tests = related-set (SameTest (y .terms) r) pastTest (y .tests) (z .tests) place (S .places ∙ sym (U .places)) q (h .tests);
+        pays = h .pays;
+        fails = h .fails;
+      }
 
-  pub same-close : (k : ℕ) → Same r (withClose y (amounts y k)) (withClose z (amounts z k))
+  pub same-close : (k : ℕ) → Same r (withClose y (amounts (factsOf y) k)) (withClose z (amounts (factsOf z) k))
   unfolding amounts
   same-close k =
       record {
@@ -125,8 +152,6 @@ module _ {r : ℕ} {y z : Year} (h : Same r y z) where
         terms = h .terms;
         events = h .events;
         tests = h .tests;
-        pays = table-at sellers (compliance y k) (compliance z k) r (independent-compliance y z r (h .terms) (h .events) k);
-        fails =
-            table-at sellers (test y k) (test z k) r
-            (independent-test y z r (h .terms) (h .events) (pairs-map (λ a b q. q .test) (h .tests)) k);
+        pays = table-at sellers (compliance (factsOf y) k) (compliance (factsOf z) k) r (independent.same-compliance same-facts k);
+        fails = table-at sellers (test (factsOf y) k) (test (factsOf z) k) r (independent.same-test same-facts k);
       }

@@ -9,7 +9,7 @@ use Rattle.year.specs.declared.Year.{Year}
 use Rattle.history.specs.Runs.{Call, closes, buffered, step, run, statements, soFar}
 use Rattle.history.specs.Columns.{Column, party, column, lineIn}
 use Rattle.history.specs.Kept.{Kept, kept-step, frozen}
-use Rattle.history.specs.Closes.{close-step, close-line, other-billed}
+use Rattle.history.specs.Closes.{close-step, close-line, other-same}
 
 -- one statement says by how much what is billed moves
 says : (c : Column) (i : ℕ) {y : Year} → Kept y → (d : Call) → closes y d ≡ true → party c (y .terms) i ≡ true
@@ -30,7 +30,7 @@ telescopes c i {y} h (d ∷ cs) p = go (closes y d) refl (telescopes c i (kept-s
         → soFar (λ x. lineIn c x i) (cond b (buffered y d ∷ statements (step y d) cs) (statements (step y d) cs)) +ℤ pos (at (column c (y .billed)) i)
         ≡ pos (at (column c (run (step y d) cs .billed)) i)
     go false e ih =
-        ap (λ a. soFar (λ x. lineIn c x i) (statements (step y d) cs) +ℤ pos (at (column c a) i)) (sym (other-billed y d e)) ∙ ih
+        ap (λ a. soFar (λ x. lineIn c x i) (statements (step y d) cs) +ℤ pos (at (column c a) i)) (sym (other-same y d e .0)) ∙ ih
     go true e ih =
         let t : run (step y d) cs .terms ≡ y .terms = frozen (kept-step h d) (rw (close-step y d e)) cs ∙ ap (λ z. z .terms) (close-step y d e) in
         moves-by (lineIn c (buffered y d) i) (soFar (λ x. lineIn c x i) (statements (step y d) cs)) (pos (at (column c (step y d .billed)) i)) (pos (at (column c (y .billed)) i))

@@ -1,6 +1,6 @@
 -- The record layouts (document 01, 'Record layouts'), as one table with a row a kind; what else is known of a kind is derived from its row.
 use Prim.Native.Nat.{ℕ, zero, suc, _+_, _-_, _*_, _^_, max}
-use mathlib.Core.Bool.{Bool, cond}
+use mathlib.Core.Bool.{cond}
 use mathlib.Core.List.{List, [], _∷_, _++_, map}
 use lib.ListN.{length, getD}
 use lib.Dec.{ltb}
@@ -107,16 +107,6 @@ widths rs = map (λ r. r .width) rs
 -- the bytes of a record with these fields
 abbrev pub sizeOf : List Rule → ℕ
 sizeOf rs = bytesFor (total (widths rs))
-
--- has the kind lists: deficits first, entries behind them
-unfoldable pub hasLists : ℕ → Bool
-hasLists k = ltb 0 (length (lists k))
-
-abbrev pub deficitsIn : ℕ → List ℕ → ℕ
-deficitsIn k vs = itemsIn k vs 0
-
-abbrev pub entriesIn : ℕ → List ℕ → ℕ
-entriesIn k vs = itemsIn k vs 1
 
 -- the size of a kind's fields before its list i, at most, where each count is at most its limit
 unfoldable pub mostTo : (Rule → ℕ) → (List Rule → ℕ) → Layout → ℕ → ℕ

@@ -1,25 +1,20 @@
 -- Laws of the layouts: what every row of the table keeps, how a record's fields go on behind its head, and how many they are at most.
-use Prim.Native.Nat.{ℕ, zero, suc, _+_, _-_, _*_, _%_, _^_, _≤_, _<_}
-use mathlib.Core.Bool.{Bool, true, false, _&&_}
+use Prim.Native.Nat.{ℕ, zero, suc, _+_, _-_, _*_, _^_, _≤_, _<_}
+use mathlib.Core.Bool.{Bool, true, _&&_}
 use mathlib.Core.List.{List, [], _∷_, _++_, append-assoc, append-nil}
 use mathlib.Core.Path.{_≡_, refl, sym, ap, _∙_}
-use native.Mathlib.Decide.{decLt}
 use native.Mathlib.Nat.{suc-mul, le-trans, le-max-left, le-max-right, mul-le-mul-right}
 use native.Mathlib.Numerals.{add-one}
 use native.Mathlib.Omega.{arith}
 use borrow.Author.Tests.{leb-true, ltb-true, lt-ltb}
 use lib.Dec.{T, leb, ltb}
 use lib.ListN.{length, getD, length-append, length-map, List·getD-append, List·getD-map}
-use lib.Seq.{getD-append-add}
 use Rattle.ids.specs.Ids.{at}
+use Rattle.ids.specs.Tests.{and-parts}
 use Rattle.bits.specs.Table.{total, times, narrow}
 use Rattle.bits.specs.TableLaws.{total-append}
 use Rattle.bits.specs.Pack.{bytesFor}
 use Rattle.layouts.specs.Layout.{Rule, noRule, Items, noItems, Layout, noLayout, layouts, layoutOf, head, lists, listAt, itemsIn, rulesTo, rulesFor, widths, mostTo, bitsMost, numbersMost, highest, longestRecord, most}
-
-pub and-parts : (a b : Bool) → (a && b) ≡ true → (a ≡ true) × (b ≡ true)
-and-parts true b e = (refl, e)
-and-parts false b e = absurd (let z : _≡_ {A = ℕ} 0 1 = cc in omega arith)
 
 -- does p hold of every element
 unfoldable pub every : {A : Type 0} → (A → Bool) → List A → Bool
@@ -67,6 +62,11 @@ head-small k =
     let a = and-parts (leb (length (head k)) 8) (leb (total (widths (head k))) 56) (every-at small layouts noLayout k refl refl) in
     (leb-true (length (head k)) 8 (a .0), leb-true (total (widths (head k))) 56 (a .1))
 
+-- a kind has at most 16 lists
+pub lists-few : (k : ℕ) → length (lists k) ≤ 16
+unfolding every
+lists-few k = leb-true (length (lists k)) 16 (every-at (λ l. leb (length (l .lists)) 16) layouts noLayout k refl refl)
+
 -- a list's count is among the head's numbers
 pub count-in : (k i : ℕ) → i < length (lists k) → listAt k i .count < length (head k)
 unfolding every
@@ -74,6 +74,15 @@ count-in k i l =
     ltb-true (listAt k i .count) (length (head k))
     (every-in (λ x. ltb (x .count) (length (head k))) (lists k) noItems i
     (every-at (λ l. every (λ x. ltb (x .count) (length (l .head))) (l .lists)) layouts noLayout k refl refl) l)
+
+-- an item has at least one bit, and its fields lie in eight bytes wherever it begins
+pub item-small : (k i : ℕ) → i < length (lists k) → (1 ≤ total (widths (listAt k i .fields))) × (total (widths (listAt k i .fields)) ≤ 57)
+unfolding every
+item-small k i l =
+    let small : Items → Bool = λ x. leb 1 (total (widths (x .fields))) && leb (total (widths (x .fields))) 57 in
+    let t = total (widths (listAt k i .fields)) in
+    let a = and-parts (leb 1 t) (leb t 57) (every-in small (lists k) noItems i (every-at (λ l. every small (l .lists)) layouts noLayout k refl refl) l) in
+    (leb-true 1 t (a .0), leb-true t 57 (a .1))
 
 pub items-count : (k : ℕ) (vs : List ℕ) (i : ℕ) → i < length (lists k) → itemsIn k vs i ≡ at vs (listAt k i .count)
 unfolding itemsIn
@@ -124,8 +133,8 @@ pub rules-more : (k : ℕ) (vs : List ℕ) (i : ℕ) → rulesTo k vs (i + 1) �
 unfolding rulesTo
 rules-more k vs i = rw (add-one i)
 
--- the fields before a list are the head's and others behind them; all fields are those before a list and others behind them
-front-to : (k : ℕ) (vs : List ℕ) (i : ℕ) → (rest : List Rule) × (rulesTo k vs i ≡ head k ++ rest)
+-- the fields before a list are the head's and others behind them
+pub front-to : (k : ℕ) (vs : List ℕ) (i : ℕ) → (rest : List Rule) × (rulesTo k vs i ≡ head k ++ rest)
 unfolding rulesTo
 front-to k vs zero = ([], sym (append-nil (head k)))
 front-to k vs (suc i) =

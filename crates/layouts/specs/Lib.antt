@@ -1,8 +1,7 @@
 pub mod Layout
 pub mod Questions
-pub mod Shapes
+pub mod Parts
 pub mod LayoutLaws
 pub mod QuestionLaws
-pub mod PairLaws
-pub mod ShapeLaws
-pub mod Tables
+pub mod PartLaws
+pub mod ListLaws

@@ -1,40 +1,26 @@
 -- Laws of the questions: what a record's numbers say of it, and what each question depends on.
 use Prim.Native.Nat.{ℕ, zero, suc, _+_, _-_, _*_, _^_, _≤_, _<_}
-use mathlib.Core.Bool.{Bool, true, false, _&&_, and-false, cond}
-use mathlib.Core.List.{List, [], _++_}
+use mathlib.Core.Bool.{Bool, true, false, _&&_, cond}
+use mathlib.Core.List.{List, _++_}
 use mathlib.Core.Path.{_≡_, refl, sym, ap, _∙_}
 use native.Mathlib.Decide.{decLt}
 use native.Mathlib.Nat.{sub-zero, zero-sub, suc-sub-suc, add-zero}
 use native.Mathlib.Omega.{arith}
-use borrow.Author.Tests.{leb-true, ltb-true, lt-leb, le-leb, eqb-true}
+use borrow.Author.Tests.{leb-true, ltb-true, le-leb, eqb-true}
 use lib.Dec.{leb, ltb, eqb}
-use lib.ListN.{length, getD, take, drop, replicate, List·getD-append, List·getD-eq-default}
-use lib.Seq.{getD-append-add}
+use lib.ListN.{length, getD, take, drop, replicate, length-append, length-replicate, List·getD-append, List·getD-eq-default}
+use lib.Seq.{getD-append-add, take-at, drop-append-add}
 use Rattle.ids.specs.Ids.{at, allTo}
-use Rattle.ids.specs.Tests.{all-same, all-at}
+use Rattle.ids.specs.Sets.{getD-replicate-same}
+use Rattle.ids.specs.Tests.{and-parts, all-same, all-at}
 use Rattle.bits.specs.BitLaws.{field-lt, field-past}
-use Rattle.bits.specs.Table.{total, fieldsAt}
+use Rattle.bits.specs.Table.{total, fieldsAt, laid}
 use Rattle.bits.specs.TableLaws.{fields-append, fields-at, length-fields}
 use Rattle.layouts.specs.Layout.{Rule, noRule, Layout, noLayout, layouts, layoutOf, head, lists, listAt, itemsIn, rulesTo, rulesFor, placeOf, widths, sizeOf, longestRecord, most}
-use Rattle.layouts.specs.LayoutLaws.{and-parts, every, every-at, count-in, items-count, width-at, widths-append, length-widths, rules-front, rules-long, rule-head, bits-most, numbers-most}
+use Rattle.layouts.specs.LayoutLaws.{every, every-at, every-in, sound, sound-heads, count-in, items-count, width-at, widths-append, length-widths, rules-front, rules-long, rule-head, bits-most, numbers-most}
 use Rattle.layouts.specs.Questions.{kindOf, headOf, rulesOf, numbersOf, rulesBy, isKind, isWhole, permits, permitted, rises, idsRise, row, consumed}
 
--- a test that fails at one id fails for all
-pub not-all : (n : ℕ) (p : ℕ → Bool) (i : ℕ) → i < n → p i ≡ false → allTo n p ≡ false
-not-all n p i l e = go (allTo n p) refl
-  where
-    go : (b : Bool) → allTo n p ≡ b → b ≡ false
-    go false q = refl
-    go true q =
-        let t = all-at n p q i l in
-        absurd (let z : _≡_ {A = ℕ} 0 1 = cc in omega arith)
-
-zeros-at : (n j : ℕ) → _≡_ {A = ℕ} (getD (replicate n 0) j 0) 0
-zeros-at zero j = refl
-zeros-at (suc n) zero = refl
-zeros-at (suc n) (suc j) = zeros-at n j
-
-pub drop-zeros : (n m : ℕ) → _≡_ {A = List ℕ} (drop n (replicate m 0)) (replicate (m - n) 0)
+drop-zeros : (n m : ℕ) → _≡_ {A = List ℕ} (drop n (replicate m 0)) (replicate (m - n) 0)
 drop-zeros zero m = rw sub-zero
 drop-zeros (suc n) zero = rw zero-sub
 drop-zeros (suc n) (suc m) = rw suc-sub-suc (drop-zeros n m)
@@ -48,23 +34,30 @@ at-row vs j = elim (decLt j (length vs)) [
       let e : j ≡ length vs + (j - length vs) = omega arith in
       ap (λ (i : ℕ). getD (vs ++ replicate (most - length vs) 0) i 0) e
       ∙ getD-append-add vs (replicate (most - length vs) 0) (j - length vs) 0
-      ∙ zeros-at (most - length vs) (j - length vs)
+      ∙ getD-replicate-same (most - length vs) (j - length vs) 0
       ∙ sym (List·getD-eq-default vs 0 (omega arith))
 ]
 
--- a value within its rule, below it and above it
+pub length-row : (vs : List ℕ) → length vs ≤ most → length (row vs) ≡ most
+unfolding row
+length-row vs l = omega (arith, length-append vs (replicate (most - length vs) 0), length-replicate {A = ℕ} (most - length vs) 0)
+
+-- more numbers laid behind those of a row
+pub row-more : (fs ys xs : List ℕ) (p : ℕ) → p ≡ length fs → xs ≡ row fs → laid p ys xs ≡ row (fs ++ ys)
+unfolding row
+row-more fs ys xs p e f =
+    let n = length ys in
+    let front : take p xs ≡ fs = rw f (take-at fs _ p (sym e)) in
+    let at : p + n ≡ length fs + n = omega arith in
+    let back : drop (p + n) xs ≡ replicate (most - length fs - n) 0 = rw (f, at) (drop-append-add fs (replicate (most - length fs) 0) n ∙ drop-zeros n (most - length fs)) in
+    let left : most - length fs - n ≡ most - length (fs ++ ys) = omega (arith, length-append fs ys) in
+    rw (front, back, left)
+
+-- a value within its rule
 module _ (r : Rule) (v : ℕ) where
   pub permits-yes : r .low ≤ v → v ≤ r .high → permits r v ≡ true
   unfolding permits
   permits-yes a b = rw (le-leb (r .low) v a, le-leb v (r .high) b)
-
-  pub permits-below : v < r .low → permits r v ≡ false
-  unfolding permits
-  permits-below a = rw (lt-leb (r .low) v a)
-
-  pub permits-above : r .high < v → permits r v ≡ false
-  unfolding permits
-  permits-above a = rw (lt-leb v (r .high) a, and-false)
 
   pub permits-bounds : permits r v ≡ true → (r .low ≤ v) × (v ≤ r .high)
   unfolding permits
@@ -126,6 +119,14 @@ module _ (k : ℕ) (vs us : List ℕ) (same : (j : ℕ) → j < length (head k) 
   unfolding rulesFor
   rules-same = fields-same (length (lists k))
 
+-- question 5 looks at the numbers alone
+pub rises-all : (vs us : List ℕ) → ((j : ℕ) → at vs j ≡ at us j) → idsRise vs ≡ idsRise us
+unfolding idsRise
+rises-all vs us same =
+    let k = at us 0 in
+    rw (same 0) (all-same (length (lists k)) (λ i l.
+    rw (fields-same k vs us (λ j m. same j) i, counts-same k vs us (λ j m. same j) i) (rises-same vs us (length (listAt k i .fields)) (placeOf k us i) (itemsIn k us i) (λ j m. same _))))
+
 -- a count as written has no more bits than its field
 pub counts-written : (bytes : List ℕ) (k i : ℕ) → i < length (lists k) → itemsIn k (fieldsAt bytes 0 (widths (head k))) i ≤ 2 ^ (getD (head k) (listAt k i .count) noRule) .width - 1
 counts-written bytes k i l =
@@ -144,17 +145,30 @@ pub few-bits : (bytes : List ℕ) → total (widths (rulesOf bytes)) ≤ 8 * lon
 unfolding rulesOf headOf
 few-bits bytes = bits-most (kindOf bytes) _ (counts-written bytes (kindOf bytes))
 
+pub stated-bits : (k : ℕ) (vs : List ℕ) → permitted (head k) vs ≡ true → total (widths (rulesFor k vs)) ≤ 8 * longestRecord
+unfolding sound
+stated-bits k vs e =
+    bits-most k vs (λ i l.
+    let j = listAt k i .count in
+    let r = getD (head k) j noRule in
+    let high = and-parts (leb 1 (r .width) && leb (r .width) 42) (ltb (r .high) (2 ^ r .width)) (every-in sound (head k) noRule j (sound-heads k) (count-in k i l)) .1 in
+    omega (arith, counts-permitted k vs e i l, ltb-true (r .high) (2 ^ r .width) high))
+
 pub few-numbers : (k : ℕ) (vs : List ℕ) → permitted (head k) vs ≡ true → length (rulesFor k vs) ≤ most
 few-numbers k vs e = numbers-most k vs (counts-permitted k vs e)
 
+-- the first of more numbers
+pub fields-front : (bytes : List ℕ) (rs more : List Rule) (j : ℕ) → j < length rs → at (fieldsAt bytes 0 (widths (rs ++ more))) j ≡ at (fieldsAt bytes 0 (widths rs)) j
+fields-front bytes rs more j l =
+    let ws = widths rs in
+    rw (widths-append rs more, fields-append bytes 0 ws (widths more))
+    (List·getD-append (fieldsAt bytes 0 ws) (fieldsAt bytes (0 + total ws) (widths more)) 0 j (omega (arith, length-fields bytes 0 ws, length-widths rs)))
+
 -- a record's first numbers are its head's
-pub fields-head : (bytes : List ℕ) (k : ℕ) (us : List ℕ) (j : ℕ) → j < length (head k) → at (fieldsAt bytes 0 (widths (rulesFor k us))) j ≡ at (fieldsAt bytes 0 (widths (head k))) j
+fields-head : (bytes : List ℕ) (k : ℕ) (us : List ℕ) (j : ℕ) → j < length (head k) → at (fieldsAt bytes 0 (widths (rulesFor k us))) j ≡ at (fieldsAt bytes 0 (widths (head k))) j
 fields-head bytes k us j l =
     let r = rules-front k us in
-    let ws = widths (head k) in
-    let ts = widths (r .0) in
-    rw (r .1, widths-append (head k) (r .0), fields-append bytes 0 ws ts)
-    (List·getD-append (fieldsAt bytes 0 ws) (fieldsAt bytes (0 + total ws) ts) 0 j (omega (arith, length-fields bytes 0 ws, length-widths (head k))))
+    rw (r .1) (fields-front bytes (head k) (r .0) j l)
 
 past-table : (k : ℕ) → length layouts ≤ k → layoutOf k ≡ noLayout
 past-table k l = List·getD-eq-default layouts noLayout l

@@ -1,27 +1,29 @@
 // Questions 1, 3, 4 and 5, asked of a record's numbers and bytes.
 use bits::Cursor;
 ghost use mathlib.Core.Path.{_≡_};
+ghost use mathlib.Core.Bool.{true};
 ghost use Prim.Native.Nat.{_+_, _-_, _*_, _^_, _≤_, _<_};
 ghost use lib.Dec.{eqb};
-ghost use lib.ListN.{length};
+ghost use lib.ListN.{length, drop};
+ghost use Rattle.ids.specs.Ids.{at};
 ghost use Rattle.bits.specs.Bits.{fieldAt};
 ghost use Rattle.bits.specs.Pack.{bytesFor};
-ghost use Rattle.layouts.specs.Layout.{layouts, head};
-ghost use Rattle.layouts.specs.Questions.{isKind, permitted, rises};
-ghost use Rattle.layouts.specs.Shapes.{pairsPermit, listsPermit, listsRise, rulesIn, Sized};
-use crate::Shape;
-use crate::count_at;
-use crate::highs_of_heads;
-use crate::lows_of_heads;
-use crate::start_at;
+ghost use Rattle.layouts.specs.Layout.{layouts, head, rulesFor};
+ghost use Rattle.layouts.specs.Questions.{isKind, permitted, rises, idsRise};
+ghost use Rattle.layouts.specs.Parts.{rules, lows as lowest, highs as highest, within, columnWithin, itemsWithin, Stated};
+use crate::lists_of;
+use crate::part_at;
+use crate::shapes::head_of;
+use crate::shapes::list_at;
 
 pub fn is_kind(kind: u64) -> bool
     ensures { λ r. ⌜ r ≡ isKind kind ⌝ }
 {
-    if 7 <= kind {
+    if crate::KINDS <= kind {
         return false;
     }
-    0 < count_at(kind as usize)
+    let head = part_at(kind as usize, 0);
+    head.start < head.end
 }
 
 fn wide(x: u32) -> u64
@@ -30,24 +32,19 @@ fn wide(x: u32) -> u64
     x as u64
 }
 
-// Is each number of the head permitted?
-pub fn head_permitted(kind: usize, values: &[u64]) -> bool
-    requires { ⌜ kind < length layouts ⌝ }
-    requires { ⌜ length (head kind) ≤ length (now values) ⌝ }
-    ensures { λ r. ⌜ r ≡ permitted (head kind) (now (values .entry)) ⌝ }
+// Is each number from a place on within its limits?
+fn are_within(lows: &[u32], highs: &[u32], values: &[u64], from: usize) -> bool
+    requires { ⌜ length (now highs) ≡ length (now lows) ⌝ }
+    requires { ⌜ from + length (now lows) ≤ length (now values) ⌝ }
+    ensures { λ r. ⌜ r ≡ within (now (lows .entry)) (now (highs .entry)) (drop from (now (values .entry))) ⌝ }
 {
-    let start = start_at(kind);
-    let n = count_at(kind);
-    let lows = lows_of_heads();
-    let highs = highs_of_heads();
     let mut j = 0;
-    while j < n {
-        let i = start + j;
-        let v = values[j];
-        if v < wide(lows[i]) {
+    while j < lows.len() {
+        let v = values[from + j];
+        if v < wide(lows[j]) {
             return false;
         }
-        if wide(highs[i]) < v {
+        if wide(highs[j]) < v {
             return false;
         }
         j += 1;
@@ -55,68 +52,128 @@ pub fn head_permitted(kind: usize, values: &[u64]) -> bool
     true
 }
 
-// Are the n pairs from a place on permitted, with ids up to last and kW from low to high?
-fn pairs_permitted(values: &[u64], at: usize, n: usize, last: u64, low: u64, high: u64) -> bool
-    requires { ⌜ at + 2 * n ≤ length (now values) ⌝ }
-    ensures { λ r. ⌜ r ≡ pairsPermit (now (values .entry)) at n last low high ⌝ }
+// Is each of n numbers, so far apart from a place on, within these limits?
+fn column_within(low: u64, high: u64, values: &[u64], from: usize, apart: usize, n: usize) -> bool
+    requires { ⌜ n * apart ≤ length (now values) ⌝ }
+    requires { ⌜ from + n * apart < length (now values) + apart ⌝ }
+    ensures { λ r. ⌜ r ≡ columnWithin low high (now (values .entry)) from apart n ⌝ }
 {
+    let mut p = from;
     let mut k = 0;
     while k < n {
-        let p = at + 2 * k;
-        let kw = values[p + 1];
-        if last < values[p] {
+        let v = values[p];
+        if v < low {
             return false;
         }
-        if kw < low {
+        if high < v {
             return false;
         }
-        if high < kw {
-            return false;
-        }
+        p += apart;
         k += 1;
     }
     true
 }
 
-// Is each number of the lists permitted?
-pub fn lists_permitted(s: Shape, values: &[u64]) -> bool
-    requires { ⌜ Sized s ⌝ }
-    requires { ⌜ length (rulesIn s) ≤ length (now values) ⌝ }
-    ensures { λ r. ⌜ r ≡ listsPermit s (now (values .entry)) ⌝ }
+// Is each number of n items in a row within its limits? Field by field, so that the limits are looked up once.
+fn items_within(lows: &[u32], highs: &[u32], values: &[u64], from: usize, n: usize) -> bool
+    requires { ⌜ length (now highs) ≡ length (now lows) ⌝ }
+    requires { ⌜ from + n * length (now lows) ≤ length (now values) ⌝ }
+    ensures { λ r. ⌜ r ≡ itemsWithin (now (lows .entry)) (now (highs .entry)) (now (values .entry)) from n ⌝ }
 {
-    if !pairs_permitted(values, s.count, s.deficits, 15, 1, 1000000) {
-        return false;
+    let mut j = 0;
+    while j < lows.len() {
+        if !column_within(
+            wide(lows[j]),
+            wide(highs[j]),
+            values,
+            from + j,
+            lows.len(),
+            n,
+        ) {
+            return false;
+        }
+        j += 1;
     }
-    pairs_permitted(values, s.count + 2 * s.deficits, s.entries, 63, 0, 100000)
+    true
 }
 
-// Do the ids of the n pairs from a place on rise strictly?
-fn rising(values: &[u64], at: usize, n: usize) -> bool
-    requires { ⌜ at + 2 * n ≤ length (now values) ⌝ }
-    ensures { λ r. ⌜ r ≡ rises (now (values .entry)) 2 at n ⌝ }
+// Is each number of the head permitted?
+pub fn head_permitted(kind: usize, lows: &[u32], highs: &[u32], values: &[u64]) -> bool
+    requires { ⌜ kind < length layouts ⌝ }
+    requires { ⌜ now lows ≡ lowest rules ⌝ }
+    requires { ⌜ now highs ≡ highest rules ⌝ }
+    requires { ⌜ length (head kind) ≤ length (now values) ⌝ }
+    ensures { λ r. ⌜ r ≡ permitted (head kind) (now (values .entry)) ⌝ }
 {
+    let part = part_at(kind, 0);
+    let start = part.start;
+    let end = part.end;
+    are_within(&lows[start..end], &highs[start..end], values, 0)
+}
+
+// With a permitted head, is each number permitted?
+pub fn lists_permitted(kind: usize, lows: &[u32], highs: &[u32], values: &[u64]) -> bool
+    requires { ⌜ now lows ≡ lowest rules ⌝ }
+    requires { ⌜ now highs ≡ highest rules ⌝ }
+    requires { ⌜ Stated kind (now values) ⌝ }
+    requires { ⌜ length (rulesFor kind (now values)) ≤ length (now values) ⌝ }
+    requires { ⌜ permitted (head kind) (now values) ≡ true ⌝ }
+    ensures { λ r. ⌜ r ≡ permitted (rulesFor kind (now (values .entry))) (now (values .entry)) ⌝ }
+{
+    let n = lists_of(kind);
+    let mut p = head_of(kind);
+    let mut i = 0;
+    while i < n {
+        let list = list_at(kind, i, values);
+        let start = list.start;
+        let end = list.end;
+        if !items_within(&lows[start..end], &highs[start..end], values, p, list.items) {
+            return false;
+        }
+        p += list.numbers;
+        i += 1;
+    }
+    true
+}
+
+// Do the ids of n items of so many fields rise strictly, from a place on?
+fn rising(values: &[u64], fields: usize, from: usize, n: usize) -> bool
+    requires { ⌜ 1 ≤ fields ⌝ }
+    requires { ⌜ from + n * fields ≤ length (now values) ⌝ }
+    ensures { λ r. ⌜ r ≡ rises (now (values .entry)) fields from n ⌝ }
+{
+    let mut p = from;
     let mut k = 0;
     while k + 1 < n {
-        let p = at + 2 * k;
-        let q = at + 2 * (k + 1);
+        let q = p + fields;
         if values[q] <= values[p] {
             return false;
         }
+        p = q;
         k += 1;
     }
     true
 }
 
 // Do the ids rise strictly in each list?
-pub fn lists_rise(s: Shape, values: &[u64]) -> bool
-    requires { ⌜ Sized s ⌝ }
-    requires { ⌜ length (rulesIn s) ≤ length (now values) ⌝ }
-    ensures { λ r. ⌜ r ≡ listsRise s (now (values .entry)) ⌝ }
+pub fn lists_rise(kind: usize, values: &[u64]) -> bool
+    requires { ⌜ at (now values) 0 ≡ kind ⌝ }
+    requires { ⌜ Stated kind (now values) ⌝ }
+    requires { ⌜ length (rulesFor kind (now values)) ≤ length (now values) ⌝ }
+    ensures { λ r. ⌜ r ≡ idsRise (now (values .entry)) ⌝ }
 {
-    if !rising(values, s.count, s.deficits) {
-        return false;
+    let n = lists_of(kind);
+    let mut p = head_of(kind);
+    let mut i = 0;
+    while i < n {
+        let list = list_at(kind, i, values);
+        if !rising(values, list.end - list.start, p, list.items) {
+            return false;
+        }
+        p += list.numbers;
+        i += 1;
     }
-    rising(values, s.count + 2 * s.deficits, s.entries)
+    true
 }
 
 // Are the bits from the cursor on zero up to the end of its byte?

@@ -1,15 +1,20 @@
-// The six record layouts as tables, and the shape of a record.
+// The record layouts as tables, a row a kind, and what the code looks up in them.
 ghost use mathlib.Core.Path.{_≡_};
-ghost use Prim.Native.Nat.{_≤_, _<_};
+ghost use mathlib.Core.Bool.{true};
+ghost use Prim.Native.Nat.{_+_, _*_, _≤_, _<_};
 ghost use lib.ListN.{length};
 ghost use Rattle.bits.specs.Table.{total};
-ghost use Rattle.layouts.specs.Layout.{layouts, head, deficit, entry, hasLists, widths, sizeOf};
-ghost use Rattle.layouts.specs.Shapes.{heads, join, startOf, lows, highs, rulesIn, Shaped, Sized};
+ghost use Rattle.layouts.specs.Layout.{layouts, head, lists, rulesFor, widths, longestRecord};
+ghost use Rattle.layouts.specs.Parts.{startOf, kinds, parts, rules, lows, highs, rowOf, rowAt, Placed};
 
 pub mod checks;
+pub mod shapes;
 
-// The heads of kinds 1 to 6, the fields before the lists, one after another: their widths in bits,
-const WIDTHS: [u8; 29] = [
+// How many kinds the tables have, 0 among them, which is none.
+const KINDS: u64 = 7;
+
+// The fields of every part of every kind, part after part: a kind's head, then an item of each of its lists. Kind 0 has none. Their widths in bits,
+const WIDTHS: [u8; 37] = [
     4, // opening
     1, // leap
     14, // DR Factor
@@ -31,18 +36,26 @@ const WIDTHS: [u8; 29] = [
     2, // period
     5, // deficits
     7, // entries
+    4, // deficit: seller
+    20, // deficit kW
+    6, // entry: registration
+    17, // reduction kW
     4, // test
     3, // zone
     2, // product
     4, // month
     5, // deficits
     7, // entries
+    4, // deficit: seller
+    20, // deficit kW
+    6, // entry: registration
+    17, // reduction kW
     4, // close
     4, // month
 ];
 
 // their lowest permitted values,
-const LOWS: [u32; 29] = [
+const LOWS: [u32; 37] = [
     1, // opening
     0, // leap
     1, // DR Factor
@@ -64,18 +77,26 @@ const LOWS: [u32; 29] = [
     1, // period
     0, // deficits
     1, // entries
+    0, // deficit: seller
+    1, // deficit kW
+    0, // entry: registration
+    0, // reduction kW
     5, // test
     0, // zone
     0, // product
     1, // month
     0, // deficits
     1, // entries
+    0, // deficit: seller
+    1, // deficit kW
+    0, // entry: registration
+    0, // reduction kW
     6, // close
     1, // month
 ];
 
 // and their highest.
-const HIGHS: [u32; 29] = [
+const HIGHS: [u32; 37] = [
     1, // opening
     1, // leap
     12000, // DR Factor
@@ -97,137 +118,111 @@ const HIGHS: [u32; 29] = [
     3, // period
     16, // deficits
     64, // entries
+    15, // deficit: seller
+    1000000, // deficit kW
+    63, // entry: registration
+    100000, // reduction kW
     5, // test
     7, // zone
     2, // product
     12, // month
     16, // deficits
     64, // entries
+    15, // deficit: seller
+    1000000, // deficit kW
+    63, // entry: registration
+    100000, // reduction kW
     6, // close
     15, // month
 ];
 
-// The widths of a deficit's fields, seller and kW, and of an entry's, registration and reduction kW.
-const DEFICIT: [u8; 2] = [4, 20];
-
-const ENTRY: [u8; 2] = [6, 17];
-
-// For each kind where its head starts among them, how many fields it has, and how many bits they take. There is no kind 0.
-const STARTS: [u8; 7] = [0, 0, 4, 12, 15, 21, 27];
-
-const COUNTS: [u8; 7] = [0, 4, 8, 3, 6, 6, 2];
-
-const BITS: [u8; 7] = [0, 33, 56, 28, 25, 25, 8];
-
-// A record's kind, the fields and the bits of its head, and how many deficits and entries follow it.
-pub struct Shape {
-    pub kind: usize,
-    pub count: usize,
+// Where the fields of a part stand in the tables, from start up to end; the bits that they take; and the place of the part's count among the numbers of its head, 0 for a head.
+pub struct Part {
+    pub start: usize,
+    pub end: usize,
     pub bits: usize,
-    pub deficits: usize,
-    pub entries: usize,
+    pub count: usize,
 }
 
-pub fn widths_of_heads() -> [u8; 29]
-    ensures { λ r. ⌜ r ≡ widths (join heads) ⌝ }
+pub fn widths_of_parts() -> [u8; 37]
+    ensures { λ r. ⌜ r ≡ widths rules ⌝ }
 {
     WIDTHS
 }
 
-pub fn lows_of_heads() -> [u32; 29]
-    ensures { λ r. ⌜ r ≡ lows (join heads) ⌝ }
+pub fn lows_of_parts() -> [u32; 37]
+    ensures { λ r. ⌜ r ≡ lows rules ⌝ }
 {
     LOWS
 }
 
-pub fn highs_of_heads() -> [u32; 29]
-    ensures { λ r. ⌜ r ≡ highs (join heads) ⌝ }
+pub fn highs_of_parts() -> [u32; 37]
+    ensures { λ r. ⌜ r ≡ highs rules ⌝ }
 {
     HIGHS
 }
 
-pub fn widths_of_deficit() -> [u8; 2]
-    ensures { λ r. ⌜ r ≡ widths deficit ⌝ }
+// The first part of a kind; past the last kind, the end of the parts.
+fn first_of(kind: usize) -> usize
+    requires { ⌜ kind ≤ length layouts ⌝ }
+    ensures { λ r. ⌜ r ≡ startOf kinds kind ⌝ }
 {
-    DEFICIT
-}
-
-pub fn widths_of_entry() -> [u8; 2]
-    ensures { λ r. ⌜ r ≡ widths entry ⌝ }
-{
-    ENTRY
-}
-
-pub fn start_at(kind: usize) -> usize
-    requires { ⌜ kind < length layouts ⌝ }
-    ensures { λ r. ⌜ r ≡ startOf heads kind ⌝ }
-{
-    STARTS[kind] as usize
-}
-
-pub fn count_at(kind: usize) -> usize
-    requires { ⌜ kind < length layouts ⌝ }
-    ensures { λ r. ⌜ r ≡ length (head kind) ⌝ }
-{
-    COUNTS[kind] as usize
-}
-
-fn bits_at(kind: usize) -> usize
-    requires { ⌜ kind < length layouts ⌝ }
-    ensures { λ r. ⌜ r ≡ total (widths (head kind)) ⌝ }
-{
-    BITS[kind] as usize
-}
-
-// The shape that a head's numbers state: events and tests have lists, counted in numbers 4 and 5.
-pub fn shape_of(kind: usize, values: &[u64]) -> Shape
-    requires { ⌜ kind < length layouts ⌝ }
-    requires { ⌜ length (head kind) ≤ length (now values) ⌝ }
-    ensures { λ r. ⌜ Shaped kind (now (values .entry)) r ⌝ }
-{
-    let count = count_at(kind);
-    let bits = bits_at(kind);
-    if !has_lists(kind) {
-        return Shape {
-            kind: kind,
-            count: count,
-            bits: bits,
-            deficits: 0,
-            entries: 0,
-        };
+    match kind {
+        0 => 0,
+        1 => 1,
+        2 => 2,
+        3 => 3,
+        4 => 4,
+        5 => 7,
+        6 => 10,
+        _ => 11,
     }
-    Shape {
-        kind: kind,
-        count: count,
+}
+
+// How many lists a kind has.
+pub fn lists_of(kind: usize) -> usize
+    requires { ⌜ kind < length layouts ⌝ }
+    ensures { λ r. ⌜ r ≡ length (lists kind) ⌝ }
+{
+    first_of(kind + 1) - first_of(kind) - 1
+}
+
+fn row(start: usize, end: usize, bits: usize, count: usize) -> Part
+    ensures { λ r. ⌜ r ≡ rowOf start end bits count ⌝ }
+{
+    Part {
+        start: start,
+        end: end,
         bits: bits,
-        deficits: values[4] as usize,
-        entries: values[5] as usize,
+        count: count,
     }
 }
 
-fn has_lists(kind: usize) -> bool
-    ensures { λ r. ⌜ r ≡ hasLists kind ⌝ }
+// The parts in order. A match, not a table: the compiler keeps its rows as constants, where it would make a table anew at each look.
+fn row_at(part: usize) -> Part
+    requires { ⌜ part < length parts ⌝ }
+    ensures { λ r. ⌜ r ≡ rowAt part ⌝ }
 {
-    if kind < 4 { false } else { kind < 6 }
+    match part {
+        0 => row(0, 0, 0, 0), // no kind
+        1 => row(0, 4, 33, 0), // opening
+        2 => row(4, 12, 56, 0), // registration
+        3 => row(12, 15, 28, 0), // LSE
+        4 => row(15, 21, 25, 0), // event
+        5 => row(21, 23, 24, 4), // its deficits
+        6 => row(23, 25, 23, 5), // its entries
+        7 => row(25, 31, 25, 0), // test
+        8 => row(31, 33, 24, 4), // its deficits
+        9 => row(33, 35, 23, 5), // its entries
+        _ => row(35, 37, 8, 0), // close
+    }
 }
 
-pub fn count_of(s: Shape) -> usize
-    requires { ⌜ Sized s ⌝ }
-    ensures { λ r. ⌜ r ≡ length (rulesIn s) ⌝ }
+// Part 0 of a kind is its head, part i + 1 its list i.
+pub fn part_at(kind: usize, i: usize) -> Part
+    requires { ⌜ kind < length layouts ⌝ }
+    requires { ⌜ i ≤ length (lists kind) ⌝ }
+    ensures { λ r. ⌜ Placed kind i r ⌝ }
 {
-    s.count + 2 * s.deficits + 2 * s.entries
-}
-
-pub fn bits_of(s: Shape) -> usize
-    requires { ⌜ Sized s ⌝ }
-    ensures { λ r. ⌜ r ≡ total (widths (rulesIn s)) ⌝ }
-{
-    s.bits + 24 * s.deficits + 23 * s.entries
-}
-
-pub fn size_of(s: Shape) -> usize
-    requires { ⌜ Sized s ⌝ }
-    ensures { λ r. ⌜ r ≡ sizeOf (rulesIn s) ⌝ }
-{
-    (bits_of(s) + 7) / 8
+    row_at(first_of(kind) + i)
 }

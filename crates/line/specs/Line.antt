@@ -9,7 +9,7 @@ use lib.ListN.{length, take, replicate, length-append}
 use lib.Seq.{take-append-seam}
 use Rattle.layouts.specs.Layout.{most}
 use Rattle.layouts.specs.Questions.{numbersOf, recordNumber, row}
-use Rattle.records.specs.Calls.{Parses}
+use Rattle.records.specs.Calls.{Fills}
 use Rattle.records.specs.Accepted.{accepted, taken-numbers, numbers-few}
 use Rattle.text.specs.Lines.{numbersLine}
 use Rattle.report.specs.Text.{refusalLine}
@@ -18,7 +18,7 @@ use Rattle.report.specs.Text.{refusalLine}
 unfoldable pub recordLine : ℕ → List ℕ → List ℕ
 recordLine position bytes = cond (eqb (recordNumber bytes) 0) (numbersLine (numbersOf bytes)) (refusalLine position (recordNumber bytes))
 
-module _ (bytes : List ℕ) {number used count : ℕ} {values : List ℕ} (p : Parses bytes number used count values) (e : number ≡ 0) where
+module _ (bytes : List ℕ) {number used count : ℕ} {values : List ℕ} (p : Fills bytes number used count values) (e : number ≡ 0) where
   zero : recordNumber bytes ≡ 0
   zero = sym (p .numbers) ∙ e
 
@@ -26,7 +26,7 @@ module _ (bytes : List ℕ) {number used count : ℕ} {values : List ℕ} (p : P
   counts = p .counts ∙ ap length (taken-numbers bytes zero)
 
   rows : values ≡ row (numbersOf bytes)
-  rows = p .rows ∙ ap row (taken-numbers bytes zero)
+  rows = p .rows zero
 
   pub count-few : count ≤ most
   count-few = omega (arith, counts, numbers-few bytes (accepted bytes zero))

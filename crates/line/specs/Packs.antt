@@ -17,7 +17,7 @@ use Rattle.layouts.specs.Questions.{rulesBy}
 use Rattle.records.specs.Calls.{bytesBy, Writes, writeNumber, writeBuffer}
 use Rattle.records.specs.RoundTrip.{writable}
 use Rattle.text.specs.Pasted.{Pasted, none}
-use Rattle.text.specs.Words.{numbers}
+use Rattle.scan.specs.Words.{numbers}
 
 -- the numbers that are kept of a line: more than a record has are a wrong count
 abbrev pub kept : List ℕ → List ℕ

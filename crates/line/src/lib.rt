@@ -8,11 +8,11 @@ ghost use Rattle.report.specs.Text.{room};
 ghost use Rattle.line.specs.Line.{recordLine};
 ghost use Rattle.line.specs.Packs.{lineNumber, lineRecord};
 
-// The numbers of the longest record and one more, so that writing refuses the count of a longer line.
-const NUMBERS: usize = 167;
+// The most numbers of a record and one more, so that writing refuses the count of a longer line.
+const NUMBERS: usize = records::NUMBERS + 1;
 
 // The bytes of the longest record that is written: 25 bits, 16 deficits of 24 and 64 entries of 23.
-pub const RECORD: usize = 236;
+pub const RECORD: usize = (25 + 16 * 24 + 64 * 23 + 7) / 8;
 
 // What printing one record leaves: its number, its bytes, and the place after its line.
 pub struct Printed {
@@ -27,7 +27,8 @@ pub fn print(position: u64, bytes: &[u8], out: &mut [u8], at: usize) -> Printed
     ensures { λ r. ⌜ (r .number ≡ recordNumber (now (bytes .entry))) × (r .used ≡ consumed (now (bytes .entry))) ⌝ }
     ensures { λ r. ⌜ Pasted (now (out .entry)) (now (out .exit)) at (recordLine position (now (bytes .entry))) (r .at) ⌝ }
 {
-    let record = records::parse(bytes);
+    let mut values = [0u64; records::NUMBERS];
+    let record = records::parse(bytes, &mut values);
     let number = record.number;
     let used = record.used;
     if number != 0 {
@@ -38,9 +39,8 @@ pub fn print(position: u64, bytes: &[u8], out: &mut [u8], at: usize) -> Printed
             at: next,
         };
     }
-    let values = record.values;
     let count = record.count;
-    let next = text::lines::numbers_line(&values[..count], out, at);
+    let next = text::numbers_line(&values[..count], out, at);
     Printed {
         number: number,
         used: used,
@@ -64,7 +64,7 @@ pub fn pack(line: &[u8], cut: bool, out: &mut [u8], at: usize) -> Packed
         return Packed { number: 3, at: at };
     }
     let mut numbers = [0u64; NUMBERS];
-    let n = text::decimals(line, &mut numbers);
+    let n = scan::decimals(line, &mut numbers);
     let answer = records::write(&numbers[..n], &mut out[at..]);
     let used = answer.used;
     let next = at + used;

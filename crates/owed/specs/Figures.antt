@@ -1,71 +1,65 @@
 -- Figures of the definitions: document 01's starred ones in one table, and more that were worked by hand.
 use Prim.Native.Nat.{ℕ}
 use mathlib.Core.List.{List, [], _∷_}
-use mathlib.Core.Bool.{true}
+use mathlib.Core.Bool.{Bool, true, false}
 use mathlib.Core.Path.{_≡_, refl}
-use lib.Dec.{eqb}
-use Rattle.ids.specs.Ids.{at, sumTo}
+use lib.ListN.{length}
+use Rattle.ids.specs.Ids.{at, holds, sumTo, anyTo}
 use Rattle.units.specs.Units.{convert}
-use Rattle.calendar.specs.Calendar.{limited, annual, offPeak, due}
+use Rattle.calendar.specs.Calendar.{limited, annual, offPeak, days, due}
 use Rattle.allotment.specs.Allot.{share}
-use Rattle.year.specs.declared.Listing.{Listing}
-use Rattle.year.specs.declared.Event.{Event}
-use Rattle.year.specs.declared.Terms.{Terms}
-use Rattle.year.specs.Year.{listed, reduction, deficit, seller, committed, rate}
-use Rattle.owed.specs.Owed.{calls, uncapped, raised, unforced, part, total, tested, base, shortfall, shortOf, u, cap, asked, daily, overEvents}
+use Rattle.owed.specs.Facts.{Facts}
+use Rattle.owed.specs.Owed.{beforeCap, raised, unforced, ofSeller, shareOf, called, calls, shortfallOver, u, cap, daily, taken, charge, excess, e, B}
 
--- Year A, with registration 0 of this product
-abbrev yearA : ℕ → Terms
-yearA p =
+-- Year A, with registration 0 of this product and registration 1 of this seller. Events of these periods list these registrations, a test both, with
+-- reductions of v and 2,100.
+abbrev yearA : ℕ → ℕ → List ℕ → List Bool → ℕ → Facts
+yearA product seller periods listed v =
     record {
       leap = 0;
       factor = 9500;
       requirement = 10800;
-      registrations =
-          record { known = true; seller = 0; area = 1; zone = 1; product = p; committed = record { 0 = 1000 }; rate = 10000 }
-          ∷ record { known = true; seller = 1; area = 1; zone = 1; product = limited; committed = record { 0 = 2000 }; rate = 15000 }
-          ∷ [];
-      obligations = 3000 ∷ 1000 ∷ [];
+      known = holds (true ∷ true ∷ []);
+      seller = at (0 ∷ seller ∷ []);
+      product = at (product ∷ limited ∷ []);
+      committed = at (1000 ∷ 2000 ∷ []);
+      rate = at (10000 ∷ 15000 ∷ []);
+      obligation = at (3000 ∷ 1000 ∷ []);
+      events = length periods;
+      month = λ ev. 1;
+      period = at periods;
+      listed = λ ev. holds listed;
+      reduction = λ ev. at (v ∷ 2100 ∷ []);
+      deficit = λ ev s. 0;
+      tested = λ p. holds (true ∷ true ∷ []);
+      testReduction = λ p. at (v ∷ 2100 ∷ []);
+      testDeficit = λ p s. 0;
     }
 
-abbrev A : Terms
-A = yearA limited
+-- with one on-peak event of both registrations
+abbrev A : Facts
+A = yearA limited 1 (1 ∷ []) (true ∷ true ∷ []) 600
 
-abbrev twin : Terms
-twin = yearA annual
-
--- both registrations are listed: reductions v and 2,100, and seller 0's deficit d
-abbrev both : ℕ → ℕ → Listing
-both v d = record { listed = true ∷ true ∷ []; reductions = v ∷ 2100 ∷ []; deficits = d ∷ [] }
-
--- a June event of this period
-abbrev june : ℕ → ℕ → Event
-june period v = record { area = 1; month = 1; period = period; listing = both v 0 }
-
--- what events take of the twin's cap, where two on-peak events and an off-peak one list it and it reduces nothing
-abbrev taken : List Event → ℕ
-taken evs =
-    let n = calls (june 1 0 ∷ june 1 0 ∷ june offPeak 0 ∷ []) in
-    overEvents twin n (λ ev t. daily twin n ev 0 (t 0)) (λ i. 0) evs
+-- with an Annual twin of registration 0, which reduces nothing in two on-peak events and an off-peak third
+abbrev twin : Facts
+twin = yearA annual 1 (1 ∷ 1 ∷ offPeak ∷ []) (true ∷ true ∷ []) 0
 
 figures : (unforced A 400 ≡ 410)
     × (share 3 (λ i. 1) 10 0 ≡ 3) × (share 3 (λ i. 1) 10 1 ≡ 3) × (share 3 (λ i. 1) 10 2 ≡ 4)
     × (share 2 (at (0 ∷ 5 ∷ [])) 10 0 ≡ 0) × (share 2 (at (0 ∷ 5 ∷ [])) 10 1 ≡ 10) × (share 1 (at (0 ∷ [])) 10 0 ≡ 0)
-    × (uncapped 1 1 410 10000 ≡ 2050000) × (uncapped 1 2 410 10000 ≡ 2050000) × (uncapped 1 3 410 10000 ≡ 1366666) × (uncapped offPeak 0 410 10000 ≡ 78846)
-    × (u A (june 1 600) 0 ≡ 410)
-    × (asked A (λ i. 1) (june 1 600) 0 ≡ 2050000) × (asked A (λ i. 2) (june 1 600) 0 ≡ 2050000) × (asked A (λ i. 3) (june 1 600) 0 ≡ 1366666)
-    × (asked A (λ i. 0) (june offPeak 600) 0 ≡ 78846)
-    × (u twin (june 1 0) 0 ≡ 1026) × (cap twin 0 ≡ 10260000)
-    × (taken (june 1 0 ∷ june 1 0 ∷ []) ≡ 10260000) × (taken (june 1 0 ∷ june 1 0 ∷ june offPeak 0 ∷ []) ≡ 10260000)
+    × (u A 0 0 ≡ 410) × (daily A 0 0 0 ≡ 2050000)
+    × (beforeCap 1 1 410 10000 ≡ 2050000) × (beforeCap 1 2 410 10000 ≡ 2050000) × (beforeCap 1 3 410 10000 ≡ 1366666)
+    × (beforeCap offPeak 0 410 10000 ≡ 78846)
+    × (u twin 0 0 ≡ 1026) × (u twin 1 0 ≡ 1026) × (cap twin 0 ≡ 10260000) × (taken twin 2 0 ≡ 10260000) × (taken twin 3 0 ≡ 10260000)
     × (due limited 1 ≡ 5) × (due limited 4 ≡ 7) × (due annual 12 ≡ 15)
-unfolding sumTo convert due share listed reduction deficit seller committed rate calls uncapped part total shortfall shortOf u cap asked daily overEvents
+unfolding sumTo convert due share beforeCap unforced ofSeller shareOf calls shortfallOver u cap daily taken
 figures =
-    (refl, refl, refl, refl, refl, refl, refl, refl, refl, refl, refl, refl, refl, refl, refl, refl, refl, refl, refl, refl, refl, refl, refl)
+    (refl, refl, refl, refl, refl, refl, refl, refl, refl, refl, refl, refl, refl, refl, refl, refl, refl, refl, refl, refl, refl)
 
 -- 1,000 committed and 600 given leave 400 kW, which convert to 410; less a deficit of 100 that is 310. Taken off before
 -- conversion it would leave 300 kW, which convert to 307.
-deficit-figure : shortfall A (both 600 100) (listed (both 600 100)) 0 ≡ 310
-unfolding sumTo convert listed reduction deficit seller committed part total shortfall
+deficit-figure : shortfallOver A (holds (true ∷ true ∷ [])) (at (600 ∷ 2100 ∷ [])) (at (100 ∷ [])) 0 ≡ 310
+unfolding sumTo convert unforced ofSeller shortfallOver
 deficit-figure = refl
 
 -- a fifth of 5,000 is below 2,000, of 20,000 above
@@ -73,21 +67,18 @@ raised-figures : (raised 5000 ≡ 7000) × (raised 20000 ≡ 24000)
 unfolding raised
 raised-figures = (refl, refl)
 
--- Year A with both registrations seller 0's
-abbrev pair : Terms
-pair =
-    record {
-      leap = 0;
-      factor = 9500;
-      requirement = 10800;
-      registrations =
-          record { known = true; seller = 0; area = 1; zone = 1; product = limited; committed = record { 0 = 1000 }; rate = 10000 }
-          ∷ record { known = true; seller = 0; area = 1; zone = 1; product = limited; committed = record { 0 = 2000 }; rate = 15000 }
-          ∷ [];
-      obligations = 3000 ∷ 1000 ∷ [];
-    }
-
--- a test of both, of which an event lists the second: B is the first's rate, 10,000. Over all entries it would be 13,333.
-base-figure : base pair (λ i. eqb i 1) (record { taken = true; month = 1; listing = both 600 0 }) 0 ≡ 10000
-unfolding sumTo listed seller committed rate part total tested base
+-- both registrations are seller 0's, and an event lists the second: B is the first's rate, 10,000. Over all entries of the test it would be 13,333.
+base-figure : B (yearA limited 0 (1 ∷ []) (false ∷ true ∷ []) 600) 0 0 ≡ 10000
+unfolding sumTo anyTo ofSeller called B
 base-figure = refl
+
+-- three on-peak events: n is 3 for the first of them too, and 1,366,666 × 183 / 1,000 is 250,099 from its due month on. Rounded to cents before, it would be 249,978.
+days-figure : (charge (yearA limited 1 (1 ∷ 1 ∷ 1 ∷ []) (true ∷ true ∷ []) 600) 6 0 0 ≡ 250099)
+    × (charge (yearA limited 1 (1 ∷ 1 ∷ 1 ∷ []) (true ∷ true ∷ []) 600) 4 0 0 ≡ 0)
+unfolding sumTo convert days due share beforeCap unforced ofSeller shareOf calls shortfallOver u cap daily taken charge
+days-figure = (refl, refl)
+
+-- both registrations are seller 0's, and it is short: registration 1 has no excess, though it gives 100 more
+excess-figure : e (yearA limited 0 (1 ∷ []) (true ∷ true ∷ []) 600) 0 1 ≡ 0
+unfolding sumTo share ofSeller shareOf excess e
+excess-figure = refl

@@ -1,10 +1,4 @@
--- What is owed, and its laws.
+-- What is owed: definitions, and figures of them.
+pub mod Facts
 pub mod Owed
-pub mod Events
-pub mod Tests
-pub mod Allotments
-pub mod Balance
-pub mod Cap
-pub mod Independent
-pub mod Bound
 pub mod Figures

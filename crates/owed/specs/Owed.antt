@@ -1,150 +1,137 @@
--- What is owed (document 01), in the document's order. Amounts are to date at month k.
--- What belongs to an id is a function from ids. A sum or an allotment over some registrations runs over all ids, in rising order, with 0 for the others.
-use Prim.Native.Nat.{ℕ, _+_, _-_, _*_, _/_, min, max}
-use mathlib.Core.List.{List, [], _∷_}
-use mathlib.Core.Bool.{Bool, false, not, _&&_, _||_, cond}
+-- What is owed (document 01), in the document's order, over facts. Amounts are to date at month k; i is a registration, s a seller, j an LSE, ev an event, p the place of a test.
+-- a - b is 0 where b is the larger, so "at least 0" is written as `-`; a / 0 is 0, so nothing is allotted where all weights are 0.
+-- A sum or an allotment over some registrations runs over all ids, in rising order, with 0 for the others.
+use Prim.Native.Nat.{ℕ, zero, suc, _+_, _-_, _*_, _/_, min, max}
+use mathlib.Core.Bool.{Bool, not, _&&_, _||_, cond}
 use lib.Dec.{leb, eqb}
-use Rattle.ids.specs.Ids.{sumTo, tabulate}
+use Rattle.ids.specs.Ids.{sumTo, anyTo, tabulate, only, keyed}
 use Rattle.units.specs.Units.{convert}
-use Rattle.calendar.specs.Calendar.{days, due, offPeak}
+use Rattle.calendar.specs.Calendar.{days, due}
 use Rattle.allotment.specs.Allot.{share}
-use Rattle.year.specs.declared.Listing.{Listing}
-use Rattle.year.specs.declared.Event.{Event}
-use Rattle.year.specs.declared.Test.{Test}
-use Rattle.year.specs.declared.Terms.{Terms}
 use Rattle.year.specs.declared.Amounts.{Amounts}
-use Rattle.year.specs.declared.Year.{Year}
-use Rattle.year.specs.Year.{accepted, listed, reduction, deficit, known, seller, product, committed, rate, obligation, size, lses, sellers}
+use Rattle.owed.specs.Facts.{Facts, registrations, sellers, lses, places}
 
--- is registration i listed by an event, and by how many of period 1 or 3 (n)
-unfoldable pub called : List Event → ℕ → Bool
-called [] i = false
-called (ev ∷ evs) i = listed (ev .listing) i || called evs i
+-- a period of the daily charge's first rule
+abbrev pub oneOrThree : ℕ → Bool
+oneOrThree period = eqb period 1 || eqb period 3
 
-unfoldable pub calls : List Event → ℕ → ℕ
-calls [] i = 0
-calls (ev ∷ evs) i = cond (listed (ev .listing) i && not (eqb (ev .period) offPeak)) 1 0 + calls evs i
+-- step 3: the daily charge before the cap, of u unforced kilowatts at rate q with n calls, in thousandths of a cent
+unfoldable pub beforeCap : ℕ → ℕ → ℕ → ℕ → ℕ
+beforeCap period n u q = u * q / cond (oneOrThree period) (max n 2) 52
 
--- step 3's daily charge before the cap, of u unforced kilowatts at rate q, in thousandths of a cent
-unfoldable pub uncapped : ℕ → ℕ → ℕ → ℕ → ℕ
-uncapped period n u q = u * q / cond (eqb period offPeak) 52 (max n 2)
-
--- a test's rate, of the base B: a fifth more, and at least 2,000 more
+-- a test's rate, of B: a fifth more, and at least 2,000 more
 unfoldable pub raised : ℕ → ℕ
-raised base = base + max (base / 5) 2000
+raised b = b + max (b / 5) 2000
 
-module _ (T : Terms) where
+module _ (F : Facts) where
   -- D(k)
   abbrev pub D : ℕ → ℕ
-  D k = days (T .leap) k
+  D k = days (F .leap) k
 
   -- conversion to unforced kilowatts
-  abbrev pub unforced : ℕ → ℕ
-  unforced a = convert (T .factor) (T .requirement) a
+  unfoldable pub unforced : ℕ → ℕ
+  unforced a = convert (F .factor) (F .requirement) a
 
-  -- f at the registrations of seller s that p picks, 0 at the others; and the sum
-  unfoldable pub part : (ℕ → Bool) → ℕ → (ℕ → ℕ) → ℕ → ℕ
-  part p s f i = cond (p i && eqb (seller T i) s) (f i) 0
+  -- what f sums up to over seller s's registrations
+  unfoldable pub ofSeller : ℕ → (ℕ → ℕ) → ℕ
+  ofSeller s f = sumTo registrations (keyed (F .seller) f s)
 
-  unfoldable pub total : (ℕ → Bool) → ℕ → (ℕ → ℕ) → ℕ
-  total p s f = sumTo (size T) (part p s f)
+  -- registration i's share of its seller's amount, by weights
+  unfoldable pub shareOf : (ℕ → ℕ) → (ℕ → ℕ) → ℕ → ℕ
+  shareOf weight amount i = share registrations (keyed (F .seller) weight (F .seller i)) (amount (F .seller i)) i
 
-  -- compliance, step 1: seller s's unforced shortfall over the entries of a listing that p picks
-  unfoldable pub shortfall : Listing → (ℕ → Bool) → ℕ → ℕ
-  shortfall l p s = unforced (total p s (committed T) - total p s (reduction l)) - deficit l s
+  -- is registration i listed by an event, and by how many of period 1 or 3 (n)
+  unfoldable pub called : ℕ → Bool
+  called i = anyTo (F .events) (λ ev. F .listed ev i)
 
-  -- step 2: registration i's share of seller s's shortfall; u is its own seller's
-  unfoldable pub shortOf : Event → ℕ → ℕ → ℕ
-  shortOf ev s i =
-      share (size T) (part (listed (ev .listing)) s (λ j. committed T j - reduction (ev .listing) j))
-      (shortfall (ev .listing) (listed (ev .listing)) s) i
+  unfoldable pub calls : ℕ → ℕ
+  calls i = sumTo (F .events) (λ ev. cond (F .listed ev i && oneOrThree (F .period ev)) 1 0)
 
-  unfoldable pub u : Event → ℕ → ℕ
-  u ev i = shortOf ev (seller T i) i
+  -- compliance, step 1: a seller's unforced shortfall, of the entries that are picked, with their reductions and the sellers' deficits
+  unfoldable pub shortfallOver : (ℕ → Bool) → (ℕ → ℕ) → (ℕ → ℕ) → ℕ → ℕ
+  shortfallOver picked reduction deficit s =
+      let net = ofSeller s (only picked (F .committed)) - ofSeller s (only picked reduction) in
+      unforced net - deficit s
 
-  -- step 4: the cap of a registration, and a seller's revenue to date
+  abbrev pub shortfall : ℕ → ℕ → ℕ
+  shortfall ev = shortfallOver (F .listed ev) (F .reduction ev) (F .deficit ev)
+
+  -- what an entry lacks, max(0, c − v), and what it gives more, max(0, v − c)
+  abbrev pub lack : ℕ → ℕ → ℕ
+  lack ev = only (F .listed ev) (λ i. F .committed i - F .reduction ev i)
+
+  abbrev pub more : ℕ → ℕ → ℕ
+  more ev = only (F .listed ev) (λ i. F .reduction ev i - F .committed i)
+
+  -- step 2
+  unfoldable pub u : ℕ → ℕ → ℕ
+  u ev i = shareOf (lack ev) (shortfall ev) i
+
+  -- step 4: the cap, and its rest when x of it is taken
   unfoldable pub cap : ℕ → ℕ
-  cap i = unforced (committed T i) * rate T i
+  cap i = unforced (F .committed i) * F .rate i
 
+  abbrev pub rest : ℕ → ℕ → ℕ
+  rest i x = cap i - x
+
+  -- the daily charge: the lesser of step 3 and the cap's rest
+  unfoldable pub daily : ℕ → ℕ → ℕ → ℕ
+  daily ev x i = only (F .listed ev) (λ i. min (beforeCap (F .period ev) (calls i) (u ev i) (F .rate i)) (rest i x)) i
+
+  -- what the events before ev took of the cap, due or not
+  unfoldable pub taken : ℕ → ℕ → ℕ
+  taken zero i = 0
+  taken (suc ev) i = taken ev i + daily ev (taken ev i) i
+
+  -- a seller's revenue to date
   unfoldable pub revenue : ℕ → ℕ → ℕ
-  revenue k s = total (known T) s cap * D k
+  revenue k s = ofSeller s (only (F .known) cap) * D k
 
-  -- n says how many events of period 1 or 3 list each registration, later ones included
-  module _ (n : ℕ → ℕ) where
-    -- step 3
-    unfoldable pub asked : Event → ℕ → ℕ
-    asked ev i = uncapped (ev .period) (n i) (u ev i) (rate T i)
+  -- step 5: the charge to date in cents
+  unfoldable pub charge : ℕ → ℕ → ℕ → ℕ
+  charge k ev i = cond (leb (due (F .product i) (F .month ev)) k) (daily ev (taken ev i) i * D k / 1000) 0
 
-    -- step 4: the daily charge, when t of the cap is taken
-    unfoldable pub daily : Event → ℕ → ℕ → ℕ
-    daily ev i t = min (asked ev i) (cap i - t)
+  -- excess credit: a seller's excess, and e
+  unfoldable pub excess : ℕ → ℕ → ℕ
+  excess ev s = ofSeller s (only (F .listed ev) (F .reduction ev)) - ofSeller s (only (F .listed ev) (F .committed))
 
-    -- an amount of each event, summed in order of acceptance; t is what the earlier events took of each cap, due or not
-    unfoldable pub overEvents : (Event → (ℕ → ℕ) → ℕ) → (ℕ → ℕ) → List Event → ℕ
-    overEvents f t [] = 0
-    overEvents f t (ev ∷ evs) = f ev t + overEvents f (λ i. t i + daily ev i (t i)) evs
+  unfoldable pub e : ℕ → ℕ → ℕ
+  e ev i = shareOf (more ev) (excess ev) i
 
-    -- step 5: the charge to date in cents
-    unfoldable pub charge : ℕ → Event → (ℕ → ℕ) → ℕ → ℕ
-    charge k ev t i = cond (leb (due (product T i) (ev .month)) k) (daily ev i (t i) * D k / 1000) 0
+  -- the share of the event's charges to date; the limit, whose bracket is rounded first; and the credit, the lesser of both
+  unfoldable pub creditShare : ℕ → ℕ → ℕ → ℕ
+  creditShare k ev i = share registrations (e ev) (sumTo registrations (charge k ev)) i
 
-  -- excess credit: registration i's share of seller s's excess; e is its own seller's
-  unfoldable pub excessOf : Event → ℕ → ℕ → ℕ
-  excessOf ev s i =
-      share (size T) (part (listed (ev .listing)) s (λ j. reduction (ev .listing) j - committed T j))
-      (total (listed (ev .listing)) s (reduction (ev .listing)) - total (listed (ev .listing)) s (committed T)) i
+  unfoldable pub creditLimit : ℕ → ℕ → ℕ → ℕ
+  creditLimit k ev i =
+      let bracket = e ev i * F .rate i / 5 in
+      bracket * D k / 1000
 
-  unfoldable pub e : Event → ℕ → ℕ
-  e ev i = excessOf ev (seller T i) i
+  unfoldable pub creditOf : ℕ → ℕ → ℕ → ℕ
+  creditOf k ev i = min (creditShare k ev i) (creditLimit k ev i)
 
-  module _ (n : ℕ → ℕ) where
-    -- the event's charges to date, over its entries
-    unfoldable pub charged : ℕ → Event → (ℕ → ℕ) → ℕ
-    charged k ev t = sumTo (size T) (λ i. cond (listed (ev .listing) i) (charge n k ev t i) 0)
+  -- test: the entries whose registration no event lists, the shortfall as in step 1, B, and the charge to date
+  abbrev pub stands : ℕ → ℕ → Bool
+  stands p i = F .tested p i && not (called i)
 
-    -- its share of the event's charges by excess; the limit, one fifth of the rate for the excess; and the credit, the lesser of the two
-    abbrev pub creditShare : ℕ → Event → (ℕ → ℕ) → ℕ → ℕ
-    creditShare k ev t i = share (size T) (e ev) (charged k ev t) i
+  abbrev pub testShortfall : ℕ → ℕ → ℕ
+  testShortfall p = shortfallOver (stands p) (F .testReduction p) (F .testDeficit p)
 
-    abbrev pub creditLimit : ℕ → Event → ℕ → ℕ
-    creditLimit k ev i = e ev i * rate T i / 5 * D k / 1000
+  unfoldable pub B : ℕ → ℕ → ℕ
+  B p s = ofSeller s (only (stands p) (λ i. F .committed i * F .rate i)) / ofSeller s (only (stands p) (F .committed))
 
-    unfoldable pub creditOf : ℕ → Event → (ℕ → ℕ) → ℕ → ℕ
-    creditOf k ev t i = min (creditShare k ev t i) (creditLimit k ev i)
+  unfoldable pub testOf : ℕ → ℕ → ℕ → ℕ
+  testOf k p s = testShortfall p s * raised (B p s) * D k / 1000
 
-  -- test, of seller s, over the entries that no event lists: c says which registrations an event lists
-  module _ (c : ℕ → Bool) where
-    unfoldable pub tested : Test → ℕ → Bool
-    tested te i = listed (te .listing) i && not (c i)
-
-    -- B: the average rate by committed kilowatts
-    unfoldable pub base : Test → ℕ → ℕ
-    base te s = total (tested te) s (λ i. committed T i * rate T i) / total (tested te) s (committed T)
-
-    unfoldable pub testOf : ℕ → ℕ → Test → ℕ
-    testOf k s te = shortfall (te .listing) (tested te) s * raised (base te s) * D k / 1000
-
--- an amount of each test, summed
-unfoldable pub overTests : (Test → ℕ) → List Test → ℕ
-overTests f [] = 0
-overTests f (te ∷ tes) = f te + overTests f tes
-
--- the amounts to date at month k: of seller s, of all sellers, of LSE j
-module _ (y : Year) where
-  abbrev T : Terms
-  T = y .terms
-
-  abbrev pub n : ℕ → ℕ
-  n = calls (accepted y)
-
+  -- to date: a seller's charges and credits over all events and tests, all sellers', and LSE j's
   unfoldable pub compliance : ℕ → ℕ → ℕ
-  compliance k s = overEvents T n (λ ev t. total T (listed (ev .listing)) s (charge T n k ev t)) (λ i. 0) (accepted y)
-
-  unfoldable pub credit : ℕ → ℕ → ℕ
-  credit k s = overEvents T n (λ ev t. total T (listed (ev .listing)) s (creditOf T n k ev t)) (λ i. 0) (accepted y)
+  compliance k s = sumTo (F .events) (λ ev. ofSeller s (charge k ev))
 
   unfoldable pub test : ℕ → ℕ → ℕ
-  test k s = overTests (testOf T (called (accepted y)) k s) (y .tests)
+  test k s = sumTo places (λ p. testOf k p s)
+
+  unfoldable pub credit : ℕ → ℕ → ℕ
+  credit k s = sumTo (F .events) (λ ev. ofSeller s (creditOf k ev))
 
   unfoldable pub charges : ℕ → ℕ
   charges k = sumTo sellers (λ s. compliance k s + test k s)
@@ -153,9 +140,8 @@ module _ (y : Year) where
   credits k = sumTo sellers (credit k)
 
   unfoldable pub lse : ℕ → ℕ → ℕ
-  lse k j = share (lses T) (obligation T) (charges k - credits k) j
+  lse k j = share lses (F .obligation) (charges k - credits k) j
 
-  -- all of them
   unfoldable pub amounts : ℕ → Amounts
   amounts k =
-      record { compliance = tabulate sellers (compliance k); test = tabulate sellers (test k); credit = tabulate sellers (credit k); lse = tabulate (lses T) (lse k) }
+      record { compliance = tabulate sellers (compliance k); test = tabulate sellers (test k); credit = tabulate sellers (credit k); lse = tabulate lses (lse k) }

@@ -1,1 +1,1 @@
-// What is owed, and its laws: definitions for the crates above. This crate has no code.
+// What is owed, over facts: definitions for the crates above. This crate has no code.

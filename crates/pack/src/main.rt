@@ -50,7 +50,7 @@ fn pack(input: i32, buffer: &mut [u8], out: &mut [u8]) -> bool
             return false;
         }
         at = gathered.at;
-        window.start = text::least(end + 1, window.end);
+        window = stream::input::past(next);
         cut = false;
         position += 1;
     }

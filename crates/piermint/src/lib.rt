@@ -1,6 +1,11 @@
-// The engine for C: a record read, a record written, and a whole record file billed. Every input is answered.
+// The engine for C: a record read, a record written, a record taken by a book, and a whole record file billed. Every input is answered.
+ghost use mathlib.Core.Path.{_≡_};
 ghost use Rattle.records.specs.Calls.{Reads, Writes};
+ghost use Rattle.year.specs.Year.{newYear};
+ghost use Rattle.cells.specs.Layout.{yearIn, Held};
+ghost use Rattle.book.specs.Outcome.{Posts};
 ghost use Rattle.billing.specs.Billed.{Bills};
+use cells::Cells;
 
 // A record's numbers into the front of a lent buffer; how many they are and the bytes of the record go out.
 #[no_mangle]
@@ -26,6 +31,36 @@ pub extern "C" fn piermint_write(numbers: &[u64], bytes: &mut [u8], used: &mut u
     let wrote = records::write(numbers, bytes);
     *used = wrote.used;
     wrote.number
+}
+
+// Makes the cells a new book's, whatever they held.
+#[no_mangle]
+pub extern "C" fn piermint_new(cells: &mut Cells)
+    ensures equals { λ _. ⌜ yearIn (now (cells .exit)) ≡ newYear ⌝ }
+    ensures held { λ _. ⌜ Held (now (cells .exit)) ⌝ }
+{
+    *cells = book::new_book();
+}
+
+// Takes a record; an accepted close leaves its statement in the buffer. The bytes consumed and the bytes of the statement
+// go out.
+#[no_mangle]
+pub extern "C" fn piermint_post(
+    cells: &mut Cells,
+    bytes: &[u8],
+    buffer: &mut [u8],
+    used: &mut usize,
+    written: &mut usize,
+) -> u64
+    requires { ⌜ Held (now cells) ⌝ }
+    ensures posts { λ r. ⌜ Posts (yearIn (now (cells .entry))) (now (bytes .entry)) (now (buffer .entry)) r (now (used .exit)) (now (written .exit)) (yearIn (now (cells .exit))) (now (buffer .exit)) ⌝ }
+    ensures refused { λ r. ⌜ ((r ≡ 0 → ⊥) → now (cells .exit) ≡ now (cells .entry)) ⌝ }
+    ensures held { λ r. ⌜ Held (now (cells .exit)) ⌝ }
+{
+    let posted = book::post(cells, bytes, buffer);
+    *used = posted.used;
+    *written = posted.written;
+    posted.number
 }
 
 // A record file billed from a new book: the records' numbers, and the statements of the accepted closes one after

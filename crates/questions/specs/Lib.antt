@@ -1,6 +1,4 @@
--- The questions, their answers by kind, and what a record that passes them has.
+-- The questions, their answers, and what a record that passes them has.
 pub mod Questions
-pub mod First
-pub mod Kinds
 pub mod Answers
-pub mod Passed
+pub mod Admitted

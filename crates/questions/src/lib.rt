@@ -1,57 +1,77 @@
-// Questions 6 to 16, each asked of a year and a record's numbers.
+// Questions 6 to 16, put to a year and a record: a function for each kind, in the order of the list.
 ghost use mathlib.Core.Path.{_≡_};
-ghost use mathlib.Core.Bool.{not};
+ghost use mathlib.Core.Bool.{not, _&&_};
 ghost use mathlib.Core.List.{[], _∷_};
-ghost use Prim.Native.Nat.{_+_, _≤_, _<_, max};
+ghost use Prim.Native.Nat.{ℕ, _+_, _≤_, max};
+ghost use lib.Dec.{leb, ltb};
+ghost use lib.ListN.{length};
 ghost use Rattle.ids.specs.Ids.{at};
 ghost use Rattle.layouts.specs.Questions.{firstFailed};
 ghost use Rattle.year.specs.declared.Listing.{Listing};
-ghost use Rattle.year.specs.Sound.{Sound};
-ghost use Rattle.questions.specs.Questions.{registering, obliging, event, testing, closing, inTime, q7, q9, q10, q11, q12, q13, q14, q15, q16, questions};
-ghost use Rattle.questions.specs.Kinds.{Asked};
+ghost use Rattle.year.specs.Year.{product};
+ghost use Rattle.calendar.specs.Calendar.{callable, testable};
+ghost use Rattle.cells.specs.Layout.{listingAt, yearIn, Held};
+ghost use Rattle.heads.specs.Within.{RegistrationWithin, LseWithin, TestWithin, Within};
+ghost use Rattle.entries.specs.Entries.{everyListed};
+ghost use Rattle.questions.specs.Questions.{inTime, hasParties, questions};
+use cells::Cells;
+use entries::Condition;
 use entries::any_lse;
 use entries::any_registration;
-use entries::callable_in;
 use entries::entries_pass;
 use entries::every_listed;
-use entries::in_area;
-use entries::in_group;
 use entries::lists_uncalled;
-use year::Listing;
-use year::Year;
+use heads::CloseHead;
+use heads::EventHead;
+use heads::Head;
+use heads::LseHead;
+use heads::RegistrationHead;
+use heads::TestHead;
 
-// Questions 7 and 9: is a registration or an LSE too late, and is its id taken?
-fn joining_number(late: bool, taken: bool) -> u64
-    ensures { λ r. ⌜ r ≡ firstFailed ((7, not late) ∷ (9, not taken) ∷ []) ⌝ }
+// Question 6 of any record but an opening.
+fn is_open(year: &Cells) -> bool
+    ensures { λ r. ⌜ r ≡ (let y = yearIn (now (year .entry)) in y .opened && ltb (y .closed) 15) ⌝ }
 {
+    cells::opened(year) && cells::closed(year) < 15
+}
+
+// Question 8.
+fn has_parties(year: &Cells) -> bool
+    requires { ⌜ Held (now year) ⌝ }
+    ensures { λ r. ⌜ r ≡ hasParties (yearIn (now (year .entry)) .terms) ⌝ }
+{
+    any_registration(year) && any_lse(year)
+}
+
+// Questions 6, 7 and 9 of a registration or an LSE.
+fn joining_number(year_open: bool, late: bool, known: bool) -> u64
+    ensures { λ r. ⌜ r ≡ firstFailed ((6, year_open) ∷ (7, not late) ∷ (9, not known) ∷ []) ⌝ }
+{
+    if !year_open {
+        return 6;
+    }
     if late {
         return 7;
     }
-    if taken { 9 } else { 0 }
+    if known { 9 } else { 0 }
 }
 
 // Of a registration.
-fn registration_number(year: Year, values: [u64; 166]) -> u64
-    requires { ⌜ at values 0 ≡ registering ⌝ }
-    requires { ⌜ at values 1 < 64 ⌝ }
-    ensures { λ r. ⌜ ((l : Listing) → r ≡ firstFailed ((7, q7 year values l) ∷ (9, q9 year values l) ∷ [])) ⌝ }
+fn registration_number(year: &Cells, r: RegistrationHead) -> u64
+    requires { ⌜ RegistrationWithin r ⌝ }
+    ensures { λ n. ⌜ ((l : Listing) (room : ℕ) → n ≡ firstFailed (questions inTime (yearIn (now (year .entry))) (record { head = Head.Registration r; listing = l }) room)) ⌝ }
 {
-    let id = values[1] as usize;
-    let terms = year.terms;
-    let r = terms.registrations[id];
-    joining_number(year.started, r.known)
+    let old = cells::registration_at(year, r.id as usize);
+    joining_number(is_open(year), cells::started(year), old.known)
 }
 
 // Of an LSE.
-fn lse_number(year: Year, values: [u64; 166]) -> u64
-    requires { ⌜ at values 0 ≡ obliging ⌝ }
-    requires { ⌜ at values 1 < 16 ⌝ }
-    ensures { λ r. ⌜ ((l : Listing) → r ≡ firstFailed ((7, q7 year values l) ∷ (9, q9 year values l) ∷ [])) ⌝ }
+fn lse_number(year: &Cells, j: LseHead) -> u64
+    requires { ⌜ LseWithin j ⌝ }
+    ensures { λ n. ⌜ ((l : Listing) (room : ℕ) → n ≡ firstFailed (questions inTime (yearIn (now (year .entry))) (record { head = Head.Lse j; listing = l }) room)) ⌝ }
 {
-    let id = values[1] as usize;
-    let terms = year.terms;
-    let obligation = terms.obligations[id];
-    joining_number(year.started, obligation != 0)
+    let obligation = cells::obligation_of(year, j.id as usize);
+    joining_number(is_open(year), cells::started(year), obligation != 0)
 }
 
 // The first month with which events of a month are no longer taken.
@@ -71,50 +91,68 @@ fn in_time(closed: u64, month: u64) -> bool
     month <= closed + 1 && closed < event_end(month)
 }
 
-// Questions 10 to 12 of an event.
-fn event_number(year: Year, values: [u64; 166], listing: Listing) -> u64
-    requires { ⌜ Sound year ⌝ }
-    requires { ⌜ at values 0 ≡ event ⌝ }
-    requires { ⌜ at values 2 ≤ 12 ⌝ }
-    ensures { λ r. ⌜ r ≡ firstFailed ((10, q10 year values listing) ∷ (11, q11 year values listing) ∷ (12, q12 year values listing) ∷ []) ⌝ }
+// Question 11 of an event.
+fn may_call(year: &Cells, e: EventHead, listing: &[u64]) -> bool
+    requires { ⌜ Held (now year) ⌝ }
+    requires { ⌜ e .month ≤ 12 ⌝ }
+    requires { ⌜ length (now listing) ≡ 144 ⌝ }
+    ensures { λ r. ⌜ r ≡ (let y = yearIn (now (year .entry)) in inTime (y .closed) (e .month) && everyListed (y .terms) (listingAt (at (now (listing .entry)))) (λ i. callable (product (y .terms) i) (e .month) (e .period))) ⌝ }
 {
-    let terms = year.terms;
-    let here = in_area(terms, values[1]);
-    if !entries_pass(terms, listing, here) {
-        return 10;
-    }
-    if !in_time(year.closed, values[2]) {
-        return 11;
-    }
-    let listed = listing.listed;
-    let may = callable_in(terms, values[2], values[3]);
-    if !every_listed(listed, may) {
-        return 11;
-    }
-    if year.held < 16 { 0 } else { 12 }
+    in_time(cells::closed(year), e.month)
+        && every_listed(year, listing, Condition::Callable(e.month, e.period))
 }
 
-// Questions 10, 11, 13 and 14 of a test.
-fn test_number(year: Year, values: [u64; 166], listing: Listing) -> u64
-    requires { ⌜ Sound year ⌝ }
-    requires { ⌜ at values 0 ≡ testing ⌝ }
-    requires { ⌜ (at values 1 < 8) × (at values 2 < 3) ⌝ }
-    ensures { λ r. ⌜ r ≡ firstFailed ((10, q10 year values listing) ∷ (11, q11 year values listing) ∷ (13, q13 year values listing) ∷ (14, q14 year values listing) ∷ []) ⌝ }
+// Question 11 of a test.
+fn may_test(closed: u64, t: TestHead) -> bool
+    requires { ⌜ closed ≤ 15 ⌝ }
+    ensures { λ r. ⌜ r ≡ (leb (t .month) (closed + 1) && testable (t .product) (t .month)) ⌝ }
 {
-    let terms = year.terms;
-    let group = in_group(terms, values[1], values[2]);
-    if !entries_pass(terms, listing, group) {
+    t.month <= closed + 1 && calendar::testable(t.product, t.month)
+}
+
+// Of an event.
+fn event_number(year: &Cells, e: EventHead, listing: &[u64]) -> u64
+    requires { ⌜ Held (now year) ⌝ }
+    requires { ⌜ e .month ≤ 12 ⌝ }
+    requires { ⌜ length (now listing) ≡ 144 ⌝ }
+    ensures { λ n. ⌜ ((room : ℕ) → n ≡ firstFailed (questions inTime (yearIn (now (year .entry))) (record { head = Head.Event e; listing = listingAt (at (now (listing .entry))) }) room)) ⌝ }
+{
+    if !is_open(year) {
+        return 6;
+    }
+    if !has_parties(year) {
+        return 8;
+    }
+    if !entries_pass(year, listing, Condition::InArea(e.area)) {
         return 10;
     }
-    if year.closed + 1 < values[3] {
+    if !may_call(year, e, listing) {
         return 11;
     }
-    if !calendar::testable(values[2], values[3]) {
+    if cells::held(year) < 16 { 0 } else { 12 }
+}
+
+// Of a test.
+fn test_number(year: &Cells, t: TestHead, listing: &[u64]) -> u64
+    requires { ⌜ Held (now year) ⌝ }
+    requires { ⌜ TestWithin t ⌝ }
+    requires { ⌜ length (now listing) ≡ 144 ⌝ }
+    ensures { λ n. ⌜ ((room : ℕ) → n ≡ firstFailed (questions inTime (yearIn (now (year .entry))) (record { head = Head.Test t; listing = listingAt (at (now (listing .entry))) }) room)) ⌝ }
+{
+    if !is_open(year) {
+        return 6;
+    }
+    if !has_parties(year) {
+        return 8;
+    }
+    let group = Condition::InGroup(t.zone, t.product);
+    if !entries_pass(year, listing, group) {
+        return 10;
+    }
+    if !may_test(cells::closed(year), t) {
         return 11;
     }
-    let place = (3 * values[1] + values[2]) as usize;
-    let test = year.tests[place];
-    if test.taken {
+    if cells::test_taken(year, (3 * t.zone + t.product) as usize) {
         return 13;
     }
     if lists_uncalled(year, listing, group) {
@@ -124,49 +162,36 @@ fn test_number(year: Year, values: [u64; 166], listing: Listing) -> u64
     }
 }
 
-// Questions 15 and 16 of a close.
-fn close_number(year: Year, values: [u64; 166], room: usize) -> u64
-    requires { ⌜ Sound year ⌝ }
-    requires { ⌜ at values 0 ≡ closing ⌝ }
-    ensures { λ r. ⌜ ((l : Listing) → r ≡ firstFailed ((15, q15 year values l) ∷ (16, q16 year values l room) ∷ [])) ⌝ }
+// Of a close.
+fn close_number(year: &Cells, c: CloseHead, room: usize) -> u64
+    requires { ⌜ Held (now year) ⌝ }
+    ensures { λ n. ⌜ ((l : Listing) → n ≡ firstFailed (questions inTime (yearIn (now (year .entry))) (record { head = Head.Close c; listing = l }) room)) ⌝ }
 {
-    if values[1] != year.closed + 1 {
+    if !is_open(year) {
+        return 6;
+    }
+    if !has_parties(year) {
+        return 8;
+    }
+    if c.month != cells::closed(year) + 1 {
         return 15;
     }
     if room < 354 { 16 } else { 0 }
 }
 
-// The number of the first question from 6 on that fails, or 0.
-pub fn number_of(year: Year, values: [u64; 166], listing: Listing, room: usize) -> u64
-    requires { ⌜ Sound year ⌝ }
-    requires { ⌜ Asked values ⌝ }
-    ensures { λ r. ⌜ r ≡ firstFailed (questions year values listing room) ⌝ }
+// The number of the first question from 6 on that fails, or 0. The listing is a row by id.
+pub fn number_of(year: &Cells, head: Head, listing: &[u64], room: usize) -> u64
+    requires { ⌜ Held (now year) ⌝ }
+    requires { ⌜ Within head ⌝ }
+    requires { ⌜ length (now listing) ≡ 144 ⌝ }
+    ensures { λ n. ⌜ n ≡ firstFailed (questions inTime (yearIn (now (year .entry))) (record { head = head; listing = listingAt (at (now (listing .entry))) }) room) ⌝ }
 {
-    let kind = values[0];
-    if kind == 1 {
-        if year.opened {
-            return 6;
-        }
-        return 0;
+    match head {
+        Head::Opening(_) => { if cells::opened(year) { 6 } else { 0 } }
+        Head::Registration(r) => registration_number(year, r),
+        Head::Lse(j) => lse_number(year, j),
+        Head::Event(e) => event_number(year, e, listing),
+        Head::Test(t) => test_number(year, t, listing),
+        Head::Close(c) => close_number(year, c, room),
     }
-    if !year.opened || 15 <= year.closed {
-        return 6;
-    }
-    if kind == 2 {
-        return registration_number(year, values);
-    }
-    if kind == 3 {
-        return lse_number(year, values);
-    }
-    let terms = year.terms;
-    if !any_registration(terms) || !any_lse(terms) {
-        return 8;
-    }
-    if kind == 4 {
-        return event_number(year, values, listing);
-    }
-    if kind == 5 {
-        return test_number(year, values, listing);
-    }
-    close_number(year, values, room)
 }

@@ -1,5 +1,4 @@
 pub mod Turns
-pub mod Parts
 pub mod Reading
-pub mod Writing
-pub mod Laying
+pub mod Answers
+pub mod Encoding

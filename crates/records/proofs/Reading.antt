@@ -1,32 +1,40 @@
--- What taking a record apart answers, from the questions' answers; and what reading it answers.
-use Prim.Native.Nat.{ℕ, _+_, _-_, _*_, _≤_, _<_}
+-- What taking a record apart answers, from the questions' answers.
+use Prim.Native.Nat.{ℕ, zero, suc, _+_, _-_, _*_, _≤_, _<_}
 use mathlib.Core.Bool.{true, false}
-use mathlib.Core.List.{List, [], _∷_}
-use mathlib.Core.Path.{_≡_, refl, sym, ap, _∙_}
-use native.Mathlib.Decide.{decLt}
+use mathlib.Core.List.{List, [], _∷_, _++_}
+use mathlib.Core.Path.{_≡_, refl, sym, ap, subst, _∙_}
+use native.Mathlib.Nat.{zero-add}
 use native.Mathlib.Omega.{arith}
-use borrow.Author.Tests.{leb-true, lt-leb, le-leb, eq-eqb, ne-eqb}
-use lib.Dec.{T, leb, eqb}
+use borrow.Author.Tests.{leb-true, lt-leb, le-leb}
+use lib.Dec.{T, eqb}
 use lib.ListN.{length, take, drop, set, replicate, length-append}
-use lib.Seq.{take-at, drop-cons}
+use lib.Seq.{take-nil, drop-cons, drop-drop}
 use Rattle.ids.specs.Ids.{at}
-use Rattle.ids.specs.Tests.{cond-true, cond-false}
 use Rattle.bits.specs.Bits.{fieldAt}
-use Rattle.bits.specs.BitLaws.{field-past}
-use Rattle.bits.specs.Table.{total, fieldsAt, laid, narrow}
-use Rattle.bits.specs.TableLaws.{length-fields, narrow-split}
+use Rattle.bits.specs.Table.{total, times, fieldsAt, laid, narrow, Fit}
+use Rattle.bits.specs.TableLaws.{fields-append, length-fields, narrow-split}
+use Rattle.bits.specs.ItemLaws.{length-times, total-times}
 use Rattle.bits.specs.Pack.{bytesFor}
-use Rattle.layouts.specs.declared.Shape.{Shape}
-use Rattle.layouts.specs.Layout.{layouts, head, deficitsIn, entriesIn, widths, sizeOf, most}
-use Rattle.layouts.specs.LayoutLaws.{and-parts, head-small, sound-heads, narrow-sound, length-widths}
-use Rattle.layouts.specs.Questions.{firstFailed, kindOf, headOf, rulesOf, numbersOf, isKind, isWhole, permitted, isFilled, idsRise, recordQuestions, recordNumber, consumed, rises, row}
-use Rattle.layouts.specs.QuestionLaws.{head-kind, at-row, permitted-same, permitted-row, rises-same, head-refused, counts-same, counts-written, few-numbers, kind-in, numbers-head, numbers-kind}
-use Rattle.layouts.specs.PairLaws.{rules-pairs, ids-pairs, written-few}
-use Rattle.records.specs.Accepted.{number-first, number-later, taken-numbers, taken-none}
-use Rattle.records.specs.Calls.{readNumber, over, readBuffer, Reads}
-use Rattle.layouts.specs.Shapes.{rulesIn, Shaped, Sized, listsPermit, listsRise}
-use Rattle.records.specs.Parsing.{Whole, Fills}
-use Rattle.layouts.specs.ShapeLaws.{lists-permit, row-more}
+use Rattle.layouts.specs.Layout.{Rule, head, lists, listAt, itemsIn, rulesTo, rulesFor, widths, sizeOf, longestRecord, most}
+use Rattle.layouts.specs.LayoutLaws.{head-small, sound-heads, sound-items, sound-times, narrow-sound, length-widths, widths-times, front-to, rules-long}
+use Rattle.layouts.specs.Questions.{firstFailed, kindOf, headOf, rulesOf, numbersOf, isKind, isWhole, permitted, isFilled, idsRise, recordQuestions, recordNumber, consumed, row}
+use Rattle.layouts.specs.QuestionLaws.{head-kind, at-row, length-row, row-more, permitted-same, permitted-row, rises-all, head-refused, counts-same, rules-same, few-bits, few-numbers, kind-in, fields-front, numbers-head, numbers-kind}
+use Rattle.layouts.specs.Parts.{Stated}
+use Rattle.layouts.specs.ListLaws.{rules-upto, widths-list, length-list, total-list}
+use Rattle.records.specs.Accepted.{taken-numbers, taken-none, numbers-count}
+use Rattle.records.specs.Calls.{Fills}
+use Rattle.records.specs.Parsing.{Known}
+
+-- a part without its first element
+behind-take : (n : ℕ) (xs : List ℕ) → drop 1 (take n xs) ≡ take (n - 1) (drop 1 xs)
+behind-take zero xs = refl
+behind-take (suc n) [] = sym (take-nil (suc n - 1))
+behind-take (suc n) (x ∷ xs) = let e : n ≡ suc n - 1 = omega arith in ap (λ (m : ℕ). take m xs) e
+
+pub behind-is : (s e : ℕ) (xs ys : List ℕ) → take (e - s) (drop s xs) ≡ ys → s < e → take (e - (s + 1)) (drop (s + 1) xs) ≡ drop 1 ys
+behind-is s e xs ys h l =
+    let n : e - (s + 1) ≡ e - s - 1 = omega arith in
+    ap (λ (m : ℕ). take m (drop (s + 1) xs)) n ∙ ap (take (e - s - 1)) (sym (drop-drop 1 s xs)) ∙ sym (behind-take (e - s) (drop s xs)) ∙ ap (drop 1) h
 
 -- a head is its kind's four bits, and the fields behind them
 module _ (k : ℕ) (e : isKind k ≡ true) where
@@ -102,149 +110,157 @@ refuses {bytes} e f none some t =
 pub fills : {bytes values : List ℕ} {used u count : ℕ} → used ≡ u → count ≡ length (numbersOf bytes) → values ≡ row (numbersOf bytes) → Fails bytes 0 u → Fills bytes 0 used count values
 fills f n v t = record { numbers = t .numbers; uses = f ∙ t .uses; counts = n ∙ ap length (sym (taken-numbers _ (sym (t .numbers)))); rows = λ z. v }
 
-module _ {bytes : List ℕ} {s : Shape} (w : Whole bytes s) where
-  pub whole-rules : rulesIn s ≡ rulesOf bytes
+-- a record of kind k: its numbers before list i, in a row
+module _ {bytes : List ℕ} {k : ℕ} (w : Known bytes k) where
+  abbrev hs : List ℕ
+  hs = headOf bytes
+
+  abbrev upTo : ℕ → List ℕ
+  upTo i = fieldsAt bytes 0 (widths (rulesTo k hs i))
+
+  pub rules-are : rulesFor k hs ≡ rulesOf bytes
   unfolding rulesOf
-  whole-rules = rw (w .kind, w .deficits, w .entries) (sym (rules-pairs (kindOf bytes) (headOf bytes)))
+  rules-are = ap (λ (x : ℕ). rulesFor x (headOf bytes)) (w .kind)
 
-  pub whole-few : length (rulesIn s) ≤ most
-  whole-few = rw (w .kind, w .deficits, w .entries, ← rules-pairs (kindOf bytes) (headOf bytes)) (few-numbers (kindOf bytes) (headOf bytes) (w .permits))
+  head-is : fieldsAt bytes 0 (widths (head k)) ≡ hs
+  unfolding headOf
+  head-is = ap (λ (x : ℕ). fieldsAt bytes 0 (widths (head x))) (w .kind)
 
-  pub whole-bytes : sizeOf (rulesIn s) ≤ length bytes
-  unfolding isWhole
-  whole-bytes = rw whole-rules (leb-true (sizeOf (rulesOf bytes)) (length bytes) (w .whole))
+  pub row-first : {values : List ℕ} → values ≡ row (fieldsAt bytes 0 (widths (head k))) → values ≡ row hs
+  row-first v = v ∙ ap row head-is
 
-  pub whole-values : row (fieldsAt bytes 0 (widths (rulesIn s))) ≡ row (numbersOf bytes)
+  pub row-start : {values : List ℕ} → values ≡ row hs → values ≡ row (upTo 0)
+  unfolding rulesTo
+  row-start v = v ∙ ap row (sym head-is)
+
+  pub head-few : length hs ≤ most
+  head-few = omega (arith, ap length (sym head-is), length-fields bytes 0 (widths (head k)), length-widths (head k), head-small k)
+
+  pub length-upto : (i : ℕ) → length (upTo i) ≡ length (rulesTo k hs i)
+  length-upto i = length-fields bytes 0 (widths (rulesTo k hs i)) ∙ length-widths (rulesTo k hs i)
+
+  module _ {values : List ℕ} (i : ℕ) (v : values ≡ row (upTo i)) where
+    row-head : (j : ℕ) → j < length (head k) → at values j ≡ at hs j
+    row-head j l =
+        let r = front-to k hs i in
+        ap (λ (l : List ℕ). at l j) v ∙ at-row (upTo i) j ∙ ap (λ (rs : List Rule). at (fieldsAt bytes 0 (widths rs)) j) (r .1) ∙ fields-front bytes (head k) (r .0) j l ∙ ap (λ (l : List ℕ). at l j) head-is
+
+    pub row-items : (j : ℕ) → itemsIn k values j ≡ itemsIn k hs j
+    row-items = counts-same k values hs row-head
+
+    pub row-rules : rulesFor k values ≡ rulesOf bytes
+    row-rules = rules-same k values hs row-head ∙ rules-are
+
+    pub row-permits : permitted (head k) values ≡ permitted (head k) (numbersOf bytes)
+    row-permits = permitted-same (head k) values (numbersOf bytes) (λ j l. row-head j l ∙ sym (numbers-head bytes (w .first) j (subst (λ (x : ℕ). j < length (head x)) (w .kind) l)))
+
+    -- they state the record
+    pub row-stated : Stated k values
+    row-stated =
+        let r = front-to k hs i in
+        record {
+          kind = kind-in k (ap isKind (w .kind) ∙ w .first);
+          head = omega (arith, ap length v, row-long (upTo i), length-upto i, ap length (r .1), length-append (head k) (r .0));
+          bits = subst (λ (rs : List Rule). total (widths rs) ≤ 8 * longestRecord) (sym row-rules) (few-bits bytes);
+        }
+
+    -- with list i there are so many more
+    module _ (few : length (rulesOf bytes) ≤ most) (whole : sizeOf (rulesOf bytes) ≤ length bytes) (l : i < length (lists k)) where
+      abbrev n : ℕ
+      n = itemsIn k hs i
+
+      abbrev ws : List ℕ
+      ws = widths (listAt k i .fields)
+
+      pub take-fits : {p : ℕ} → p ≡ total (widths (rulesTo k hs i)) → Fit bytes p (times n ws)
+      take-fits q =
+          let all = rules-upto k hs (i + 1) (omega arith) in
+          let sum : total (widths (rulesTo k hs (i + 1))) ≤ total (widths (rulesOf bytes)) = subst (λ (rs : List Rule). total (widths (rulesTo k hs (i + 1))) ≤ total (widths rs)) rules-are (all .1) in
+          record {
+            narrows = subst (λ (l : List ℕ). T (narrow l)) (widths-times n (listAt k i .fields)) (narrow-sound (times n (listAt k i .fields)) (sound-times n (listAt k i .fields) (sound-items k i)));
+            within = omega (arith, total-times ws n, total-list k hs i, sum);
+            small = omega (arith, total-times ws n, total-list k hs i, sum, few-bits bytes);
+          }
+
+      pub take-count : length (rulesTo k hs i) + n * length (listAt k i .fields) ≤ most
+      take-count =
+          let all = rules-upto k hs (i + 1) (omega arith) in
+          omega (arith, length-list k hs i, all .0, ap length rules-are)
+
+      pub take-room : {p : ℕ} → p ≡ length (rulesTo k hs i) → p + length (times n ws) ≤ length values
+      take-room q =
+          let more : length (times n ws) ≡ n * length (listAt k i .fields) = length-times ws n ∙ ap (λ (x : ℕ). n * x) (length-widths (listAt k i .fields)) in
+          omega (arith, take-count, more, ap length v, length-row (upTo i) (omega (arith, length-upto i, take-count)))
+
+      pub take-row : {p b : ℕ} {out : List ℕ} → p ≡ length (rulesTo k hs i) → b ≡ total (widths (rulesTo k hs i)) → out ≡ laid p (fieldsAt bytes b (times n ws)) values → out ≡ row (upTo (i + 1))
+      take-row {p} {b} q z o =
+          let before = widths (rulesTo k hs i) in
+          let more : upTo (i + 1) ≡ upTo i ++ fieldsAt bytes b (times n ws) =
+          ap (fieldsAt bytes 0) (widths-list k hs i) ∙ fields-append bytes 0 before (times n ws) ∙ ap (λ (q : ℕ). upTo i ++ fieldsAt bytes q (times n ws)) (zero-add (total before) ∙ sym z) in
+          o ∙ row-more (upTo i) (fieldsAt bytes b (times n ws)) values p (q ∙ sym (length-upto i)) v ∙ ap row (sym more)
+
+  -- all of them are the record's
+  pub all-are : rulesTo k hs (length (lists k)) ≡ rulesOf bytes
+  unfolding rulesFor
+  all-are = rules-are
+
+  pub row-all : {values : List ℕ} → values ≡ row (upTo (length (lists k))) → values ≡ row (numbersOf bytes)
   unfolding numbersOf
-  whole-values = rw whole-rules
+  row-all v = v ∙ ap (λ (rs : List Rule). row (fieldsAt bytes 0 (widths rs))) all-are
 
-  pub whole-permitted : (values : List ℕ) → values ≡ row (numbersOf bytes) → listsPermit s values ≡ permitted (rulesOf bytes) (numbersOf bytes)
-  whole-permitted values e =
-      let k = kindOf bytes in
-      let same : permitted (head k) values ≡ permitted (head k) (headOf bytes) =
-      permitted-same (head k) values (headOf bytes) (λ j l. ap (λ (vs : List ℕ). at vs j) e ∙ at-row (numbersOf bytes) j ∙ numbers-head bytes (w .first) j l) in
-      sym (lists-permit s values (rw (w .kind) (same ∙ w .permits))) ∙ rw (e, whole-rules, permitted-row (rulesOf bytes) (numbersOf bytes))
+-- the numbers of a record in a row: questions 3 and 5 are those of the record
+module _ {bytes values : List ℕ} {k : ℕ} (w : Known bytes k) (v : values ≡ row (numbersOf bytes)) where
+  whole-head : (j : ℕ) → j < length (head k) → at values j ≡ at (headOf bytes) j
+  whole-head j l = ap (λ (l : List ℕ). at l j) v ∙ at-row (numbersOf bytes) j ∙ numbers-head bytes (w .first) j (subst (λ (x : ℕ). j < length (head x)) (w .kind) l)
 
-  pub whole-filled : (n : ℕ) → n ≡ total (widths (rulesIn s)) → eqb (fieldAt bytes n (8 * bytesFor n - n)) 0 ≡ isFilled bytes
-  unfolding isFilled
-  whole-filled n e = rw (e, whole-rules)
+  pub whole-rules : rulesFor k values ≡ rulesOf bytes
+  whole-rules = rules-same k values (headOf bytes) whole-head ∙ rules-are w
 
-  pub whole-rise : (values : List ℕ) → values ≡ row (numbersOf bytes) → listsRise s values ≡ idsRise (numbersOf bytes)
-  unfolding listsRise
-  whole-rise values e =
-      let vs = numbersOf bytes in
-      let k = kindOf bytes in
-      let c = counts-same k vs (headOf bytes) (numbers-head bytes (w .first)) in
-      let same : (p n : ℕ) → rises (row vs) 2 p n ≡ rises vs 2 p n = λ p n. rises-same (row vs) vs 2 p n (λ j l. at-row vs (p + 2 * j)) in
-      let d = deficitsIn k (headOf bytes) in
-      rw (e, w .kind, w .deficits, w .entries, same (length (head k)) d, same (length (head k) + 2 * d) (entriesIn k (headOf bytes)))
-      (sym (ids-pairs k vs (numbers-kind bytes (w .first)) ∙ rw (c 0, c 1)))
-
-  pub whole-count : length (rulesIn s) ≡ length (numbersOf bytes)
-  unfolding numbersOf
-  whole-count = sym (length-fields bytes 0 (widths (rulesOf bytes)) ∙ length-widths (rulesOf bytes) ∙ ap length (sym whole-rules))
-
-  pub whole-long : {values : List ℕ} → values ≡ row (numbersOf bytes) → length (rulesIn s) ≤ length values
-  whole-long e = rw (whole-count, e) (row-long (numbersOf bytes))
-
--- a head's numbers in a row
-pub head-long : (bytes : List ℕ) (k : ℕ) {values : List ℕ} → values ≡ row (fieldsAt bytes 0 (widths (head k))) → length (head k) ≤ length values
-head-long bytes k e =
-    let ws = widths (head k) in
-    rw e (omega (arith, row-long (fieldsAt bytes 0 ws), length-fields bytes 0 ws, length-widths (head k)))
-
--- the head's numbers in a row, and the shape s that they say
-pub record Headed (bytes values : List ℕ) (s : Shape) : Type 0 where
-  pub first : isKind (kindOf bytes) ≡ true
-  pub numbers : values ≡ row (headOf bytes)
-  pub shaped : Shaped (kindOf bytes) values s
-
--- as they come of the kind
-pub headed : (bytes values : List ℕ) (s : Shape) (k : ℕ) → k ≡ kindOf bytes → isKind k ≡ true → values ≡ row (fieldsAt bytes 0 (widths (head k))) → Shaped k values s → Headed bytes values s
-unfolding headOf
-headed bytes values s k e i v h = record { first = rw (← e) i; numbers = rw e at v; shaped = rw e at h }
-
-module _ {bytes values : List ℕ} {s : Shape} (h : Headed bytes values s) where
-  same : (j : ℕ) → at values j ≡ at (headOf bytes) j
-  same j = rw (h .numbers) (at-row (headOf bytes) j)
-
-  counts : (s .deficits ≡ deficitsIn (kindOf bytes) (headOf bytes)) × (s .entries ≡ entriesIn (kindOf bytes) (headOf bytes))
-  counts =
-      let c = counts-same (kindOf bytes) values (headOf bytes) (λ j l. same j) in
-      (h .shaped .deficits ∙ c 0, h .shaped .entries ∙ c 1)
-
-  pub headed-rules : rulesIn s ≡ rulesOf bytes
-  unfolding rulesOf
-  headed-rules = rw (h .shaped .kind, counts .0, counts .1) (sym (rules-pairs (kindOf bytes) (headOf bytes)))
-
-  pub headed-sized : Sized s
-  headed-sized =
-      let c = written-few bytes in
-      let k = h .shaped .kind in
+  pub whole-stated : Stated k values
+  whole-stated =
       record {
-        kind = rw k (kind-in (kindOf bytes) (h .first));
-        count = rw k (h .shaped .count);
-        bits = rw k (h .shaped .bits);
-        deficits = rw (counts .0) (c .0);
-        entries = rw (counts .1) (c .1);
+        kind = kind-in k (ap isKind (w .kind) ∙ w .first);
+        head = omega (arith, ap length v, row-long (numbersOf bytes), numbers-count bytes, ap length (sym whole-rules), rules-long k values);
+        bits = subst (λ (rs : List Rule). total (widths rs) ≤ 8 * longestRecord) (sym whole-rules) (few-bits bytes);
       }
 
-  pub headed-short : length bytes < sizeOf (rulesIn s) → isWhole bytes ≡ false
-  unfolding isWhole
-  headed-short l = lt-leb (sizeOf (rulesOf bytes)) (length bytes) (rw headed-rules at l)
+  pub whole-permitted : permitted (rulesFor k values) values ≡ permitted (rulesOf bytes) (numbersOf bytes)
+  whole-permitted = ap (λ (rs : List Rule). permitted rs values) whole-rules ∙ ap (permitted (rulesOf bytes)) v ∙ permitted-row (rulesOf bytes) (numbersOf bytes)
 
-  pub headed-whole : sizeOf (rulesIn s) ≤ length bytes → isWhole bytes ≡ true
-  unfolding isWhole
-  headed-whole l = le-leb (sizeOf (rulesOf bytes)) (length bytes) (rw headed-rules at l)
+  pub whole-long : length (rulesFor k values) ≤ length values
+  whole-long = omega (arith, ap length whole-rules, ap length v, numbers-count bytes, row-long (numbersOf bytes))
 
-  pub headed-refused : permitted (head (kindOf bytes)) values ≡ false → permitted (rulesOf bytes) (numbersOf bytes) ≡ false
-  unfolding rulesOf
-  headed-refused e =
-      let k = kindOf bytes in
-      head-refused k _ (numbersOf bytes) (permitted-same (head k) (numbersOf bytes) values (λ j l. numbers-head bytes (h .first) j l ∙ sym (same j)) ∙ e)
+  pub whole-kind : at values 0 ≡ k
+  whole-kind = ap (λ (l : List ℕ). at l 0) v ∙ at-row (numbersOf bytes) 0 ∙ numbers-kind bytes (w .first) ∙ sym (w .kind)
 
-  pub headed-made : sizeOf (rulesIn s) ≤ length bytes → permitted (head (kindOf bytes)) values ≡ true → Whole bytes s
-  headed-made l e =
-      record {
-        sized = headed-sized;
-        kind = h .shaped .kind;
-        deficits = counts .0;
-        entries = counts .1;
-        first = h .first;
-        whole = headed-whole l;
-        permits = permitted-same (head (kindOf bytes)) (headOf bytes) values (λ j m. sym (same j)) ∙ e;
-      }
+  pub whole-rise : idsRise values ≡ idsRise (numbersOf bytes)
+  whole-rise = rises-all values (numbersOf bytes) (λ j. ap (λ (l : List ℕ). at l j) v ∙ at-row (numbersOf bytes) j)
 
--- reading puts question 16 behind the others
-module _ (bytes : List ℕ) (room : ℕ) where
-  pub read-fails : (recordNumber bytes ≡ 0 → ⊥) → recordNumber bytes ≡ readNumber bytes room
-  unfolding readNumber
-  read-fails e = sym (number-first bytes _ e)
+  pub whole-head-permitted : permitted (head k) values ≡ permitted (head k) (numbersOf bytes)
+  whole-head-permitted = ap (permitted (head k)) v ∙ permitted-row (head k) (numbersOf bytes)
 
-  pub read-short : recordNumber bytes ≡ 0 → room < most → 16 ≡ readNumber bytes room
-  unfolding readNumber firstFailed
-  read-short e l = sym (number-later bytes _ e ∙ rw (lt-leb most room l))
+pub whole-size : (bytes : List ℕ) → isWhole bytes ≡ true → sizeOf (rulesOf bytes) ≤ length bytes
+unfolding isWhole
+whole-size bytes w = leb-true (sizeOf (rulesOf bytes)) (length bytes) w
 
-  pub read-full : recordNumber bytes ≡ 0 → most ≤ room → 0 ≡ readNumber bytes room
-  unfolding readNumber firstFailed
-  read-full e l = sym (number-later bytes _ e ∙ rw (le-leb most room l))
+pub whole-yes : (bytes : List ℕ) → sizeOf (rulesOf bytes) ≤ length bytes → isWhole bytes ≡ true
+unfolding isWhole
+whole-yes bytes l = le-leb (sizeOf (rulesOf bytes)) (length bytes) l
 
--- an answer with the number of a question that failed, and one with none
-pub rejects : {bytes before after : List ℕ} {number count used : ℕ} (n : ℕ) → number ≡ n → count ≡ 0 → used ≡ 0 → after ≡ before → (n ≡ 0 → ⊥) → n ≡ readNumber bytes (length before)
-    → Reads bytes before number count used after
-unfolding readBuffer
-rejects n e f g kept some t =
-    let z = ne-eqb _ 0 (λ q. some (t ∙ q)) in
-    record { numbers = e ∙ t; counts = cond-false _ z f; uses = cond-false _ z g; leaves = cond-false _ z kept }
+pub whole-no : (bytes : List ℕ) → length bytes < sizeOf (rulesOf bytes) → isWhole bytes ≡ false
+unfolding isWhole
+whole-no bytes l = lt-leb (sizeOf (rulesOf bytes)) (length bytes) l
 
-pub yields : {bytes before after : List ℕ} {number count used : ℕ} → number ≡ 0 → count ≡ length (numbersOf bytes) → used ≡ sizeOf (rulesOf bytes) → after ≡ over (numbersOf bytes) before
-    → 0 ≡ readNumber bytes (length before) → Reads bytes before number count used after
-unfolding readBuffer
-yields e f g made t =
-    let z = eq-eqb _ 0 (sym t) in
-    record { numbers = e ∙ t; counts = cond-true _ z f; uses = cond-true _ z g; leaves = cond-true _ z made }
+pub whole-filled : (bytes : List ℕ) (n : ℕ) → n ≡ total (widths (rulesOf bytes)) → eqb (fieldAt bytes n (8 * bytesFor n - n)) 0 ≡ isFilled bytes
+unfolding isFilled
+whole-filled bytes n e = rw e
 
--- the front of a row is the numbers
-pub row-front : (vs values : List ℕ) (n : ℕ) → values ≡ row vs → n ≡ length vs → take n values ≡ vs
-unfolding row
-row-front vs values n e f = rw e (take-at vs _ n (sym f))
+-- a head that is permitted makes for few enough numbers, and one that is not refuses the record
+module _ {bytes : List ℕ} {k : ℕ} (w : Known bytes k) where
+  pub few-of : permitted (head k) (numbersOf bytes) ≡ true → length (rulesOf bytes) ≤ most
+  few-of e =
+      let same : rulesFor k (numbersOf bytes) ≡ rulesOf bytes = rules-same k (numbersOf bytes) (headOf bytes) (λ j l. numbers-head bytes (w .first) j (subst (λ (x : ℕ). j < length (head x)) (w .kind) l)) ∙ rules-are w in
+      omega (arith, few-numbers k (numbersOf bytes) e, ap length same)
+
+  pub refused-of : permitted (head k) (numbersOf bytes) ≡ false → permitted (rulesOf bytes) (numbersOf bytes) ≡ false
+  refused-of e = ap (λ (rs : List Rule). permitted rs (numbersOf bytes)) (sym (rules-are w)) ∙ head-refused k (headOf bytes) (numbersOf bytes) e

@@ -1,20 +1,21 @@
 -- What an accepted record has: each question answered yes, its numbers within their rules, and its length consumed.
-use Prim.Native.Nat.{ℕ, zero, suc, _+_, _*_, _%_, _≤_, _<_}
+use Prim.Native.Nat.{ℕ, zero, suc, _+_, _*_, _≤_, _<_}
 use mathlib.Core.Bool.{Bool, true, false, cond}
 use mathlib.Core.List.{List, [], _∷_, _++_}
-use mathlib.Core.Logic.{inl, inr}
+use mathlib.Core.Logic.{_⊎_, inl, inr}
 use mathlib.Core.Path.{_≡_, refl, sym, ap, _∙_}
 use native.Mathlib.Omega.{arith}
 use borrow.Author.Tests.{leb-true, eq-eqb, ne-eqb}
 use lib.Dec.{leb, eqb}
 use lib.ListN.{length, getD}
 use Rattle.ids.specs.Ids.{at}
+use Rattle.ids.specs.Tests.{and-parts}
 use Rattle.bits.specs.TableLaws.{length-fields}
-use Rattle.layouts.specs.Layout.{Rule, noRule, head, hasLists, deficit, entry, deficitsIn, entriesIn, rulesFor, widths, sizeOf, most}
-use Rattle.layouts.specs.LayoutLaws.{and-parts, every, length-widths, rules-long, rule-head}
+use Rattle.layouts.specs.Layout.{Rule, noRule, Items, noItems, head, lists as listsOf, listAt, deficit, entry, itemsIn, placeOf, rulesTo, rulesFor, widths, sizeOf, most}
+use Rattle.layouts.specs.LayoutLaws.{every, length-widths, rules-long, rule-head, items-count}
 use Rattle.layouts.specs.Questions.{firstFailed, kindOf, rulesOf, numbersOf, rulesBy, isKind, isWhole, permitted, isFilled, idsRise, recordQuestions, recordNumber, numbersTaken, consumed, row}
 use Rattle.layouts.specs.QuestionLaws.{at-row, permitted-at, head-permitted, few-numbers, numbers-kind, rules-by}
-use Rattle.layouts.specs.PairLaws.{pairRules, lists-kind, lists-six, deficits-are, entries-are, rules-pairs, length-pairs, rule-deficit, rule-entry}
+use Rattle.layouts.specs.ListLaws.{length-list, rules-upto, rule-item}
 
 -- questions 1 to 5, each answered yes
 pub record Accepted (bytes : List ℕ) : Type 0 where
@@ -138,21 +139,12 @@ module _ (bytes : List ℕ) (a : Accepted bytes) where
   abbrev vs : List ℕ
   vs = numbersOf bytes
 
-  abbrev d : ℕ
-  d = deficitsIn (kindOf bytes) vs
-
-  abbrev n : ℕ
-  n = entriesIn (kindOf bytes) vs
-
   pub kind-number : at (row vs) 0 ≡ kindOf bytes
   kind-number = at-row vs 0 ∙ numbers-kind bytes (a .kind)
 
   rules : rulesFor (kindOf bytes) vs ≡ rulesOf bytes
   unfolding rulesBy
   rules = rw (numbers-kind bytes (a .kind)) at (rules-by bytes (a .kind))
-
-  pairs : pairRules (kindOf bytes) d n ≡ rulesOf bytes
-  pairs = sym (rules-pairs (kindOf bytes) vs) ∙ rules
 
   pub numbers-few : length vs ≤ most
   numbers-few =
@@ -170,8 +162,14 @@ module _ (bytes : List ℕ) (a : Accepted bytes) where
       let m : j < length vs = omega (arith, numbers-count bytes, ap length rules, rules-long (kindOf bytes) vs) in
       rw (← rules, rule-head (kindOf bytes) vs j l) at (number-within j m)
 
-  rule-within : (j : ℕ) (r : Rule) → j < length vs → getD (pairRules (kindOf bytes) d n) j noRule ≡ r → (r .low ≤ at (row vs) j) × (at (row vs) j ≤ r .high)
-  rule-within j r l e = rw (← pairs, e) at (number-within j l)
+  -- in list i, by the rules of an item
+  pub item-within : (i m f : ℕ) → (let k = kindOf bytes in let fs = listAt k i .fields in
+      i < length (listsOf k) → m < itemsIn k vs i → f < length fs
+      → ((getD fs f noRule) .low ≤ at (row vs) (placeOf k vs i + (m * length fs + f))) × (at (row vs) (placeOf k vs i + (m * length fs + f)) ≤ (getD fs f noRule) .high))
+  item-within i m f l h g =
+      let r = rule-item (kindOf bytes) vs i l m f h g in
+      let k = kindOf bytes in
+      rw (← rules, r .0) at (number-within (placeOf k vs i + (m * length (listAt k i .fields) + f)) (omega (arith, r .1, numbers-count bytes, ap length rules)))
 
   head-as : (k j : ℕ) → kindOf bytes ≡ k → j < length (head k) → ((getD (head k) j noRule) .low ≤ at (row vs) j) × (at (row vs) j ≤ (getD (head k) j noRule) .high)
   head-as k j e l = rw e at (head-within j (rw e l))
@@ -212,32 +210,42 @@ module _ (bytes : List ℕ) (a : Accepted bytes) where
   pub close : kindOf bytes ≡ 6 → Close (row vs)
   close e = record { month = head-as 6 1 e (omega arith) }
 
-  -- the lists of an event or a test
-  pub lists : hasLists (kindOf bytes) ≡ true → Lists (row vs)
-  lists q =
+  item-as : (i m f p : ℕ) (fs : List Rule) → listAt (kindOf bytes) i .fields ≡ fs → i < length (listsOf (kindOf bytes)) → m < itemsIn (kindOf bytes) vs i → f < length fs
+      → p ≡ placeOf (kindOf bytes) vs i + (m * length fs + f) → ((getD fs f noRule) .low ≤ at (row vs) p) × (at (row vs) p ≤ (getD fs f noRule) .high)
+  item-as i m f p fs e l h g q = rw q (rw e at (item-within i m f l h (rw e g)))
+
+  at-head : placeOf (kindOf bytes) vs 0 ≡ length (head (kindOf bytes))
+  unfolding rulesTo
+  at-head = refl
+
+  -- a list of deficits and one of entries, counted in numbers 4 and 5 of a head of six
+  pairs : length (head (kindOf bytes)) ≡ 6 → listsOf (kindOf bytes) ≡ listsOf 4 → at (row vs) 4 ≤ 16 → (1 ≤ at (row vs) 5) × (at (row vs) 5 ≤ 64) → Lists (row vs)
+  pairs six same few some =
+      let k = kindOf bytes in
       let r = row vs in
-      let six = lists-six (kindOf bytes) q in
-      let ds : d ≡ at r 4 = rw q at (deficits-are (kindOf bytes) vs) ∙ sym (at-row vs 4) in
-      let ns : n ≡ at r 5 = rw q at (entries-are (kindOf bytes) vs) ∙ sym (at-row vs 5) in
-      let count : length vs ≡ 6 + 2 * at r 4 + 2 * at r 5 = omega (arith, numbers-count bytes, ap length pairs, length-pairs (kindOf bytes) d n) in
-      let first : (k : ℕ) → (2 * k) % 2 ≡ 0 = λ k. omega arith in
-      let second : (k : ℕ) → (2 * k + 1) % 2 ≡ 1 = λ k. omega arith in
-      let deficit-at : (j : ℕ) → j < 2 * at r 4 → ((getD deficit (j % 2) noRule) .low ≤ at r (6 + j)) × (at r (6 + j) ≤ (getD deficit (j % 2) noRule) .high) =
-      λ j l. rule-within (6 + j) _ (omega arith) (rw six at (rule-deficit (kindOf bytes) d n j (omega arith))) in
-      let entry-at : (j : ℕ) → j < 2 * at r 5 → ((getD entry (j % 2) noRule) .low ≤ at r (6 + 2 * at r 4 + j)) × (at r (6 + 2 * at r 4 + j) ≤ (getD entry (j % 2) noRule) .high) =
-      λ j l.
-      let i : length (head (kindOf bytes)) + 2 * d + j ≡ 6 + 2 * at r 4 + j = omega arith in
-      rule-within (6 + 2 * at r 4 + j) _ (omega arith) (rw i at (rule-entry (kindOf bytes) d n j (omega arith))) in
-      let h : (at r 4 ≤ 16) × ((1 ≤ at r 5) × (at r 5 ≤ 64)) = elim (lists-kind (kindOf bytes) q) [
-        | inl e ↦ (head-as 4 4 e (omega arith) .1, head-as 4 5 e (omega arith))
-        | inr e ↦ (head-as 5 4 e (omega arith) .1, head-as 5 5 e (omega arith))
-      ] in
+      let two : length (listsOf k) ≡ 2 = ap length same in
+      let first : listAt k 0 .fields ≡ deficit = ap (λ (xs : List Items). (getD xs 0 noItems) .fields) same in
+      let second : listAt k 1 .fields ≡ entry = ap (λ (xs : List Items). (getD xs 1 noItems) .fields) same in
+      let ds : itemsIn k vs 0 ≡ at r 4 = items-count k vs 0 (omega arith) ∙ ap (λ (xs : List Items). at vs ((getD xs 0 noItems) .count)) same ∙ sym (at-row vs 4) in
+      let ns : itemsIn k vs 1 ≡ at r 5 = items-count k vs 1 (omega arith) ∙ ap (λ (xs : List Items). at vs ((getD xs 1 noItems) .count)) same ∙ sym (at-row vs 5) in
+      let behind : placeOf k vs 1 ≡ 6 + 2 * at r 4 = omega (arith, rw (first, ds) at (length-list k vs 0), at-head) in
+      let all : length (rulesTo k vs 2) ≡ 6 + 2 * at r 4 + 2 * at r 5 = omega (arith, rw (second, ns) at (length-list k vs 1)) in
+      let deficit-at : (m f : ℕ) → m < at r 4 → f < 2 → ((getD deficit f noRule) .low ≤ at r (6 + 2 * m + f)) × (at r (6 + 2 * m + f) ≤ (getD deficit f noRule) .high) =
+      λ m f h g. item-as 0 m f (6 + 2 * m + f) deficit first (omega arith) (omega arith) g (omega (arith, at-head)) in
+      let entry-at : (m f : ℕ) → m < at r 5 → f < 2 → ((getD entry f noRule) .low ≤ at r (6 + 2 * at r 4 + 2 * m + f)) × (at r (6 + 2 * at r 4 + 2 * m + f) ≤ (getD entry f noRule) .high) =
+      λ m f h g. item-as 1 m f (6 + 2 * at r 4 + 2 * m + f) entry second (omega arith) (omega arith) g (omega arith) in
+      let id : (n : ℕ) → n + 0 ≡ n = λ n. omega arith in
       record {
-        deficits = h .0;
-        entries = h .1;
-        few = omega arith;
-        seller = λ k l. omega (arith, rw first at (deficit-at (2 * k) (omega arith) .1));
-        kilowatts = λ k l. let i : 6 + (2 * k + 1) ≡ 6 + 2 * k + 1 = omega arith in rw (second, i) at (deficit-at (2 * k + 1) (omega arith));
-        registered = λ k l. omega (arith, rw first at (entry-at (2 * k) (omega arith) .1));
-        reduction = λ k l. let i : 6 + 2 * at r 4 + (2 * k + 1) ≡ 6 + 2 * at r 4 + 2 * k + 1 = omega arith in rw (second, i) at (entry-at (2 * k + 1) (omega arith) .1);
+        deficits = few;
+        entries = some;
+        few = omega (arith, numbers-few, numbers-count bytes, ap length rules, rules-upto k vs 2 (omega arith));
+        seller = λ m l. omega (arith, rw id at (deficit-at m 0 l (omega arith) .1));
+        kilowatts = λ m l. deficit-at m 1 l (omega arith);
+        registered = λ m l. omega (arith, rw id at (entry-at m 0 l (omega arith) .1));
+        reduction = λ m l. entry-at m 1 l (omega arith) .1;
       }
+
+  -- the lists of an event or a test
+  pub lists : (kindOf bytes ≡ 4) ⊎ (kindOf bytes ≡ 5) → Lists (row vs)
+  lists (inl e) = pairs (rw e) (rw e) (head-as 4 4 e (omega arith) .1) (head-as 4 5 e (omega arith))
+  lists (inr e) = pairs (rw e) (rw e) (head-as 5 4 e (omega arith) .1) (head-as 5 5 e (omega arith))

@@ -49,9 +49,9 @@ pub record Writes (vs before : List ℕ) (number used : ℕ) (after : List ℕ) 
   pub uses : used ≡ cond (eqb (writeNumber vs (length before)) 0) (sizeOf (rulesBy vs)) 0
   pub leaves : after ≡ writeBuffer vs before
 
--- a record that is taken apart: questions 1 to 5, and its numbers in a row
-pub record Parses (bytes : List ℕ) (number used count : ℕ) (values : List ℕ) : Type 0 where
+-- a record taken apart into a row of zeros: questions 1 to 5, and its numbers in the row; what is refused may leave numbers there
+pub record Fills (bytes : List ℕ) (number used count : ℕ) (values : List ℕ) : Type 0 where
   pub numbers : number ≡ recordNumber bytes
   pub uses : used ≡ consumed bytes
   pub counts : count ≡ length (numbersTaken bytes)
-  pub rows : values ≡ row (numbersTaken bytes)
+  pub rows : recordNumber bytes ≡ 0 → values ≡ row (numbersOf bytes)

@@ -1,37 +1,32 @@
 -- What the steps of parsing and writing rest on.
-use Prim.Native.Nat.{ℕ}
+use Prim.Native.Nat.{ℕ, _≤_}
 use mathlib.Core.Bool.{true}
 use mathlib.Core.List.{List}
 use mathlib.Core.Path.{_≡_}
-use lib.ListN.{length}
+use lib.ListN.{length, take}
 use Rattle.ids.specs.Ids.{at}
-use Rattle.layouts.specs.declared.Shape.{Shape}
-use Rattle.layouts.specs.Layout.{head, deficitsIn, entriesIn}
-use Rattle.layouts.specs.Questions.{kindOf, headOf, numbersOf, rulesBy, isKind, isWhole, permitted, idsRise, recordNumber, consumed, numbersTaken, row}
-use Rattle.layouts.specs.Shapes.{rulesIn, Sized}
+use Rattle.writer.specs.declared.Writer.{Writer}
+use Rattle.bits.specs.Table.{total}
+use Rattle.writer.specs.Written.{joined, Wrote}
+use Rattle.layouts.specs.Layout.{head, widths, sizeOf}
+use Rattle.layouts.specs.Questions.{kindOf, rulesBy, isKind, permitted, idsRise}
 
--- s is the shape of the bytes' record, which is whole, and whose head is permitted
-pub record Whole (bytes : List ℕ) (s : Shape) : Type 0 where
-  pub sized : Sized s
-  pub kind : s .kind ≡ kindOf bytes
-  pub deficits : s .deficits ≡ deficitsIn (kindOf bytes) (headOf bytes)
-  pub entries : s .entries ≡ entriesIn (kindOf bytes) (headOf bytes)
+-- k is the kind of the bytes' record
+pub record Known (bytes : List ℕ) (k : ℕ) : Type 0 where
+  pub kind : k ≡ kindOf bytes
   pub first : isKind (kindOf bytes) ≡ true
-  pub whole : isWhole bytes ≡ true
-  pub permits : permitted (head (kindOf bytes)) (headOf bytes) ≡ true
 
--- a record taken apart into a row of zeros: as `Parses` says, but that a refused one may leave numbers in the row
-pub record Fills (bytes : List ℕ) (number used count : ℕ) (values : List ℕ) : Type 0 where
-  pub numbers : number ≡ recordNumber bytes
-  pub uses : used ≡ consumed bytes
-  pub counts : count ≡ length (numbersTaken bytes)
-  pub rows : recordNumber bytes ≡ 0 → values ≡ row (numbersOf bytes)
-
--- s is the shape of the record with these numbers, which questions 1, 3 and 5 let pass
-pub record Passed (vs : List ℕ) (s : Shape) : Type 0 where
-  pub sized : Sized s
-  pub rules : rulesIn s ≡ rulesBy vs
-  pub first : isKind (at vs 0) ≡ true
+-- what writing accepts: questions 1, 3 and 5, and room for the record
+pub record Writable (vs : List ℕ) (room : ℕ) : Type 0 where
+  pub kind : isKind (at vs 0) ≡ true
   pub counted : length vs ≡ length (rulesBy vs)
   pub permits : permitted (rulesBy vs) vs ≡ true
-  pub rising : idsRise vs ≡ true
+  pub rise : idsRise vs ≡ true
+  pub fits : sizeOf (rulesBy vs) ≤ room
+
+-- a writer that has written the record's head has gone on to q, which has written all of it
+abbrev pub Lists : List ℕ → List ℕ → List ℕ → Writer → Writer → Type 0
+Lists vs one new w q =
+    let hs = head (at vs 0) in
+    (old : List ℕ) (p : Writer) → Wrote old one p w (total (widths hs)) (joined (widths hs) (take (length hs) vs))
+    → Wrote old new p q (total (widths (rulesBy vs))) (joined (widths (rulesBy vs)) vs)

@@ -9,6 +9,7 @@ use lib.Dec.{leb, ltb, eqb}
 use lib.ListN.{length, getD, take, length-append}
 use lib.Seq.{length-take-le, take-at}
 use Rattle.ids.specs.Ids.{at}
+use Rattle.ids.specs.Tests.{and-parts}
 use Rattle.bits.specs.Bits.{Bytes}
 use Rattle.bits.specs.BitLaws.{agree-take, agree-field}
 use Rattle.bits.specs.Table.{total, fieldsAt, Valid}
@@ -16,10 +17,11 @@ use Rattle.bits.specs.TableLaws.{fields-take}
 use Rattle.bits.specs.Pack.{bytesFor, encode, filling}
 use Rattle.bits.specs.PackLaws.{length-encode, read-back, filling-zero, write-back}
 use Rattle.layouts.specs.Layout.{Rule, noRule, widths, sizeOf, most}
-use Rattle.layouts.specs.LayoutLaws.{and-parts, every, every-in, sound, sound-rules, width-at, length-widths}
+use Rattle.layouts.specs.LayoutLaws.{every, every-in, sound, sound-rules, width-at, length-widths}
 use Rattle.layouts.specs.Questions.{firstFailed, rulesOf, numbersOf, rulesBy, isKind, isWhole, permitted, isFilled, idsRise, recordNumber, consumed}
 use Rattle.layouts.specs.QuestionLaws.{permitted-at, rules-by, rules-of, numbers-kind}
 use Rattle.records.specs.Calls.{over, readNumber, readBuffer, Reads, bytesBy, writeNumber, writeBuffer, Writes}
+use Rattle.records.specs.Parsing.{Writable}
 use Rattle.records.specs.Accepted.{Accepted, accepted, not-failed, passed, number-later, number-none, consumed-size, numbers-count}
 
 -- numbers that are permitted fit their fields
@@ -40,14 +42,6 @@ valid-permitted rs vs s e =
 pub valid-by : (vs : List ℕ) → permitted (rulesBy vs) vs ≡ true → Valid (widths (rulesBy vs)) vs
 unfolding rulesBy
 valid-by vs e = valid-permitted (rulesBy vs) vs (sound-rules (at vs 0) vs) e
-
--- what writing accepts: questions 1, 3 and 5, and room for the record
-pub record Writable (vs : List ℕ) (room : ℕ) : Type 0 where
-  pub kind : isKind (at vs 0) ≡ true
-  pub counted : length vs ≡ length (rulesBy vs)
-  pub permits : permitted (rulesBy vs) vs ≡ true
-  pub rise : idsRise vs ≡ true
-  pub fits : sizeOf (rulesBy vs) ≤ room
 
 pub writable : (vs : List ℕ) (room : ℕ) → writeNumber vs room ≡ 0 → Writable vs room
 unfolding writeNumber firstFailed

@@ -1,9 +1,9 @@
 // The bill's lines, as bytes: those of a statement and of a refusal.
 // Each function puts its text into a lent buffer from a place on and answers the next place, so that output can be gathered.
 use bits::Cursor;
-use text::lines::put_byte;
-use text::lines::put_decimal;
-use text::lines::put_number;
+use text::put_byte;
+use text::put_decimal;
+use text::put_number;
 ghost use mathlib.Core.Path.{_≡_};
 ghost use Prim.Native.Nat.{_+_, _*_, _^_, _≤_, _<_};
 ghost use lib.ListN.{length};

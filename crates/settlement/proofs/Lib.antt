@@ -1,3 +1,4 @@
--- What hand walks share: an array that is lent or filled in place, and the facts that a contract asks.
-pub mod Lent
+-- What hand walks share: a local that is lent as a `&mut`, an array that is lent as a slice, and the facts that a contract asks.
 pub mod Facts
+pub mod Local
+pub mod Lent

@@ -1,2 +1,2 @@
--- What the closing's arrays hold, and how the rules follow.
-pub mod Amounts
+-- The lent registrations in the working table.
+pub mod Entered

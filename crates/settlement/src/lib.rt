@@ -1,167 +1,59 @@
-// What is owed at a month, from a year: each amount to date of every seller and LSE.
+// What is owed at a month, of a year whose registrations are lent: their terms go into the working table, then the closing goes over the year's cells.
 ghost use mathlib.Core.Path.{_≡_};
-ghost use Prim.Native.Nat.{_+_, _-_, _*_, _≤_, _<_, _^_};
-ghost use lib.ListN.{getD, length, replicate};
-ghost use Rattle.ids.specs.Ids.{at, tabulate};
-ghost use Rattle.allotment.specs.Allot.{share};
-ghost use Rattle.year.specs.Year.{noRegistration};
-ghost use Rattle.year.specs.Steps.{withRegistrations};
-ghost use Rattle.year.specs.Sound.{Sound};
+ghost use Prim.Native.Nat.{_≤_, _<_};
+ghost use lib.ListN.{length, replicate};
+ghost use Rattle.year.specs.Sound.{SoundRegistration};
+ghost use Rattle.cells.specs.Layout.{yearIn, Held};
 ghost use Rattle.owed.specs.Owed.{amounts};
-ghost use Rattle.settlement.specs.Amounts.{sumOf};
-use events::over_events;
-use shares::allot;
-use shortfalls::caps_of;
-use tallies::calls_of;
-use tallies::less;
-use tallies::sum_of;
-use tests::over_tests;
-use units::Nominated;
+ghost use Rattle.looks.specs.Looks.{facts};
+ghost use Rattle.table.specs.Places.{size};
+ghost use Rattle.settlement.specs.Entered.{enteredAt};
+use cells::Cells;
+use table::Work;
 use year::Amounts;
 use year::Registration;
-use year::Year;
 
-// What the settlement reads of the registrations, an array for each field.
-fn read_columns(
-    registrations: [Registration; 64],
-    sellers: &mut [u64; 64],
-    products: &mut [u64; 64],
-    committed: &mut [u64; 64],
-    rates: &mut [u64; 64],
-)
-    requires { ⌜ length (now sellers) ≡ 64 ⌝ }
-    requires { ⌜ length (now products) ≡ 64 ⌝ }
-    requires { ⌜ length (now committed) ≡ 64 ⌝ }
-    requires { ⌜ length (now rates) ≡ 64 ⌝ }
-    ensures sellers { λ _. ⌜ now (sellers .exit) ≡ tabulate 64 (λ i. getD registrations i noRegistration .seller) ⌝ }
-    ensures products { λ _. ⌜ now (products .exit) ≡ tabulate 64 (λ i. getD registrations i noRegistration .product) ⌝ }
-    ensures committed { λ _. ⌜ now (committed .exit) ≡ tabulate 64 (λ i. getD registrations i noRegistration .committed .0) ⌝ }
-    ensures rates { λ _. ⌜ now (rates .exit) ≡ tabulate 64 (λ i. getD registrations i noRegistration .rate) ⌝ }
+// Nothing yet.
+fn blank() -> Work
+    ensures { λ r. ⌜ r ≡ replicate size 0 ⌝ }
 {
+    [0u64; 960]
+}
+
+// One registration's terms.
+fn enter(work: &mut Work, i: usize, r: Registration)
+    requires { ⌜ (length (now work) ≡ size) × (i < 64) × SoundRegistration r ⌝ }
+    ensures { λ _. ⌜ now (work .exit) ≡ enteredAt (now (work .entry)) i r ⌝ }
+{
+    work[table::SELLER + i] = r.seller;
+    work[table::PRODUCT + i] = r.product;
+    work[table::COMMITTED + i] = r.committed.0;
+    work[table::RATE + i] = r.rate;
+    work[table::PLACE + i] = 3 * r.zone + r.product;
+}
+
+// All amounts to date at month k, of a year whose registrations are lent.
+pub fn settle(registrations: &[Registration], year: &Cells, k: u64) -> Amounts
+    requires { ⌜ Held (now year) ⌝ }
+    requires { ⌜ now registrations ≡ yearIn (now year) .terms .registrations ⌝ }
+    requires { ⌜ (1 ≤ k) × (k ≤ 15) ⌝ }
+    ensures { λ r. ⌜ r ≡ amounts (facts (now (year .entry))) k ⌝ }
+{
+    let mut work = blank();
     let mut i: usize = 0;
     while i < 64 {
-        let r = registrations[i];
-        sellers[i] = r.seller;
-        products[i] = r.product;
-        committed[i] = r.committed.0;
-        rates[i] = r.rate;
+        enter(&mut work, i, registrations[i]);
         i += 1;
     }
+    closing::close(year, &mut work, k)
 }
 
-// What the LSEs get: all charges less all credits, by obligation.
-fn lses_of(
-    compliance: &[u64; 16],
-    tests: &[u64; 16],
-    credit: &[u64; 16],
-    obligations: &[u64; 16],
-) -> [u64; 16]
-    requires { ⌜ sumOf (now compliance) + sumOf (now tests) < 2 ^ 64 ⌝ }
-    requires { ⌜ sumOf (now credit) < 2 ^ 64 ⌝ }
-    requires { ⌜ length (now obligations) ≡ 16 ⌝ }
-    requires { ⌜ sumOf (now obligations) < 2 ^ 64 ⌝ }
-    requires { ⌜ (sumOf (now compliance) + sumOf (now tests) - sumOf (now credit)) * sumOf (now obligations) < 2 ^ 64 ⌝ }
-    ensures { λ r. ⌜ r ≡ tabulate 16 (share 16 (at (now (obligations .entry))) (sumOf (now (compliance .entry)) + sumOf (now (tests .entry)) - sumOf (now (credit .entry)))) ⌝ }
+// All amounts to date at month k: the year's own registrations are lent.
+pub fn amounts_of(year: &Cells, k: u64) -> Amounts
+    requires { ⌜ Held (now year) ⌝ }
+    requires { ⌜ (1 ≤ k) × (k ≤ 15) ⌝ }
+    ensures { λ r. ⌜ r ≡ amounts (facts (now (year .entry))) k ⌝ }
 {
-    let net = less(sum_of(compliance) + sum_of(tests), sum_of(credit));
-    let mut lse = [0u64; 16];
-    allot(net, obligations, &mut lse);
-    lse
-}
-
-// The amounts to date at month k of the year with these registrations.
-fn amounts_with(registrations: [Registration; 64], year: Year, k: u64) -> Amounts
-    requires { ⌜ Sound (withRegistrations year registrations) ⌝ }
-    requires { ⌜ 1 ≤ k ⌝ }
-    requires { ⌜ k ≤ 15 ⌝ }
-    ensures { λ r. ⌜ r ≡ amounts (withRegistrations year registrations) k ⌝ }
-{
-    let mut terms = year.terms;
-    terms.registrations = registrations;
-    let events = year.events;
-    let tests = year.tests;
-    let obligations = terms.obligations;
-    let lent = terms.registrations;
-    let mut sellers = [0u64; 64];
-    let mut products = [0u64; 64];
-    let mut committed = [0u64; 64];
-    let mut rates = [0u64; 64];
-    read_columns(
-        lent,
-        &mut sellers,
-        &mut products,
-        &mut committed,
-        &mut rates,
-    );
-    let calls = calls_of(events, year.held);
-    let called = calls.called;
-    let counts = calls.counts;
-    let caps = caps_of(terms.factor, terms.requirement, &committed, &rates);
-    let to_date = calendar::days(terms.leap, k);
-    let summed = over_events(
-        terms,
-        k,
-        to_date,
-        &sellers,
-        &committed,
-        &rates,
-        &products,
-        &counts,
-        &caps,
-        events,
-        year.held,
-    );
-    let compliance = summed.compliance;
-    let credit = summed.credit;
-    let test = over_tests(terms, k, &sellers, &committed, &rates, &called, tests);
-    let lse = lses_of(&compliance, &test, &credit, &obligations);
-    Amounts {
-        compliance: compliance,
-        test: test,
-        credit: credit,
-        lse: lse,
-    }
-}
-
-// Where a copy of the registrations starts from.
-fn no_registrations() -> [Registration; 64]
-    ensures { λ r. ⌜ r ≡ replicate 64 noRegistration ⌝ }
-{
-    let none = Nominated(0);
-    let registration = Registration {
-        known: false,
-        seller: 0,
-        area: 0,
-        zone: 0,
-        product: 0,
-        committed: none,
-        rate: 0,
-    };
-    [registration; 64]
-}
-
-// The amounts to date at month k of the year with the lent registrations.
-pub fn settle(registrations: &[Registration], year: Year, k: u64) -> Amounts
-    requires { ⌜ Sound (withRegistrations year (now registrations)) ⌝ }
-    requires { ⌜ 1 ≤ k ⌝ }
-    requires { ⌜ k ≤ 15 ⌝ }
-    ensures { λ r. ⌜ r ≡ amounts (withRegistrations year (now (registrations .entry))) k ⌝ }
-{
-    let mut copy = no_registrations();
-    let mut i: usize = 0;
-    while i < 64 {
-        // By field: a loop over whole records is unrolled, and every copy of a year taken apart with it.
-        let r = registrations[i];
-        copy[i] = Registration {
-            known: r.known,
-            seller: r.seller,
-            area: r.area,
-            zone: r.zone,
-            product: r.product,
-            committed: r.committed,
-            rate: r.rate,
-        };
-        i += 1;
-    }
-    amounts_with(copy, year, k)
+    let registrations = snapshot::registrations_of(year);
+    settle(&registrations, year, k)
 }

@@ -1,10 +1,9 @@
--- The statement, what the code holds of it on the way, and what a reader finds in its bytes.
+-- The statement, its parties, and what a reader finds in its bytes.
 pub mod Statement
 pub mod Lines
 pub mod Sizes
 pub mod Columns
-pub mod Code
-pub mod Turns
+pub mod Marks
 pub mod Value42
 pub mod ReadBack
 pub mod Reading

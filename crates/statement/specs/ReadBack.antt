@@ -13,8 +13,8 @@ sumℤ zero g = pos 0
 sumℤ (suc n) g = sumℤ n g +ℤ g n
 
 -- the sum over the lines i < n whose id is s
-abbrev pub sumOf : ℕ → (ℕ → ℕ) → ℕ → (ℕ → ℤ) → ℤ
-sumOf n id s g = sumℤ n (λ i. cond (eqb (id i) s) (g i) (pos 0))
+abbrev pub sumOfParty : ℕ → (ℕ → ℕ) → ℕ → (ℕ → ℤ) → ℤ
+sumOfParty n id s g = sumℤ n (λ i. cond (eqb (id i) s) (g i) (pos 0))
 
 module _ (xs : List ℕ) where
   unfoldable pub monthIn : ℕ
@@ -62,16 +62,16 @@ module _ (xs : List ℕ) where
 
   -- the amounts of seller s and of LSE j, 0 where the statement has no line of them
   unfoldable pub complianceIn : ℕ → ℤ
-  complianceIn s = sumOf sellersIn lineSeller s lineCompliance
+  complianceIn s = sumOfParty sellersIn lineSeller s lineCompliance
 
   unfoldable pub testIn : ℕ → ℤ
-  testIn s = sumOf sellersIn lineSeller s lineTest
+  testIn s = sumOfParty sellersIn lineSeller s lineTest
 
   unfoldable pub creditIn : ℕ → ℤ
-  creditIn s = sumOf sellersIn lineSeller s lineCredit
+  creditIn s = sumOfParty sellersIn lineSeller s lineCredit
 
   unfoldable pub lseIn : ℕ → ℤ
-  lseIn j = sumOf lsesIn lineLse j lineLseCredit
+  lseIn j = sumOfParty lsesIn lineLse j lineLseCredit
 
   -- the statement's charges and credits
   unfoldable pub chargesIn : ℤ

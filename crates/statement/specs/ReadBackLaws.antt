@@ -8,7 +8,7 @@ use Rattle.year.specs.declared.Terms.{Terms}
 use Rattle.year.specs.declared.Amounts.{Amounts}
 use Rattle.year.specs.Sound.{SoundAmounts}
 use Rattle.statement.specs.Statement.{countTo, hasRegistration, hasObligation}
-use Rattle.statement.specs.ReadBack.{sumℤ, sumOf, sellersIn, lsesIn, lineSeller, lineCompliance, lineTest, lineCredit, lineLse, lineLseCredit, complianceIn, testIn, creditIn, lseIn, chargesIn, creditsIn}
+use Rattle.statement.specs.ReadBack.{sumℤ, sumOfParty, sellersIn, lsesIn, lineSeller, lineCompliance, lineTest, lineCredit, lineLse, lineLseCredit, complianceIn, testIn, creditIn, lseIn, chargesIn, creditsIn}
 use Rattle.statement.specs.Reading.{count-below, line-id, line-rising, sum-lines, sum-of}
 use Rattle.statement.specs.Starts.{less, Starts, seller-line, lse-line}
 
@@ -43,9 +43,9 @@ module _ {T : Terms} {k : ℕ} {now before : Amounts} {xs : List ℕ} (f : Start
 
   -- the amounts of a seller with a registration
   seller-amount : (g h : ℕ → ℤ) → ((i : ℕ) → i < 16 → hasRegistration T i ≡ true → g (countTo i (hasRegistration T)) ≡ h i)
-      → (s : ℕ) → s < 16 → hasRegistration T s ≡ true → sumOf (sellersIn xs) (lineSeller xs) s g ≡ h s
+      → (s : ℕ) → s < 16 → hasRegistration T s ≡ true → sumOfParty (sellersIn xs) (lineSeller xs) s g ≡ h s
   seller-amount g h is s l e =
-      ap (λ n. sumOf n (lineSeller xs) s g) (f .sellers)
+      ap (λ n. sumOfParty n (lineSeller xs) s g) (f .sellers)
       ∙ sum-of 16 (hasRegistration T) (lineSeller xs) g h s l (λ i m y. (seller-line f a b i m y .id, is i m y)) ∙ rw e
 
   pub compliance-reads : (s : ℕ) → s < 16 → hasRegistration T s ≡ true → complianceIn xs s ≡ less (now .compliance) (before .compliance) s
@@ -64,7 +64,7 @@ module _ {T : Terms} {k : ℕ} {now before : Amounts} {xs : List ℕ} (f : Start
   pub lse-reads : (j : ℕ) → j < 16 → hasObligation T j ≡ true → lseIn xs j ≡ less (now .lse) (before .lse) j
   unfolding lseIn
   lse-reads j l e =
-      ap (λ n. sumOf n (lineLse xs) j (lineLseCredit xs)) (f .lses)
+      ap (λ n. sumOfParty n (lineLse xs) j (lineLseCredit xs)) (f .lses)
       ∙ sum-of 16 (hasObligation T) (lineLse xs) (lineLseCredit xs) (less (now .lse) (before .lse)) j l
       (λ i m y. (lse-line f a b i m y .id, lse-line f a b i m y .credit))
       ∙ rw e

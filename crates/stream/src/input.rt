@@ -1,10 +1,10 @@
 // Input in pieces through a lent buffer. What is still to be taken of it is moved to the front, so that a record or a line across two pieces is read as one.
-ghost use mathlib.Core.Bool.{false};
+ghost use mathlib.Core.Bool.{false, cond, _||_};
 ghost use mathlib.Core.Path.{_≡_};
 ghost use Prim.Native.Nat.{_+_, _-_, _≤_, _<_, min};
 ghost use lib.ListN.{length, take, drop};
 ghost use lib.Seq.{paste};
-ghost use Rattle.text.specs.Text.{Ends};
+ghost use Rattle.scan.specs.Find.{Ends};
 ghost use Rattle.stream.specs.Filled.{Filled};
 
 // The part of the input buffer that is still to be taken. Ended: no more comes; failed: a read failed.
@@ -67,7 +67,7 @@ pub fn next_line(input: i32, buffer: &mut [u8], window: Window) -> Line
     ensures { λ r. ⌜ Ends (take (r .window .end) (now (buffer .exit))) (r .window .start) 10 (r .end) ⌝ }
 {
     let end = window.end;
-    let newline = text::find(&buffer[0..end], window.start, b'\n');
+    let newline = scan::find(&buffer[0..end], window.start, b'\n');
     if newline < end {
         return Line {
             window: window,
@@ -77,7 +77,7 @@ pub fn next_line(input: i32, buffer: &mut [u8], window: Window) -> Line
     let size = buffer.len();
     let more = filled(input, buffer, window, size);
     let stop = more.end;
-    let newline = text::find(&buffer[0..stop], more.start, b'\n');
+    let newline = scan::find(&buffer[0..stop], more.start, b'\n');
     Line {
         window: more,
         end: newline,
@@ -97,6 +97,22 @@ pub fn past(line: Line) -> Window
         window.start = window.end;
     }
     window
+}
+
+// The window behind a record of so many bytes; behind the last, nothing is left and no more comes.
+pub fn behind(window: Window, used: usize, last: bool) -> Window
+    requires { ⌜ window .start + used ≤ window .end ⌝ }
+    ensures { λ r. ⌜ (r .start ≤ r .end) × (r .end ≡ window .end) ⌝ }
+    ensures { λ r. ⌜ (r .start ≡ cond last (window .end) (window .start + used)) × (r .ended ≡ last || window .ended) × (r .failed ≡ window .failed) ⌝ }
+{
+    let mut next = window;
+    if last {
+        next.start = window.end;
+        next.ended = true;
+    } else {
+        next.start = window.start + used;
+    }
+    next
 }
 
 // The bytes from `start` up to `end` to the front; answers how many they are.

@@ -1,5 +1,3 @@
-pub mod Text
-pub mod Words
 pub mod Lines
 pub mod Pasted
 pub mod LineLaws

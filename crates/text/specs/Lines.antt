@@ -3,7 +3,6 @@ use Prim.Native.Nat.{ℕ, zero, suc, _+_, _/_, _%_}
 use mathlib.Core.Bool.{cond}
 use mathlib.Core.List.{List, [], _∷_, _++_}
 use lib.Dec.{ltb}
-use Rattle.text.specs.Text.{character}
 
 -- the digits of n in decimal, at most so many, the first of them the highest
 unfoldable pub digitsTo : ℕ → ℕ → List ℕ
@@ -27,6 +26,10 @@ each text (n ∷ ns) = text n ++ each text ns
 unfoldable pub numbersLine : List ℕ → List ℕ
 numbersLine [] = 10 ∷ []
 numbersLine (n ∷ ns) = decimal n ++ (each (λ m. word (decimal m)) ns ++ (10 ∷ []))
+
+-- the hexadecimal digit with a value below 16
+unfoldable pub character : ℕ → ℕ
+character n = cond (ltb n 10) (48 + n) (87 + n)
 
 -- a byte's two hexadecimal digits
 abbrev pub hexOf : ℕ → List ℕ

@@ -1,176 +1,57 @@
-// Words of a text: where they end, the numbers that they spell, and bytes in hexadecimal digits.
+// Text put into a lent buffer from a place on, each function answering the next place, so that output can be gathered.
 ghost use mathlib.Core.Path.{_≡_};
-ghost use mathlib.Core.List.{[], _∷_, _++_};
-ghost use mathlib.Core.Bool.{false};
-ghost use Prim.Native.Nat.{_+_, _*_, _/_, _%_, _≤_, _<_, min};
-ghost use lib.ListN.{length, getD, take, drop};
-ghost use Rattle.text.specs.Text.{Ends, digit, pairs, character};
-ghost use Rattle.text.specs.Words.{Starts, Stops, separates, further, spelled, numbers};
+ghost use mathlib.Core.List.{[], _∷_};
+ghost use Prim.Native.Nat.{_+_, _*_, _≤_, _<_};
+ghost use lib.ListN.{length};
+ghost use Rattle.text.specs.Pasted.{Pasted};
+ghost use Rattle.text.specs.Lines.{callLine, character, decimal, hexOf, hexadecimal, numbersLine, word};
 
-pub mod lines;
-
-// Where the byte stands first from a place on, or the length.
-pub fn find(s: &[u8], at: usize, byte: u8) -> usize
-    requires { ⌜ at ≤ length (now s) ⌝ }
-    ensures { λ r. ⌜ Ends (now (s .entry)) at byte r ⌝ }
+// A byte.
+pub fn put_byte(out: &mut [u8], at: usize, byte: u8) -> usize
+    requires { ⌜ at < length (now out) ⌝ }
+    ensures { λ r. ⌜ Pasted (now (out .entry)) (now (out .exit)) at (byte ∷ []) r ⌝ }
 {
-    let mut i = at;
-    while i < s.len() {
-        if s[i] == byte {
-            return i;
-        }
+    out[at] = byte;
+    at + 1
+}
+
+// A number's digits.
+pub fn put_decimal(out: &mut [u8], at: usize, n: u64) -> usize
+    requires { ⌜ at + 20 ≤ length (now out) ⌝ }
+    ensures { λ r. ⌜ Pasted (now (out .entry)) (now (out .exit)) at (decimal n) r ⌝ }
+{
+    if n < 10 {
+        return put_byte(out, at, 48 + n as u8);
+    }
+    let p = put_decimal(out, at, n / 10);
+    put_byte(out, p, 48 + (n % 10) as u8)
+}
+
+// A number as a further word of a line.
+pub fn put_number(out: &mut [u8], at: usize, n: u64) -> usize
+    requires { ⌜ at + 21 ≤ length (now out) ⌝ }
+    ensures { λ r. ⌜ Pasted (now (out .entry)) (now (out .exit)) at (word (decimal n)) r ⌝ }
+    ensures { λ r. ⌜ r ≤ at + 21 ⌝ }
+{
+    let p = put_byte(out, at, b' ');
+    put_decimal(out, p, n)
+}
+
+// The line of a record that is read: its numbers.
+pub fn numbers_line(numbers: &[u64], out: &mut [u8], at: usize) -> usize
+    requires { ⌜ at + (21 * length (now numbers) + 1) ≤ length (now out) ⌝ }
+    ensures { λ r. ⌜ Pasted (now (out .entry)) (now (out .exit)) at (numbersLine (now (numbers .entry))) r ⌝ }
+{
+    if numbers.len() == 0 {
+        return put_byte(out, at, b'\n');
+    }
+    let mut p = put_decimal(out, at, numbers[0]);
+    let mut i = 1;
+    while i < numbers.len() {
+        p = put_number(out, p, numbers[i]);
         i += 1;
     }
-    i
-}
-
-// The numbers of a line's words into the front of out, as far as it goes; how many.
-pub fn decimals(line: &[u8], out: &mut [u64]) -> usize
-    ensures { λ r. ⌜ r ≡ min (length (numbers (now (line .entry)))) (length (now (out .entry))) ⌝ }
-    ensures { λ r. ⌜ now (out .exit) ≡ take r (numbers (now (line .entry))) ++ drop r (now (out .entry)) ⌝ }
-{
-    let mut at = word_start(line, 0);
-    let mut n = 0;
-    while n < out.len() {
-        if at == line.len() {
-            return n;
-        }
-        let end = word_end(line, at);
-        out[n] = decimal(&line[at..end]);
-        n += 1;
-        at = word_start(line, end);
-    }
-    n
-}
-
-// Where the next word starts from a place on, or the length.
-fn word_start(line: &[u8], at: usize) -> usize
-    requires { ⌜ at ≤ length (now line) ⌝ }
-    ensures { λ r. ⌜ Starts (now (line .entry)) at r ⌝ }
-{
-    let mut i = at;
-    while i < line.len() {
-        if !is_separator(line[i]) {
-            return i;
-        }
-        i += 1;
-    }
-    i
-}
-
-// Where the word that starts at a place ends.
-fn word_end(line: &[u8], at: usize) -> usize
-    requires { ⌜ at < length (now line) ⌝ }
-    requires { ⌜ separates (getD (now line) at 0) ≡ false ⌝ }
-    ensures { λ r. ⌜ Stops (now (line .entry)) at r ⌝ }
-{
-    let mut i = at + 1;
-    while i < line.len() {
-        if is_separator(line[i]) {
-            return i;
-        }
-        i += 1;
-    }
-    i
-}
-
-// Does it stand between words?
-fn is_separator(b: u8) -> bool
-    ensures { λ r. ⌜ r ≡ separates b ⌝ }
-{
-    if b == b' ' {
-        return true;
-    }
-    if b == b'\t' {
-        return true;
-    }
-    b == b'\r'
-}
-
-// The number that decimal digits spell, the largest u64 where it is larger or a character is no digit.
-fn decimal(word: &[u8]) -> u64
-    ensures { λ r. ⌜ r ≡ spelled (now (word .entry)) ⌝ }
-{
-    let mut v: u64 = 0;
-    let mut i = 0;
-    while i < word.len() {
-        v = then(v, word[i]);
-        i += 1;
-    }
-    v
-}
-
-// A number with one more character behind it.
-fn then(v: u64, b: u8) -> u64
-    ensures { λ r. ⌜ r ≡ further v b ⌝ }
-{
-    if b < 48 {
-        return u64::MAX;
-    }
-    if 57 < b {
-        return u64::MAX;
-    }
-    if 1844674407370955161 < v {
-        return u64::MAX;
-    }
-    let t = v * 10;
-    let low = (b - 48) as u64;
-    if u64::MAX - t < low {
-        return u64::MAX;
-    }
-    t + low
-}
-
-// A hexadecimal digit's value, in small letters.
-fn digit_of(b: u8) -> u8
-    ensures { λ r. ⌜ r ≡ digit b ⌝ }
-{
-    if b < 48 {
-        return 0;
-    }
-    if b < 58 {
-        return b - 48;
-    }
-    if b < 97 {
-        return 0;
-    }
-    if b < 103 { b - 87 } else { 0 }
-}
-
-// The bytes that pairs of hexadecimal digits spell, into the front of out as far as it goes; how many.
-pub fn hex_bytes(s: &[u8], out: &mut [u8]) -> usize
-    ensures { λ r. ⌜ r ≡ min (length (now (s .entry)) / 2) (length (now (out .entry))) ⌝ }
-    ensures { λ r. ⌜ now (out .exit) ≡ pairs (now (s .entry)) r ++ drop r (now (out .entry)) ⌝ }
-{
-    let n = least(s.len() / 2, out.len());
-    let mut i = 0;
-    while i < n {
-        out[i] = pair(s[2 * i], s[2 * i + 1]);
-        i += 1;
-    }
-    n
-}
-
-// The byte of two hexadecimal digits.
-fn pair(high: u8, low: u8) -> u8
-    ensures { λ r. ⌜ r ≡ 16 * digit high + digit low ⌝ }
-{
-    16 * digit_of(high) + digit_of(low)
-}
-
-pub fn least(a: usize, b: usize) -> usize
-    ensures { λ r. ⌜ r ≡ min a b ⌝ }
-{
-    if a < b { a } else { b }
-}
-
-// The two hexadecimal digits of a byte.
-pub fn hex_digits(b: u8) -> [u8; 2]
-    ensures { λ r. ⌜ r ≡ character (b / 16) ∷ character (b % 16) ∷ [] ⌝ }
-{
-    let high = character_of(b / 16);
-    let low = character_of(b % 16);
-    [high, low]
+    put_byte(out, p, b'\n')
 }
 
 fn character_of(n: u8) -> u8
@@ -178,4 +59,43 @@ fn character_of(n: u8) -> u8
     ensures { λ r. ⌜ r ≡ character n ⌝ }
 {
     if n < 10 { 48 + n } else { 87 + n }
+}
+
+// The two hexadecimal digits of a byte.
+fn put_hexadecimal(out: &mut [u8], at: usize, b: u8) -> usize
+    requires { ⌜ at + 2 ≤ length (now out) ⌝ }
+    ensures { λ r. ⌜ Pasted (now (out .entry)) (now (out .exit)) at (hexOf b) r ⌝ }
+{
+    let p = put_byte(out, at, character_of(b / 16));
+    put_byte(out, p, character_of(b % 16))
+}
+
+// Bytes in hexadecimal, `-` where there are none.
+fn put_bytes(bytes: &[u8], out: &mut [u8], at: usize) -> usize
+    requires { ⌜ at + (2 * length (now bytes) + 1) ≤ length (now out) ⌝ }
+    ensures { λ r. ⌜ Pasted (now (out .entry)) (now (out .exit)) at (hexadecimal (now (bytes .entry))) r ⌝ }
+    ensures { λ r. ⌜ r ≤ at + (2 * length (now (bytes .entry)) + 1) ⌝ }
+{
+    if bytes.len() == 0 {
+        return put_byte(out, at, b'-');
+    }
+    let mut p = at;
+    let mut i = 0;
+    while i < bytes.len() {
+        p = put_hexadecimal(out, p, bytes[i]);
+        i += 1;
+    }
+    p
+}
+
+// The line of what a call answers: its number, how many bytes it used, and bytes in hexadecimal.
+pub fn call_line(number: u64, used: u64, bytes: &[u8], out: &mut [u8], at: usize) -> usize
+    requires { ⌜ at + (2 * length (now bytes) + 44) ≤ length (now out) ⌝ }
+    ensures { λ r. ⌜ Pasted (now (out .entry)) (now (out .exit)) at (callLine number used (now (bytes .entry))) r ⌝ }
+{
+    let mut p = put_decimal(out, at, number);
+    p = put_number(out, p, used);
+    p = put_byte(out, p, b' ');
+    p = put_bytes(bytes, out, p);
+    put_byte(out, p, b'\n')
 }

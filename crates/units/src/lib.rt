@@ -1,7 +1,6 @@
 // Nominated and unforced kilowatts: two units, with conversion the only way across.
 ghost use mathlib.Core.Path.{_≡_};
-ghost use Prim.Native.Nat.{_*_, _≤_};
-ghost use lib.Dec.{leb};
+ghost use Prim.Native.Nat.{_*_, _-_, _≤_};
 ghost use Rattle.units.specs.Units.{convert, nominatedLimit, unforcedLimit, factorLimit, most};
 
 // Kilowatts as nominated.
@@ -14,19 +13,31 @@ impl Nominated {
     // The most of one registration.
     pub const LIMIT: u64 = 100_000;
 
-    // May one registration have this many?
-    pub fn permitted(kw: u64) -> bool
-        ensures { λ r. ⌜ r ≡ leb kw nominatedLimit ⌝ }
+    // The kilowatts of one registration.
+    pub fn new(kw: u64) -> Nominated
+        requires { ⌜ kw ≤ nominatedLimit ⌝ }
+        ensures { λ r. ⌜ r .0 ≡ kw ⌝ }
     {
-        kw <= Nominated::LIMIT
+        Nominated(kw)
     }
 
-    // The kilowatts of one registration, or of a seller's sum.
-    pub fn new(kw: u64) -> Nominated
+    // The kilowatts of a seller: a sum over its registrations.
+    pub fn sum(kw: u64) -> Nominated
         requires { ⌜ kw ≤ most * nominatedLimit ⌝ }
         ensures { λ r. ⌜ r .0 ≡ kw ⌝ }
     {
         Nominated(kw)
+    }
+
+    // What is left of these kilowatts, at least 0.
+    pub fn less(self, other: Nominated) -> Nominated
+        ensures { λ r. ⌜ r .0 ≡ self .0 - other .0 ⌝ }
+    {
+        if other.0 < self.0 {
+            Nominated(self.0 - other.0)
+        } else {
+            Nominated(0)
+        }
     }
 
     // Converted by the year's two factors, in ten-thousandths.
@@ -42,18 +53,22 @@ impl Unforced {
     // The most of one registration.
     pub const LIMIT: u64 = 144_000;
 
-    // May one registration have this many?
-    pub fn permitted(kw: u64) -> bool
-        ensures { λ r. ⌜ r ≡ leb kw unforcedLimit ⌝ }
-    {
-        kw <= Unforced::LIMIT
-    }
-
-    // The kilowatts of one registration, or of a seller's sum.
-    pub fn new(kw: u64) -> Unforced
+    // The kilowatts of a seller: a sum over its registrations, or its deficit.
+    pub fn sum(kw: u64) -> Unforced
         requires { ⌜ kw ≤ most * unforcedLimit ⌝ }
         ensures { λ r. ⌜ r .0 ≡ kw ⌝ }
     {
         Unforced(kw)
+    }
+
+    // What is left of these kilowatts, at least 0.
+    pub fn less(self, other: Unforced) -> Unforced
+        ensures { λ r. ⌜ r .0 ≡ self .0 - other .0 ⌝ }
+    {
+        if other.0 < self.0 {
+            Unforced(self.0 - other.0)
+        } else {
+            Unforced(0)
+        }
     }
 }

@@ -20,7 +20,7 @@ use Rattle.ids.specs.Sets.{kept-set}
 
 sound-no-listing : SoundListing noListing
 sound-no-listing =
-    record { listed = length-replicate 64 false; reductions = each-replicate (AtMost 100000) 0 64 (lit≤ tt); deficits = each-replicate (AtMost 1000000) 0 16 (lit≤ tt) }
+    record { listed = length-replicate 64 false; reductions = each-replicate (AtMost 100000) 0 64 (lit≤ tt); deficits = each-replicate (AtMost 1000000) 0 16 (lit≤ tt); unlisted = λ i l e. getD-replicate 64 i 0 0 l }
 
 sound-no-event : SoundEvent noEvent
 sound-no-event = record { month = lit≤ tt; listing = sound-no-listing }
@@ -50,7 +50,7 @@ sound-no-tests : (T : Terms) {ts : List Test} → ts ≡ replicate 24 noTest →
 unfolding listed
 sound-no-tests T e k l =
     rw (e, getD-replicate 24 k noTest pastTest l)
-    (record { listing = sound-no-listing; own = λ i m t. false-true (getD-replicate 64 i false false m) t })
+    (record { listing = sound-no-listing; own = λ i m t. false-true (getD-replicate 64 i false false m) t; untaken = λ e i m. getD-replicate 64 i false false m })
 
 pub sound-new : Sound newYear
 sound-new =
@@ -65,7 +65,7 @@ module _ {y : Year} (s : Sound y) where
   sound-others : {opened : Bool} {T : Terms} → T .registrations ≡ y .terms .registrations → SoundTerms T → Sound (withTerms y opened T)
   unfolding zone product
   sound-others e t =
-      sound-terms t (λ k l. record { listing = s .tests k l .listing; own = λ i m h. rw e (s .tests k l .own i m h) })
+      sound-terms t (λ k l. record { listing = s .tests k l .listing; own = λ i m h. rw e (s .tests k l .own i m h); untaken = s .tests k l .untaken })
 
   pub sound-opening : {leap factor requirement : ℕ} → Factors leap factor requirement → Sound (withOpening y leap factor requirement)
   sound-opening f =

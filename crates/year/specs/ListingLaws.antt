@@ -6,9 +6,10 @@ use mathlib.Core.List.{List}
 use mathlib.Core.Logic.{inl, inr}
 use native.Mathlib.Omega.{arith}
 use native.Mathlib.Nat.{eq-or-lt-of-le, le-of-suc-le-suc, not-suc-le-zero}
+use native.Mathlib.Decide.{ℕ-discrete}
 use native.Mathlib.Numerals.{add-one}
-use lib.ListN.{length, set, length-set, length-replicate}
-use lib.Seq.{getD-set-same}
+use lib.ListN.{length, set, length-set, length-replicate, getD-replicate}
+use lib.Seq.{getD-set-same, getD-set-other}
 use Rattle.ids.specs.Ids.{at, holds}
 use Rattle.ids.specs.Each.{Each, each-set, each-replicate}
 use Rattle.year.specs.Listing.{byId, pairedBy, listingOf}
@@ -62,9 +63,22 @@ module _ (size : ℕ) (vs : List ℕ) (p : ℕ) where
         (λ i e. rw e (paired-at n k b m)) (at vs (p + 2 * k)) refl
   ]
 
+-- an id without a pair has no kilowatts
+unpaired : (size : ℕ) (vs : List ℕ) (p n i : ℕ) → i < size → holds (pairedBy size vs p n) i ≡ false → at (byId size vs p n) i ≡ 0
+unfolding byId pairedBy
+unpaired size vs p zero i l e = getD-replicate size i 0 0 l
+unpaired size vs p (suc n) i l e = elim (ℕ-discrete i (at vs (p + 2 * n))) [
+  | yes q ↦
+      let t = getD-set-same (pairedBy size vs p n) i true false (omega (arith, length-paired-by size vs p n)) in
+      absurd (let z : _≡_ {A = ℕ} 0 1 = cc in omega arith)
+  | no q ↦
+      getD-set-other (byId size vs p n) (at vs (p + 2 * n)) i (at vs (p + 2 * n + 1)) 0 q
+      ∙ unpaired size vs p n i l (sym (getD-set-other (pairedBy size vs p n) (at vs (p + 2 * n)) i true false q) ∙ e)
+]
+
 pub sound-listing : {vs : List ℕ} {p d n : ℕ} → Pairs 16 1000000 vs p d → Pairs 64 100000 vs (p + 2 * d) n → SoundListing (listingOf vs p d n)
 sound-listing {vs} {p} {d} {n} ds es =
-    record { listed = length-paired-by 64 vs (p + 2 * d) n; reductions = each-by-id 64 vs (p + 2 * d) n (es .kilowatts); deficits = each-by-id 16 vs p d (ds .kilowatts) }
+    record { listed = length-paired-by 64 vs (p + 2 * d) n; reductions = each-by-id 64 vs (p + 2 * d) n (es .kilowatts); deficits = each-by-id 16 vs p d (ds .kilowatts); unlisted = unpaired 64 vs (p + 2 * d) n }
 
 -- the first n pairs of two lists of numbers have the same ids
 abbrev pub SameIds : List ℕ → List ℕ → ℕ → ℕ → Type 0

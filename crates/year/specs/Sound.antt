@@ -4,7 +4,7 @@ use mathlib.Core.Path.{_≡_}
 use mathlib.Core.Bool.{true, false}
 use mathlib.Core.List.{List}
 use lib.ListN.{length, getD, replicate}
-use Rattle.ids.specs.Ids.{at}
+use Rattle.ids.specs.Ids.{at, holds}
 use Rattle.ids.specs.Each.{Each}
 use Rattle.year.specs.declared.Registration.{Registration}
 use Rattle.year.specs.declared.Listing.{Listing}
@@ -31,15 +31,17 @@ pub record SoundListing (l : Listing) : Type 0 where
   pub listed : length (l .listed) ≡ 64
   pub reductions : Each (AtMost 100000) 0 64 (l .reductions)
   pub deficits : Each (AtMost 1000000) 0 16 (l .deficits)
+  pub unlisted : (i : ℕ) → i < 64 → holds (l .listed) i ≡ false → at (l .reductions) i ≡ 0
 
 pub record SoundEvent (e : Event) : Type 0 where
   pub month : e .month ≤ 12
   pub listing : SoundListing (e .listing)
 
--- a test at a place lists registrations of its zone and product alone, so that none is in two tests
+-- a test at a place lists registrations of its zone and product alone, so that none is in two tests; one that was not taken lists none
 pub record SoundTest (T : Terms) (place : ℕ) (t : Test) : Type 0 where
   pub listing : SoundListing (t .listing)
   pub own : (i : ℕ) → i < 64 → listed (t .listing) i ≡ true → 3 * zone T i + product T i ≡ place
+  pub untaken : t .taken ≡ false → (i : ℕ) → i < 64 → listed (t .listing) i ≡ false
 
 -- a leap mark, a DR Factor and a Forecast Pool Requirement
 pub record Factors (l f r : ℕ) : Type 0 where

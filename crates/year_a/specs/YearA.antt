@@ -16,12 +16,14 @@ use Rattle.layouts.specs.Layout.{itemsIn, rulesTo, rulesFor}
 use Rattle.layouts.specs.Questions.{recordQuestions, firstFailed, kindOf, headOf, rulesOf, numbersOf, isKind, isWhole, permits, permitted, isFilled, rises, idsRise, recordNumber, consumed, row}
 use Rattle.year.specs.Year.{newYear, listed, reduction, deficit, known, seller, area, zone, product, committed, rate, obligation}
 use Rattle.year.specs.Listing.{byId, pairedBy}
-use Rattle.owed.specs.Owed.{called, calls, uncapped, raised, part, total, shortfall, shortOf, u, cap, asked, daily, overEvents, charge, excessOf, e, charged, creditOf, tested, base, testOf, overTests, compliance, credit, test, charges, credits, lse, amounts}
+use Rattle.owed.specs.Facts.{factsOf}
+use Rattle.owed.specs.Owed.{beforeCap, raised, unforced, ofSeller, shareOf, called, calls, shortfallOver, u, cap, daily, taken, charge, excess, e, creditShare, creditLimit, creditOf, B, testOf, compliance, test, credit, charges, credits, lse, amounts}
 use Rattle.statement.specs.Statement.{countTo, difference, hasRegistration, hasObligation, sellerColumns, lineFields, linesTo, statementFields, statementOf}
 use Rattle.statement.specs.Value42.{value42}
-use Rattle.questions.specs.Questions.{listingIn, inTime, q6, q7, q8, q9, q10, q11, q12, q13, q14, q15, q16, questions}
+use Rattle.heads.specs.Record.{headOf as namedHead, listingIn}
+use Rattle.questions.specs.Questions.{inTime, q6, q7, q8, q9, q10, q11, q12, q13, q14, q15, q16, questions}
 use Rattle.entries.specs.Entries.{inArea, inGroup, everyListed, deficitsListed, listsExactly}
-use Rattle.book.specs.Outcome.{valuesOf, postNumber, yearWith, bufferWith, yearAfter, bufferAfter}
+use Rattle.book.specs.Outcome.{valuesOf, postNumber, yearBy, bufferWith, yearAfter, bufferAfter}
 use Rattle.text.specs.Lines.{digitsTo, decimal}
 use Rattle.file.specs.Walk.{recordsTo}
 use Rattle.history.specs.Runs.{accepts, closes, buffered, step, run, statements}
@@ -82,29 +84,35 @@ others =
     ∷ 0x5C ∷ 0x88 ∷ 0x40 ∷ 0xA0 ∷ 0x00 ∷ 0x19 ∷ 0x12 ∷ 0x05 ∷ 0xDC
     ∷ []
 
--- Year A, and Year A with the June event and two September events up to close 6
+-- Year A, and Year A with the June event, taken after close 4, and two September events up to close 6
 abbrev yearA : List ℕ
 yearA = parties ++ (juneTest ++ (0x61 ∷ 0x61 ∷ []))
 
 abbrev withEvents : List ℕ
-withEvents = parties ++ (juneEvent ++ ((0x61 ∷ 0x62 ∷ 0x63 ∷ 0x64 ∷ 0x65 ∷ []) ++ (septemberEvent ++ (septemberEvent ++ (0x66 ∷ [])))))
+withEvents = parties ++ ((0x61 ∷ 0x62 ∷ 0x63 ∷ 0x64 ∷ []) ++ (juneEvent ++ (0x65 ∷ septemberEvent ++ (septemberEvent ++ (0x66 ∷ [])))))
+
+-- what the bill program prints of a file. What computes it is named here, once for all figures.
+bill : List ℕ → List ℕ
+unfolding sumTo anyTo allTo tabulate convert days due callable testable share bitAt number bitsOf spell byteOf bytesOf pack encode itemsIn times rulesTo rulesFor recordQuestions firstFailed kindOf headOf rulesOf numbersOf isKind isWhole permits permitted isFilled rises idsRise row listed reduction deficit known seller area zone product committed rate obligation byId pairedBy beforeCap raised unforced ofSeller shareOf called calls shortfallOver u cap daily taken charge excess e creditShare creditLimit creditOf B testOf compliance test credit charges credits lse amounts countTo difference hasRegistration hasObligation sellerColumns lineFields linesTo statementFields statementOf value42 namedHead listingIn inArea inGroup everyListed deficitsListed listsExactly inTime q6 q7 q8 q9 q10 q11 q12 q13 q14 q15 q16 questions valuesOf postNumber yearBy bufferWith yearAfter bufferAfter digitsTo decimal cents refusalLine linesFrom monthLine partyLine statementLines answerLines bytes recordNumber consumed recordsTo accepts closes buffered step run statements callsOf numbers answerText textOf
+bill file = billText file blank
 
 -- Year A: each record's number, the buffer that each is lent (as the one before left it; one record more shows what the last leaves), the
--- statement, and the printed lines. Then, instead of the test, the June event, which is
--- charged from close 5 on; two September events divide its charge by 3 from then on. Of the others: 400 kW convert to 396, less 100 is 296:
+-- statement, and the printed lines. Of the others: 400 kW convert to 396, less 100 is 296:
 -- × 10,000 / 52 = 56,923 a day, × 366 / 1,000 = 20,833; 500 kW convert to 495, less 50 is 445: × 18,000 × 366 / 1,000 = 2,931,660.
 figures : (numbers newYear (callsIn yearA blank) ≡ 0 ∷ 0 ∷ 0 ∷ 0 ∷ 0 ∷ 0 ∷ 0 ∷ 15 ∷ [])
     × (map (λ c. c .buffer) (callsIn (yearA ++ (0x61 ∷ [])) blank) ≡ blank ∷ blank ∷ blank ∷ blank ∷ blank ∷ blank ∷ blank ∷ stated ∷ stated ∷ [])
     × (statements newYear (callsIn yearA blank) ≡ stated ∷ [])
-    × (billText yearA blank ≡ bytes "M 1\nS 0 0 147600 0\nS 1 0 0 0\nL 0 110700\nL 1 36900\nN 8 15\n")
-    × (
-    billText withEvents blank
+    × (bill yearA ≡ bytes "M 1\nS 0 0 147600 0\nS 1 0 0 0\nL 0 110700\nL 1 36900\nN 8 15\n")
+    × (bill others ≡ [])
+    × (compliance (factsOf (run newYear (callsIn others blank))) 13 3 ≡ 20833) × (test (factsOf (run newYear (callsIn others blank))) 13 4 ≡ 2931660) × (lse (factsOf (run newYear (callsIn others blank))) 13 5 ≡ 2952493)
+unfolding bill
+figures = (refl, refl, refl, refl, refl, refl, refl, refl)
+
+-- instead of the test the June event, which is charged from close 5 on; two September events divide its charge by 3 from then on
+event-figures : bill withEvents
     ≡ bytes "M 1\nS 0 0 0 0\nS 1 0 0 0\nL 0 0\nL 1 0\nM 2\nS 0 0 0 0\nS 1 0 0 0\nL 0 0\nL 1 0\n"
     ++ bytes "M 3\nS 0 0 0 0\nS 1 0 0 0\nL 0 0\nL 1 0\nM 4\nS 0 0 0 0\nS 1 0 0 0\nL 0 0\nL 1 0\n"
     ++ bytes "M 5\nS 0 313650 0 0\nS 1 0 0 45900\nL 0 200812\nL 1 66938\n"
     ++ bytes "M 6\nS 0 -63551 0 0\nS 1 0 0 9000\nL 0 -54413\nL 1 -18138\n"
-    )
-    × (billText others blank ≡ [])
-    × (compliance (run newYear (callsIn others blank)) 13 3 ≡ 20833) × (test (run newYear (callsIn others blank)) 13 4 ≡ 2931660) × (lse (run newYear (callsIn others blank)) 13 5 ≡ 2952493)
-unfolding sumTo anyTo allTo tabulate convert days due callable testable share bitAt number bitsOf spell byteOf bytesOf pack encode itemsIn times rulesTo rulesFor recordQuestions firstFailed kindOf headOf rulesOf numbersOf isKind isWhole permits permitted isFilled rises idsRise row listed reduction deficit known seller area zone product committed rate obligation byId pairedBy called calls uncapped raised part total shortfall shortOf u cap asked daily overEvents charge excessOf e charged creditOf tested base testOf overTests compliance credit test charges credits lse amounts countTo difference hasRegistration hasObligation sellerColumns lineFields linesTo statementFields statementOf value42 listingIn inArea inGroup everyListed deficitsListed listsExactly inTime q6 q7 q8 q9 q10 q11 q12 q13 q14 q15 q16 questions valuesOf postNumber yearWith bufferWith yearAfter bufferAfter digitsTo decimal cents refusalLine linesFrom monthLine partyLine statementLines answerLines bytes recordNumber consumed recordsTo accepts closes buffered step run statements callsOf numbers answerText textOf
-figures = (refl, refl, refl, refl, refl, refl, refl, refl, refl)
+unfolding bill
+event-figures = refl

@@ -4,7 +4,7 @@ use std::fmt::{self, Debug, Display, Formatter};
 
 use settlement::exact::narrow;
 use settlement::lines::to_hex;
-use settlement::{piermint, take_each, Billed, MOST_STATEMENTS};
+use settlement::{piermint, statement, Billed, Taken, MOST_STATEMENTS};
 
 /// Nothing, or what differs, to be printed.
 pub type Compared<T = ()> = Result<T, String>;
@@ -46,15 +46,20 @@ pub struct Both {
 }
 
 impl Both {
-    /// Bills a file with room for all numbers and statements.
+    /// Bills a file with room for all numbers and statements, as a whole and record by record.
     pub fn bill_file(&mut self, file: &[u8]) -> Compared<Billed> {
         let (billed, _) = bill(file, file.len() + 1, MOST_STATEMENTS + 1)?;
         self.files += 1;
+        let (mut rust, mut rattle) = (settlement::Book::new(), piermint::Book::new());
         let mut rest = file;
-        take_each(file, |taken, _| {
+        while !rest.is_empty() {
+            let taken = take(&mut rust, &mut rattle, rest, statement::MOST_BYTES)?;
             self.by_kind[usize::from(rest[0] >> 4)].add(taken.number);
-            rest = &rest[taken.consumed..];
-        });
+            rest = match taken.consumed {
+                0 => &[],
+                consumed => &rest[consumed..],
+            };
+        }
         Ok(billed)
     }
 
@@ -109,6 +114,25 @@ fn bill(file: &[u8], numbers: usize, statements: usize) -> Compared<(Billed, Vec
         format!("bill with room for {numbers} numbers and {statements} bytes: {file}")
     })?;
     Ok((billed, numbers[PAST..][..billed.records].to_vec()))
+}
+
+/// Takes the record at the front with a book of each; one that is refused leaves the cells as they were.
+fn take(
+    rust: &mut settlement::Book,
+    rattle: &mut piermint::Book,
+    bytes: &[u8],
+    room: usize,
+) -> Compared<Taken> {
+    let before = rattle.clone();
+    let (taken, _) = same(
+        lend(room, |buffer| rust.take(bytes, buffer)),
+        lend(room, |buffer| rattle.take(bytes, buffer)),
+        || format!("take with room for {room} bytes: {}", to_hex(bytes)),
+    )?;
+    if taken.number != 0 && *rattle != before {
+        return Err(format!("a refusal changes cells: {}", to_hex(bytes)));
+    }
+    Ok(taken)
 }
 
 fn same<T: Debug + PartialEq>(rust: T, rattle: T, call: impl Fn() -> String) -> Compared<T> {

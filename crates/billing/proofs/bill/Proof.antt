@@ -1,22 +1,21 @@
--- The year stays sound, and what is answered so far and the bill of the rest are the bill of the whole.
+-- The cells hold a sound year, and what is answered so far and the bill of the rest are the bill of the whole.
 use Prim.Native.Nat.{_+_, _-_}
 use mathlib.Core.List.{_++_}
-use mathlib.Core.Logic.{⊎-elim}
-use mathlib.Core.Path.{_≡_, sym, _∙_}
+use mathlib.Core.Path.{sym, _≡_, _∙_}
 use native.Mathlib.Omega.{arith}
 use lib.ListN.{length, take, drop, set, length-set}
 use borrow.Author.Needs.{needs}
+use Rattle.cells.specs.Layout.{yearIn, Held}
 use Rattle.book.specs.Outcome.{Posts}
 use Rattle.file.specs.Walk.{ends}
-use Rattle.billing.specs.Billed as spec
 use Rattle.billing.proofs.Along.{along-all}
-use Rattle.billing.proofs.Turn.{lent, put-back, State, Going, going-none, going-ends, going-full, next-within, statement-within, size-closed, size-none, turned}
+use Rattle.billing.proofs.Turn.{lent, put-back, State, Going, going-none, going-ends, going-full, next-within, written-within, turned}
 use Rattle.billing.proofs.bill.Statement.{statement}
 use Rattle.billing.proofs.bill.Tie as tie
 
 abbrev Inv-loop : tie.InvT-loop
 Inv-loop records numbers₀ statements₀ year₀ answered₀ used₀ written₀ numbers statements year answered used written =
-    Going records numbers₀ statements₀ numbers statements year answered used written
+    Held year × Going records numbers₀ statements₀ numbers statements (yearIn year) answered used written
 
 abbrev μ-loop : tie.MeasureT-loop
 μ-loop records numbers₀ statements₀ year₀ answered₀ used₀ written₀ numbers statements year answered used written =
@@ -24,16 +23,16 @@ abbrev μ-loop : tie.MeasureT-loop
 
 -- the turn of a call, and the function's start
 abbrev turn : tie.After-statements Inv-loop μ-loop → tie.In-loop Inv-loop μ-loop
-turn m = m .before .before .before .before .before
+turn m = m .before .before .before .before .before .before
 
 abbrev start : tie.After-statements Inv-loop μ-loop → tie.Start Inv-loop μ-loop
-start m = m .before .before .before .before .before .before .before .before .before .before .before
+start m = m .before .before .before .before .before .before .before .before .before .before .before .before
 
 -- the call's contract, with the slices as they are lent
 posts : (m : tie.After-statements Inv-loop μ-loop)
     → (let l = turn m .before .loop in
     let q = m .before .post in
-    Posts (l .year) (drop (l .used) (start m .args .records .now)) (drop (l .written) (l .statements)) (q .result .number) (q .result .used) (q .result .year) (q .last .1 .1 .0))
+    Posts (yearIn (l .year)) (drop (l .used) (start m .args .records .now)) (drop (l .written) (l .statements)) (q .result .number) (q .result .used) (q .result .written) (yearIn (q .last .0)) (q .last .1 .1 .0))
 posts m =
     let l = turn m .before .loop in
     rw (lent (l .used) (start m .args .records .now), lent (l .written) (l .statements)) at (m .before .post .ensures .0)
@@ -42,81 +41,63 @@ same : (m : tie.After-statements Inv-loop μ-loop)
     → (let l = turn m .before .loop in length (m .before .post .last .1 .1 .0) ≡ length (drop (l .written) (l .statements)))
 same m = let l = turn m .before .loop in rw (lent (l .written) (l .statements)) at (m .statements .given .0)
 
--- what the call's record adds to the statements
-wrote : (c : tie.Joined2 Inv-loop μ-loop)
-    → (let m = c .before .before .before .before .before in
-    let l = turn m .before .loop in
-    c .if2 .written ≡ l .written + length (spec.statement (l .year) (record { bytes = drop (l .used) (start m .args .records .now); buffer = drop (l .written) (start m .args .statements .now) })))
-wrote c =
-    let m = c .before .before .before .before .before in
-    let g = turn m .before .loop .inv in
-    ⊎-elim
-    (λ w. w .3 ∙ rw (size-closed g (posts m) (w .0 .taken) (w .2 .ensures)))
-    (λ w. w .1 ∙ omega (arith, size-none g (posts m) (w .0 .left)))
-    (c .if2 .came)
-
 -- the file with the call's record answered
-stepped : (c : tie.Joined2 Inv-loop μ-loop)
-    → (let m = c .before .before .before .before .before in
-    let l = turn m .before .loop in
+stepped : (m : tie.After-statements Inv-loop μ-loop)
+    → (let l = turn m .before .loop in
     let a = start m .args in
     let q = m .before .post in
     State (ends (q .result .number)) (a .records .now) (a .numbers .now) (a .statements .now) (set (l .numbers) (l .answered) (q .result .number))
     (take (l .written) (l .statements) ++ (q .last .1 .1 .0 ++ drop (length (l .statements) - l .written) (drop (l .written) (l .statements))))
-    (q .result .year) (l .answered + 1) (l .used + q .result .used) (c .if2 .written))
-stepped c =
-    let m = c .before .before .before .before .before in
+    (yearIn (q .last .0)) (l .answered + 1) (l .used + q .result .used) (l .written + q .result .written))
+stepped m =
     let l = turn m .before .loop in
-    rw (wrote c, put-back (l .written) (l .statements) (m .before .post .last .1 .1 .0))
-    (turned (l .inv) (posts m) (turn m .loop-test .taken) (omega (arith, l .inv .within, m .before .before .before .before .if1 .left)) (same m))
+    rw (put-back (l .written) (l .statements) (m .before .post .last .1 .1 .0))
+    (turned (l .inv .1) (posts m) (turn m .loop-test .taken) (omega (arith, l .inv .1 .within, m .before .before .before .before .before .if1 .left)) (same m))
 
 loop-holds : tie.Need-loop-holds Inv-loop μ-loop
-loop-holds c = let b = c .new-book .ensures in rw (b .0) (going-none _ _ _ (rw (b .0) at (b .1)))
+loop-holds c = let b = c .new-book .ensures in (b .1, rw (b .0) (going-none _ _ _ (rw (b .0) at (b .1 .sound))))
 
 returns : tie.Need-returns Inv-loop μ-loop
-returns c = going-ends (c .before .before .loop .inv) (c .if1 .taken)
+returns c = going-ends (c .before .before .loop .inv .1) (c .if1 .taken)
 
 mul-numbers : tie.Need-mul-numbers Inv-loop μ-loop
-mul-numbers c = omega (arith, turn (c .before .before))
+mul-numbers c = omega (arith, turn (c .before))
 
 add-answered : tie.Need-add-answered Inv-loop μ-loop
-add-answered c = omega (arith, turn (c .before .before))
+add-answered c = omega (arith, turn (c .before))
 
 add-used : tie.Need-add-used Inv-loop μ-loop
-add-used c =
-    let m = c .before .before .before in
-    omega (arith, turn m, next-within (turn m .before .loop .inv) (posts m))
+add-used c = let m = c .before .before in omega (arith, turn m, next-within (turn m .before .loop .inv .1) (posts m))
 
 add-written : tie.Need-add-written Inv-loop μ-loop
-add-written c =
-    let m = c .before .before .before .before .before .before .before in
-    let g = turn m .before .loop .inv in
-    omega (arith, turn m, statement-within g (posts m) (same m), size-closed g (posts m) (c .before .before .if2 .taken) (c .size-of .ensures))
+add-written c = let m = c .before .before .before in omega (arith, turn m, written-within (turn m .before .loop .inv .1) (posts m) (same m))
 
 same-length-3 : tie.Need-same-length-3 Inv-loop μ-loop
-same-length-3 c = rw length-set (omega (arith, turn (c .before .before .before .before .before .before .before)))
+same-length-3 c = rw length-set (omega (arith, turn (c .before .before .before .before .before)))
 
 same-length-4 : tie.Need-same-length-4 Inv-loop μ-loop
-same-length-4 c = let m = c .before .before .before .before .before .before .before in omega (arith, turn m, m .statements)
+same-length-4 c = let m = c .before .before .before .before .before in omega (arith, turn m, m .statements)
 
 returns-2 : tie.Need-returns-2 Inv-loop μ-loop
-returns-2 c =
-    along-all (rw (sym (c .before .ends .ensures) ∙ c .if3 .taken) at (stepped (c .before .before)))
+returns-2 c = along-all (rw (sym (c .before .ends .ensures) ∙ c .if2 .taken) at (stepped (c .before .before .before .before .before)))
 
 loop-less : tie.Need-loop-less Inv-loop μ-loop
-loop-less c = rw length-set (omega (arith, turn (c .before .before .before .before .before .before .before)))
+loop-less c = rw length-set (omega (arith, turn (c .before .before .before .before .before)))
 
 loop-again : tie.Need-loop-again Inv-loop μ-loop
 loop-again c =
-    let m = c .before .before .before .before .before .before .before in
-    record {
-      sound = m .before .post .ensures .1;
-      within = next-within (turn m .before .loop .inv) (posts m);
-      along = rw (sym (c .before .ends .ensures) ∙ c .if3 .left) at (stepped (c .before .before));
-    }
+    let m = c .before .before .before .before .before in
+    let held = m .before .post .ensures .1 .1 in (
+      held,
+      record {
+        sound = held .sound;
+        within = next-within (turn m .before .loop .inv .1) (posts m);
+        along = rw (sym (c .before .ends .ensures) ∙ c .if2 .left) at (stepped m);
+      },
+    )
 
 returns-3 : tie.Need-returns-3 Inv-loop μ-loop
-returns-3 c = going-full (c .before .loop .inv) (c .loop-test .left)
+returns-3 c = going-full (c .before .loop .inv .1) (c .loop-test .left)
 
 pub bill-spec : {M : Type 1} → statement M
 bill-spec =
@@ -140,7 +121,6 @@ bill-spec =
     (λ c. search needs)
     add-answered
     add-used
-    (λ c κs. search needs)
     add-written
     (λ c κs. search needs)
     same-length-3

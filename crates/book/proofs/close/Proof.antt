@@ -1,34 +1,70 @@
--- `close` meets its contract: what is billed are the amounts to date.
-use native.Mathlib.Omega.{arith}
-use Rattle.year.specs.Sound.{SoundAmounts}
-use Rattle.owed.specs.Bound.{sound-amounts}
+-- `book::close` meets its contract: what is billed are the amounts to date. Assumes nothing.
 use borrow.Author.Needs.{needs}
+use native.Mathlib.Omega.{arith}
+use Rattle.year.specs.Sound.{SoundTerms, SoundAmounts}
+use Rattle.owed.specs.Facts.{factsOf}
+use Rattle.owed.specs.Owed.{amounts}
+use Rattle.owed_laws.specs.Limits.{limits}
+use Rattle.owed_laws.specs.Totals.{sound-amounts}
+use Rattle.cells.specs.Layout.{yearIn}
 use Rattle.book.proofs.close.Statement.{statement}
 use Rattle.book.proofs.close.Tie as tie
-use Rattle.book.proofs.close.Reads as reads
-use Rattle.book.proofs.close.Lts as lts
-use Rattle.statement.proofs.write_statement.Reads as write-statement-reads
-use Rattle.year.proofs.with_close.Reads as with-close-reads
+use Rattle.settlement.proofs.amounts_of.Reads as amounts-of-reads
+use Rattle.snapshot.proofs.terms_of.Reads as terms-of-reads
+use Rattle.snapshot.proofs.billed_of.Reads as billed-of-reads
+use Rattle.statement.proofs.size_of.Reads as size-of-reads
+use Rattle.issue.proofs.write_statement.Reads as write-statement-reads
+use Rattle.steps.proofs.close.Reads as close-reads
+
+-- once the year is read, what is at hand is sound
+record AtHand (b : tie.After-billed-of) : Type 0 where
+  terms : SoundTerms (b .before .before .terms-of .result)
+  owed : SoundAmounts (b .before .before .before .before .amounts-of .result)
+  billed : SoundAmounts (b .billed-of .result)
+
+at-hand : (b : tie.After-billed-of) → AtHand b
+at-hand b =
+    let start = b .before .before .before .before .before .before .before in
+    let s = start .pre .0 .sound in
+    record {
+      terms = rw (b .before .before .terms-of .ensures) (s .terms);
+      owed = rw (b .before .before .before .before .amounts-of .ensures) (sound-amounts (limits s) (start .args .month));
+      billed = rw (b .billed-of .ensures) (s .billed);
+    }
 
 write-statement-requires : tie.Need-write-statement-requires
 write-statement-requires c κs =
-    let start = c .before .before .before .before .before in
-    let s = start .pre .0 in
-    let owed : SoundAmounts (c .before .before .before .amounts-of .result) = rw (c .before .before .before .amounts-of .ensures) (sound-amounts (start .args .year) s (start .args .month)) in
-    (s .terms, (omega (arith, start .pre), (search (owed, s .billed), (search (owed, s .billed), start .pre .1 .1 .1))))
-
-with-close-requires : tie.Need-with-close-requires
-with-close-requires c κs =
     let start = c .before .before .before .before .before .before .before .before in
-    let s = start .pre .0 in
-    (s, (start .pre .1 .0, rw (c .before .before .before .before .before .before .amounts-of .ensures) (sound-amounts (start .args .year) s (start .args .month))))
+    let h = at-hand (c .before) in
+    (h .terms, (omega (arith, start .pre), (search (h .owed, h .billed), (h .billed, start .pre .1 .1 .1))))
+
+close-requires : tie.Need-close-requires
+close-requires c κs =
+    let start = c .before .before .before .before .before .before .before .before .before .before .before .before in
+    let h = at-hand (c .before .before .before .before .before) in
+    (start .pre .0, (start .pre .1 .0, search (h .owed, h .billed)))
 
 returns : tie.Need-returns
 returns c =
-    let owed = c .before .before .before .before .before .before .before .amounts-of .ensures in
-    (rw owed at (c .with-close .ensures .0), rw owed at (c .before .before .before .write-statement .ensures))
+    let b = c .before .before .before .before .before .before .before in
+    let start = b .before .before .before .before .before .before .before in
+    let y = yearIn (start .args .year .now) in
+    let month = start .args .month in
+    let terms = b .before .before .terms-of .ensures in
+    let owed = b .before .before .before .before .amounts-of .ensures in
+    let closed = c .before .close .ensures in
+    let written = c .before .before .before .before .before .write-statement .ensures in
+    (rw owed at (closed .0), (closed .1, (rw (owed, terms, b .billed-of .ensures) at written, rw terms at (c .size-of .ensures month (amounts (factsOf y) month) (y .billed)))))
 
 pub close-spec : {M : Type 1} → statement M
 close-spec =
     tie.close
-    (tie.spec (λ c κs. search needs) write-statement-requires with-close-requires (λ c. search needs) returns)
+    (tie.spec
+    (λ c κs. search needs)
+    (λ c κs. search needs)
+    (λ c κs. search needs)
+    write-statement-requires
+    close-requires
+    (λ c κs. at-hand (c .before .before .before .before .before .before) .terms)
+    (λ c. search needs)
+    returns)

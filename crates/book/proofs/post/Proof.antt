@@ -1,115 +1,120 @@
--- `post` meets its contract: a thin join of the parts.
-use mathlib.Core.Path.{_≡_, sym, ap, _∙_}
+-- `book::post` meets its contract: a thin join of the parts. Assumes nothing.
+use borrow.Author.Needs.{needs}
+use mathlib.Core.Path.{_≡_, refl, sym, _∙_}
+use native.Mathlib.Omega.{arith}
 use lib.ListN.{length}
-use Rattle.layouts.specs.Questions.{recordNumber, row}
-use Rattle.records.specs.Accepted.{accepted, taken-numbers}
-use Rattle.questions.specs.Questions.{listingIn}
-use Rattle.questions.specs.Passed.{Passed, passed-questions, not-finished, next-month, room-to-close}
+use Rattle.ids.specs.Ids.{at}
+use Rattle.layouts.specs.Questions.{recordNumber}
+use Rattle.records.specs.Accepted.{accepted}
+use Rattle.year.specs.Sound.{SoundListing}
+use Rattle.cells.specs.Layout.{listingAt, yearIn}
+use Rattle.heads.specs.Listed.{sound-listed}
+use Rattle.heads.specs.Within.{Within}
+use Rattle.questions.specs.Questions.{inTime}
+use Rattle.questions.specs.Admitted.{admitted}
 use Rattle.book.specs.Outcome.{valuesOf, postNumber}
 use Rattle.book.specs.Numbers.{record-refused, record-accepted}
-use Rattle.book.specs.Made.{asked, all-listed}
-use Rattle.book.specs.Kept.{Taken, taken}
-use Rattle.book.specs.Posting.{refuses, accepts, sound-posted, year-closed, leaves-statement, leaves-buffer}
-use borrow.Author.Needs.{needs}
+use Rattle.book.specs.Made.{values-long, within, all-listed}
+use Rattle.book.specs.Kept.{suits}
+use Rattle.book.specs.Posting.{refuses, accepts}
 use Rattle.book.proofs.post.Statement.{statement}
 use Rattle.book.proofs.post.Tie as tie
-use Rattle.book.proofs.post.Reads as reads
-use Rattle.book.proofs.post.Lts as lts
-use Rattle.book.proofs.close.Reads as close-reads
-use Rattle.book.proofs.listing_of.Reads as listing-of-reads
-use Rattle.book.proofs.year_after.Reads as year-after-reads
+use Rattle.book.proofs.take.Reads as take-reads
+use Rattle.heads.proofs.head_of.Reads as head-of-reads
+use Rattle.heads.proofs.spread.Reads as spread-reads
 use Rattle.questions.proofs.number_of.Reads as number-of-reads
 use Rattle.records.proofs.parse.Reads as parse-reads
 
 -- questions 1 to 5 pass, and the values are the record's numbers
-quiet : (c : tie.Else1) → recordNumber (c .before .before .before .before .before .args .bytes .now) ≡ 0
-quiet c = sym (c .before .before .parse .ensures .numbers) ∙ c .if1 .left
+quiet : (c : tie.Else1) → recordNumber (c .before .before .before .before .before .before .before .args .bytes .now) ≡ 0
+quiet c = sym (c .before .before .before .parse .ensures .numbers) ∙ c .if1 .left
 
-rows : (c : tie.Else1) → c .before .before .parse .result .values ≡ valuesOf (c .before .before .before .before .before .args .bytes .now)
+rows : (c : tie.Else1) → c .before .before .before .parse .last .1 .0 ≡ valuesOf (c .before .before .before .before .before .before .before .args .bytes .now)
 unfolding valuesOf
-rows c = c .before .before .parse .ensures .rows ∙ ap row (taken-numbers _ (quiet c))
+rows c = c .before .before .before .parse .ensures .rows (quiet c)
 
--- the later questions are put to these numbers
-answered : (c : tie.After-number-of) → let a = c .before .before .before .before .before .before .before .before .args in c .number-of .result ≡ postNumber (a .year) (a .bytes .now) (length (a .buffer .now))
+long : (c : tie.Else1) → length (c .before .before .before .parse .last .1 .0) ≡ 166
+long c = rw (rows c) (values-long (c .before .before .before .before .before .before .before .args .bytes .now) (accepted _ (quiet c)))
+
+-- the later questions are put to it
+answered : (c : tie.After-number-of) → let a = c .before .before .before .before .before .before .before .before .before .before .before .before .before .before .before .args in c .number-of .result ≡ postNumber (yearIn (a .year .now)) (a .bytes .now) (length (a .buffer .now))
 answered c =
-    let a = c .before .before .before .before .before .before .before .before .args in
-    let else1 = c .before .before .before in
-    rw (c .before .listing-of .ensures, rows else1) at (c .number-of .ensures)
-    ∙ sym (record-accepted (a .year) (a .bytes .now) (length (a .buffer .now)) (quiet else1))
-
-passes : (c : tie.Else2) → let a = c .before .before .before .before .before .before .before .before .before .args in let vs = c .before .before .before .before .before .before .parse .result .values in Passed (a .year) vs (listingIn vs) (length (a .buffer .now))
-passes c =
-    passed-questions _ _ _ _ (sym (rw (c .before .before .listing-of .ensures) at (c .before .number-of .ensures)) ∙ c .if2 .left)
+    let a = c .before .before .before .before .before .before .before .before .before .before .before .before .before .before .before .args in
+    let one = c .before .before .before .before .before .before .before .before in
+    rw (c .before .before .before .before .before .before .head-of .ensures, c .before .before .before .spread .ensures .lists, rows one) at (c .number-of .ensures)
+    ∙ sym (record-accepted (yearIn (a .year .now)) (a .bytes .now) (length (a .buffer .now)) (quiet one))
 
 returns : tie.Need-returns
 returns c =
-    let a = c .before .before .before .before .before .args in
-    let p = c .before .before .parse .ensures in
-    let number = p .numbers ∙ sym (record-refused (a .year) (a .bytes .now) (length (a .buffer .now)) (λ q. c .if1 .taken (p .numbers ∙ q))) in
-    let posts = refuses (a .year) (a .bytes .now) (a .buffer .now) number (c .if1 .taken) (p .uses) in
-    (posts, sound-posted (a .year) (a .bytes .now) (a .buffer .now) (c .before .before .before .before .before .pre) posts)
+    let start = c .before .before .before .before .before .before .before in
+    let a = start .args in
+    let y = yearIn (a .year .now) in
+    let p = c .before .before .before .parse .ensures in
+    let number = p .numbers ∙ sym (record-refused y (a .bytes .now) (length (a .buffer .now)) (λ q. c .if1 .taken (p .numbers ∙ q))) in
+    (refuses y (a .bytes .now) (a .buffer .now) number (c .if1 .taken) (p .uses), ((λ n. refl), start .pre))
 
-listing-of-requires : tie.Need-listing-of-requires
-listing-of-requires c κs = rw (rows (c .before)) (all-listed (c .before .before .before .before .before .before .args .bytes .now) (accepted _ (quiet (c .before))))
+head-of-requires : tie.Need-head-of-requires
+head-of-requires c κs = omega (arith, long (c .before))
+
+spread-requires : tie.Need-spread-requires
+spread-requires c κs =
+    let one = c .before .before .before .before in
+    (long one, (rw (rows one) (all-listed (one .before .before .before .before .before .before .before .args .bytes .now) (accepted _ (quiet one))), refl))
 
 number-of-requires : tie.Need-number-of-requires
-number-of-requires c κs = (c .before .before .before .before .before .before .before .pre, rw (rows (c .before .before)) (asked (c .before .before .before .before .before .before .before .args .bytes .now) (accepted _ (quiet (c .before .before)))))
+number-of-requires c κs =
+    let one = c .before .before .before .before .before .before .before in
+    let start = one .before .before .before .before .before .before .before in
+    (start .pre, (rw (c .before .before .before .before .before .head-of .ensures, rows one) (within (start .args .bytes .now) (accepted _ (quiet one))), c .before .before .spread .ensures .long))
 
 returns-2 : tie.Need-returns-2
 returns-2 c =
-    let a = c .before .before .before .before .before .before .before .before .before .args in
-    let posts = refuses (a .year) (a .bytes .now) (a .buffer .now) (answered (c .before)) (c .if2 .taken) (c .before .before .before .before .before .before .parse .ensures .uses) in
-    (posts, sound-posted (a .year) (a .bytes .now) (a .buffer .now) (c .before .before .before .before .before .before .before .before .before .pre) posts)
+    let start = c .before .before .before .before .before .before .before .before .before .before .before .before .before .before .before .before in
+    let a = start .args in
+    let posts = refuses (yearIn (a .year .now)) (a .bytes .now) (a .buffer .now) (answered (c .before)) (λ q. let t = c .if2 .taken in omega (arith, q, t)) (c .before .before .before .before .before .before .before .before .before .before .before .before .parse .ensures .uses) in
+    (posts, ((λ n. refl), start .pre))
 
-close-requires : tie.Need-close-requires
-close-requires c κs =
-    let p = passes (c .before .before) in
-    let kind = c .before .if3 .taken in
-    (c .before .before .before .before .before .before .before .before .before .before .before .pre, (not-finished p kind, (next-month p kind, room-to-close p kind)))
+take-requires : tie.Need-take-requires
+take-requires c κs =
+    let spread = c .before .before .before .before .before .before .before .spread .ensures in
+    let named = c .before .before .before .before .before .before .before .before .before .before .head-of in
+    let one = c .before .before .before .before .before .before .before .before .before .before .before .before in
+    let start = one .before .before .before .before .before .before .before in
+    let bytes = start .args .bytes .now in
+    let a = accepted bytes (quiet one) in
+    let l = listingAt (at (c .before .before .before .before .before .before .before .spread .last .1 .0)) in
+    let passes = admitted inTime (yearIn (start .args .year .now)) (record { head = named .result; listing = l }) (length (start .args .buffer .now)) (sym (c .before .before .before .before .number-of .ensures) ∙ c .before .before .before .if2 .left) in
+    let limits : Within (named .result) = rw (named .ensures, rows one) (within bytes a) in
+    let listing : SoundListing l = rw (spread .lists, rows one) (sound-listed (all-listed bytes a)) in
+    (start .pre, (spread .long, (suits (start .pre .sound) listing (named .result) limits passes, passes .sixteen)))
 
 returns-3 : tie.Need-returns-3
 returns-3 c =
-    let a = c .before .before .before .before .before .before .before .before .before .before .before .before .before .before .args in
-    let vs = c .before .before .before .before .before .before .before .before .before .before .before .parse .result .values in
-    let row = rows (c .before .before .before .before .before .before .before .before .before) in
-    let kind = c .before .before .before .before .if3 .taken in
+    let taken = c .before .before .take .ensures in
+    let spread = c .before .before .before .before .before .before .before .before .before .before .spread .ensures .lists in
+    let named = c .before .before .before .before .before .before .before .before .before .before .before .before .before .head-of .ensures in
+    let one = c .before .before .before .before .before .before .before .before .before .before .before .before .before .before .before in
+    let a = one .before .before .before .before .before .before .before .args in
     let posts =
-    accepts (a .year) (a .bytes .now) (a .buffer .now) (sym (c .before .before .before .before .before .if2 .left) ∙ answered (c .before .before .before .before .before .before)) (c .before .before .before .before .before .before .before .before .before .before .before .parse .ensures .uses)
-    (rw row at (c .before .before .close .ensures .0 ∙ year-closed (a .year) vs kind))
-    (rw row at (c .before .before .close .ensures .1 ∙ leaves-statement (a .year) vs (a .buffer .now) kind)) in
-    (posts, sound-posted (a .year) (a .bytes .now) (a .buffer .now) (c .before .before .before .before .before .before .before .before .before .before .before .before .before .before .pre) posts)
-
-year-after-requires : tie.Need-year-after-requires
-year-after-requires c κs =
-    let start = c .before .before .before .before .before .before .before .before .before .before in
-    let row = rows (c .before .before .before .before .before) in
-    let bytes = start .args .bytes .now in
-    let vs = c .before .before .before .before .before .before .before .parse .result .values in
-    let all : Taken (start .args .year) vs = rw row (taken (start .pre) bytes (accepted bytes (quiet (c .before .before .before .before .before))) (length (start .args .buffer .now)) (rw row at (passes (c .before)))) in
-    (start .pre, (all, (c .before .before .before .listing-of .ensures, c .if3 .left)))
-
-returns-4 : tie.Need-returns-4
-returns-4 c =
-    let a = c .before .before .before .before .before .before .before .before .before .before .before .args in
-    let row = rows (c .before .before .before .before .before .before) in
-    let posts =
-    accepts (a .year) (a .bytes .now) (a .buffer .now) (sym (c .before .before .if2 .left) ∙ answered (c .before .before .before)) (c .before .before .before .before .before .before .before .before .parse .ensures .uses)
-    (rw row at (c .year-after .ensures)) (leaves-buffer (a .year) (valuesOf (a .bytes .now)) (a .buffer .now) (rw row at (c .before .if3 .left))) in
-    (posts, sound-posted (a .year) (a .bytes .now) (a .buffer .now) (c .before .before .before .before .before .before .before .before .before .before .before .pre) posts)
+    accepts (yearIn (a .year .now)) (a .bytes .now) (a .buffer .now) (sym (c .before .before .before .before .before .before .if2 .left) ∙ answered (c .before .before .before .before .before .before .before)) (one .before .before .before .parse .ensures .uses)
+    (rw (named, spread, rows one) at (taken .1 .1 .1)) (rw (named, spread, rows one) at (taken .0)) (rw (named, spread, rows one) at (taken .1 .1 .0)) in
+    (posts, ((λ n. absurd (n refl)), taken .1 .0))
 
 pub post-spec : {M : Type 1} → statement M
 post-spec =
     tie.close
     (tie.spec
-    (λ c κs. search needs)
+    (λ c. search needs)
+    (λ c κs. refl)
     returns
-    listing-of-requires
+    (λ c. search needs)
+    head-of-requires
+    (λ c. search needs)
+    spread-requires
+    (λ c. search needs)
     number-of-requires
     returns-2
     (λ c. search needs)
+    take-requires
     (λ c. search needs)
-    close-requires
-    (λ c. search needs)
-    returns-3
-    year-after-requires
-    returns-4)
+    returns-3)

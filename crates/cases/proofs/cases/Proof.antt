@@ -1,24 +1,24 @@
--- The year stays sound and the window within the buffer, from line to line.
+-- The cells hold a sound year and the window stays within the buffer, from line to line.
 use mathlib.Core.Path.{_≡_}
 use Prim.Native.Nat.{_-_, _^_, _≤_}
 use native.Mathlib.Omega.{arith}
 use lib.ListN.{length}
 use borrow.Author.Needs.{needs}
-use Rattle.year.specs.Sound.{Sound}
+use Rattle.cells.specs.Layout.{Held}
 use Rattle.cases.proofs.cases.Statement.{statement}
 use Rattle.cases.proofs.cases.Tie as tie
 
 abbrev Inv-loop : tie.InvT-loop
 Inv-loop input buffer₀ year₀ window₀ counter₀ buffer year window counter =
-    Sound year × (length buffer ≡ length buffer₀) × (window .start ≤ window .end) × (window .end ≤ length buffer)
+    Held year × (length buffer ≡ length buffer₀) × (window .start ≤ window .end) × (window .end ≤ length buffer)
 
 abbrev μ-loop : tie.MeasureT-loop
 μ-loop input buffer₀ year₀ window₀ counter₀ buffer year window counter = 2 ^ 64 - counter
 
 loop-again : tie.Need-loop-again Inv-loop μ-loop
 loop-again c =
-    let line = c .before .before .before .before .before .before .before .before .before .next-line .ensures .0 in
-    let l = c .before .before .before .before .before .before .before .before .before .before .before .before .loop in
+    let line = c .before .before .before .before .before .before .before .before .before .before .next-line .ensures .0 in
+    let l = c .before .before .before .before .before .before .before .before .before .before .before .before .before .loop in
     (search needs, omega (arith, l), omega (arith, line), omega (arith, line, l))
 
 pub cases-spec : {M : Type 1} → statement M

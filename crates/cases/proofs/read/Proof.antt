@@ -5,14 +5,8 @@ use lib.ListN.{length-set}
 use Rattle.cases.proofs.read.Statement.{statement}
 use Rattle.cases.proofs.read.Tie as tie
 
-slice-write-row-2 : tie.Need-slice-write-row-2
-slice-write-row-2 c = simp length-set (omega arith)
-
-slice-write-row-3 : tie.Need-slice-write-row-3
-slice-write-row-3 c = simp length-set (omega arith)
-
-part-numbers-line-end : tie.Need-part-numbers-line-end
-part-numbers-line-end c = simp length-set (omega arith)
+print-numbers-requires : tie.Need-print-numbers-requires
+print-numbers-requires c κs = (simp length-set (omega arith), omega arith)
 
 pub read-spec : {M : Type 1} → statement M
 read-spec =
@@ -24,19 +18,10 @@ read-spec =
     (λ c. search needs)
     (λ c κs. search needs)
     (λ c. search needs)
-    slice-write-row-2
-    slice-write-row-3
-    (λ c κs. search needs)
-    (λ c κs. search needs)
-    (λ c. search needs)
-    (λ c. search needs)
-    (λ c. search needs)
-    part-numbers-line-end
-    (λ c. search needs)
+    (λ c. simp length-set (omega arith))
+    (λ c. simp length-set (omega arith))
     (λ c κs. search needs)
     (λ c. search needs)
-    (λ c. search needs)
-    (λ c. search needs)
-    (λ c κs. search needs)
+    print-numbers-requires
     (λ c. search needs)
     (λ c. search needs))

@@ -27,13 +27,10 @@ used-within s =
     let long : length bytes ≡ w .end - w .start = length-take-le (w .end - w .start) rest (rw length-drop (omega arith)) in
     omega (arith, s .print .ensures .0 .1, consumed-within bytes)
 
-add-window : tie.Need-add-window Inv-loop μ-loop
-add-window c = omega (arith, used-within (c .before .before .before .before .before .before .before .before))
-
 loop-again : tie.Need-loop-again Inv-loop μ-loop
 loop-again c =
-    let within = used-within (c .before .before .before .before .before .before .before .before) in
-    (omega arith, omega arith, omega arith, omega arith, omega arith)
+    let next = c .behind .ensures .0 in
+    (omega arith, omega arith, next .0, omega arith, omega arith)
 
 pub dump-spec : {M : Type 1} → statement M
 dump-spec =
@@ -56,15 +53,11 @@ dump-spec =
     (λ c. search needs)
     (λ c κs. search needs)
     (λ c κs. search needs)
-    (λ c κs. search needs)
     (λ c. search needs)
     (λ c. search needs)
     (λ c. search needs)
     (λ c κs. search needs)
-    (λ c. search needs)
-    (λ c. search needs)
-    (λ c. search needs)
-    add-window
+    (λ c κs. used-within (c .before .before .before .before .before .before))
     (λ c. search needs)
     (λ c. search needs)
     loop-again

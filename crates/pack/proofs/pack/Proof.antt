@@ -15,10 +15,8 @@ Inv-loop input buffer₀ out₀ window₀ at₀ position₀ cut₀ counter₀ bu
 abbrev μ-loop : tie.MeasureT-loop
 μ-loop input buffer₀ out₀ window₀ at₀ position₀ cut₀ counter₀ buffer out window at position cut counter = 2 ^ 64 - counter
 
-add-least : tie.Need-add-least Inv-loop μ-loop
-add-least c =
-    let l = c .before .before .before .before .before .before .before .before .before .before .before .before .before .before .before .before .before .before .before .before .before in
-    omega (arith, c .before .before .before .before .before .before .before .before .before .before .before .before .before .before .before .before .before .before .next-line, l .loop, l .before .before .before .before)
+past-requires : tie.Need-past-requires Inv-loop μ-loop
+past-requires c κs = omega (arith, c .before .before .before .before .before .before .before .before .before .before .before .before .before .before .before .before .before .before .next-line)
 
 add-position : tie.Need-add-position Inv-loop μ-loop
 add-position c =
@@ -62,8 +60,7 @@ pack-spec =
     (λ c. search needs)
     (λ c. search needs)
     (λ c. search needs)
-    add-least
-    (λ c κs. search needs)
+    past-requires
     add-position
     (λ c. search needs)
     (λ c. search needs)

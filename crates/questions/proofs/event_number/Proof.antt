@@ -1,76 +1,94 @@
--- `event_number` meets its contract.
-use mathlib.Core.Path.{_≡_, sym, _∙_}
-use mathlib.Core.Bool.{true}
-use borrow.Author.Tests.{not-true, not-false, lt-ltb, le-ltb}
-use Rattle.questions.specs.Questions.{q10, q11, q12}
-use Rattle.questions.specs.Answers.{event-entries, event-late, event-products}
-use Rattle.questions.specs.First.{fails, passes, all-pass}
+-- `questions::event_number` meets its contract: each test answers the question that is next for an event. Assumes nothing.
 use borrow.Author.Needs.{needs}
+use mathlib.Core.Path.{_≡_, sym}
+use mathlib.Core.Bool.{true}
+use borrow.Author.Tests.{lt-ltb, le-ltb}
+use Rattle.layouts.specs.Questions.{firstFailed}
+use Rattle.ids.specs.Ids.{at}
+use Rattle.year.specs.Year.{known, area}
+use Rattle.entries.specs.Entries.{inArea}
+use Rattle.cells.specs.Layout.{listingAt, yearIn}
+use Rattle.heads.specs.declared.Head.the-variants.{Event}
+use Rattle.questions.specs.Questions.{inTime, q6, q7, q8, q9, q10, q11, q12, q13, q14, q15, q16, questions}
+use Rattle.questions.specs.Answers.{yes, no}
 use Rattle.questions.proofs.event_number.Statement.{statement}
 use Rattle.questions.proofs.event_number.Tie as tie
+use Rattle.cells.proofs.held.Reads as held-reads
+use Rattle.entries.proofs.entries_pass.Reads as entries-pass-reads
+use Rattle.questions.proofs.has_parties.Reads as has-parties-reads
+use Rattle.questions.proofs.is_open.Reads as is-open-reads
+use Rattle.questions.proofs.may_call.Reads as may-call-reads
 
--- question 10
-ten : (c : tie.After-entries-pass) → let a = c .before .before .before .args in c .entries-pass .result ≡ q10 (a .year) (a .t2) (a .listing)
-ten c =
-    let start = c .before .before .before in
-    c .entries-pass .ensures ∙ event-entries (start .args .year) (start .pre .0 .terms) (start .args .t2) (start .args .listing) (start .pre .1 .0) (c .before .in-area .ensures)
+-- the questions' answers, and that they pass further on
+six : (c : tie.After-is-open) → let a = c .before .before .args in c .is-open .result ≡ q6 (yearIn (a .year .now)) (Event (a .e))
+unfolding q6
+six c = c .is-open .ensures
 
-ten-passes : (c : tie.Else1) → let a = c .before .before .before .before .args in q10 (a .year) (a .t2) (a .listing) ≡ true
-ten-passes c = sym (ten (c .before)) ∙ not-false (c .before .entries-pass .result) (c .if1 .left)
+six-passes : (c : tie.Else1) → let a = c .before .before .before .args in q6 (yearIn (a .year .now)) (Event (a .e)) ≡ true
+six-passes c = yes (six (c .before)) (c .if1 .left)
 
--- question 11
-eleven : (c : tie.After-every-listed) → let a = c .before .before .before .before .before .before .before .before .before .args in c .every-listed .result ≡ q11 (a .year) (a .t2) (a .listing)
-eleven c =
-    let start = c .before .before .before .before .before .before .before .before .before in
-    let time = c .before .before .before .before in
-    c .every-listed .ensures
-    ∙ event-products (start .args .year) (start .pre .0 .terms) (start .args .t2) (start .args .listing) (start .pre .1 .0)
-    (sym (time .in-time .ensures) ∙ not-false (time .in-time .result) (c .before .before .before .if2 .left)) (c .before .callable-in .ensures)
+eight : (c : tie.After-has-parties) → let a = c .before .before .before .before .args in c .has-parties .result ≡ q8 (yearIn (a .year .now)) (Event (a .e))
+unfolding q8
+eight c = c .has-parties .ensures
+
+eight-passes : (c : tie.Else2) → let a = c .before .before .before .before .before .args in q8 (yearIn (a .year .now)) (Event (a .e)) ≡ true
+eight-passes c = yes (eight (c .before)) (c .if2 .left)
+
+ten : (c : tie.After-entries-pass) → let a = c .before .before .before .before .before .before .args in c .entries-pass .result ≡ q10 (yearIn (a .year .now)) (listingAt (at (a .listing .now))) (Event (a .e))
+unfolding q10 inArea known area
+ten c = c .entries-pass .ensures
+
+ten-passes : (c : tie.Else3) → let a = c .before .before .before .before .before .before .before .args in q10 (yearIn (a .year .now)) (listingAt (at (a .listing .now))) (Event (a .e)) ≡ true
+ten-passes c = yes (ten (c .before)) (c .if3 .left)
+
+eleven : (c : tie.After-may-call) → let a = c .before .before .before .before .before .before .before .before .args in c .may-call .result ≡ q11 (yearIn (a .year .now)) inTime (listingAt (at (a .listing .now))) (Event (a .e))
+unfolding q11
+eleven c = c .may-call .ensures
+
+eleven-passes : (c : tie.Else4) → let a = c .before .before .before .before .before .before .before .before .before .args in q11 (yearIn (a .year .now)) inTime (listingAt (at (a .listing .now))) (Event (a .e)) ≡ true
+eleven-passes c = yes (eleven (c .before)) (c .if4 .left)
 
 returns : tie.Need-returns
-returns c = fails 10 _ (sym (ten (c .before)) ∙ not-true (c .before .entries-pass .result) (c .if1 .taken))
+unfolding firstFailed questions
+returns c room = rw (no (six (c .before)) (c .if1 .taken))
 
 returns-2 : tie.Need-returns-2
-returns-2 c =
-    let start = c .before .before .before .before .before .before in
-    passes 10 _ (ten-passes (c .before .before))
-    (fails 11 _ (event-late (start .args .year) (start .pre .0 .terms) (start .args .t2) (start .args .listing) (start .pre .1 .0)
-    (sym (c .before .in-time .ensures) ∙ not-true (c .before .in-time .result) (c .if2 .taken))))
+unfolding firstFailed questions q7
+returns-2 c room = rw (six-passes (c .before .before), no (eight (c .before)) (c .if2 .taken))
 
 returns-3 : tie.Need-returns-3
-returns-3 c =
-    passes 10 _ (ten-passes (c .before .before .before .before .before .before))
-    (fails 11 _ (sym (eleven (c .before)) ∙ not-true (c .before .every-listed .result) (c .if3 .taken)))
+unfolding firstFailed questions q7 q9
+returns-3 c room = rw (six-passes (c .before .before .before .before), eight-passes (c .before .before), no (ten (c .before)) (c .if3 .taken))
 
 returns-4 : tie.Need-returns-4
-unfolding q12
-returns-4 c =
-    passes 10 _ (ten-passes (c .before .before .before .before .before .before .before .before))
-    (passes 11 _ (sym (eleven (c .before .before .before)) ∙ not-false (c .before .before .before .every-listed .result) (c .before .before .if3 .left))
-    (passes 12 _ (rw (c .before .before .before .before .before .before .before .before .before .before .before .before .pre .1 .0, lt-ltb _ _ (c .if4 .taken))) all-pass))
+unfolding firstFailed questions q7 q9
+returns-4 c room =
+    rw (six-passes (c .before .before .before .before .before .before), eight-passes (c .before .before .before .before), ten-passes (c .before .before), no (eleven (c .before)) (c .if4 .taken))
 
 returns-5 : tie.Need-returns-5
-unfolding q12
-returns-5 c =
-    passes 10 _ (ten-passes (c .before .before .before .before .before .before .before .before))
-    (passes 11 _ (sym (eleven (c .before .before .before)) ∙ not-false (c .before .before .before .every-listed .result) (c .before .before .if3 .left))
-    (fails 12 _ (rw (c .before .before .before .before .before .before .before .before .before .before .before .before .pre .1 .0, le-ltb _ _ (c .if4 .left)))))
+unfolding firstFailed questions q7 q9 q12 q13 q14 q15 q16
+returns-5 c room =
+    let four = c .before .before in
+    rw (six-passes (four .before .before .before .before .before .before), eight-passes (four .before .before .before .before), ten-passes (four .before .before), eleven-passes four, sym (c .before .held .ensures), lt-ltb _ _ (c .if5 .taken))
+
+returns-6 : tie.Need-returns-6
+unfolding firstFailed questions q7 q9 q12
+returns-6 c room =
+    let four = c .before .before in
+    rw (six-passes (four .before .before .before .before .before .before), eight-passes (four .before .before .before .before), ten-passes (four .before .before), eleven-passes four, sym (c .before .held .ensures), le-ltb _ _ (c .if5 .left))
 
 pub event-number-spec : {M : Type 1} → statement M
 event-number-spec =
     tie.close
     (tie.spec
-    (λ c. search needs)
-    (λ c κs. search needs)
     (λ c κs. search needs)
     returns
-    (λ c. search needs)
     (λ c κs. search needs)
     returns-2
-    (λ c. search needs)
-    (λ c. search needs)
-    (λ c κs. search needs)
     (λ c κs. search needs)
     returns-3
+    (λ c κs. search needs)
     returns-4
-    returns-5)
+    (λ c κs. search needs)
+    returns-5
+    returns-6)

@@ -1,16 +1,24 @@
 -- `joining_number` meets its contract.
-use Rattle.questions.specs.First.{fails, passes, all-pass}
+use borrow.Author.Tests.{not-true, not-false}
+use Rattle.layouts.specs.Questions.{firstFailed}
 use Rattle.questions.proofs.joining_number.Statement.{statement}
 use Rattle.questions.proofs.joining_number.Tie as tie
 
 returns : tie.Need-returns
-returns c = fails 7 _ (rw (c .if1 .taken))
+unfolding firstFailed
+returns c = rw (not-true (c .before .args .year-open) (c .if1 .taken))
 
 returns-2 : tie.Need-returns-2
-returns-2 c = passes 7 _ (rw (c .before .if1 .left)) (fails 9 _ (rw (c .if2 .taken)))
+unfolding firstFailed
+returns-2 c = rw (not-false (c .before .before .args .year-open) (c .before .if1 .left), c .if2 .taken)
 
 returns-3 : tie.Need-returns-3
-returns-3 c = passes 7 _ (rw (c .before .if1 .left)) (passes 9 _ (rw (c .if2 .left)) all-pass)
+unfolding firstFailed
+returns-3 c = rw (not-false (c .before .before .before .args .year-open) (c .before .before .if1 .left), c .before .if2 .left, c .if3 .taken)
+
+returns-4 : tie.Need-returns-4
+unfolding firstFailed
+returns-4 c = rw (not-false (c .before .before .before .args .year-open) (c .before .before .if1 .left), c .before .if2 .left, c .if3 .left)
 
 pub joining-number-spec : {M : Type 1} → statement M
-joining-number-spec = tie.close (tie.spec returns returns-2 returns-3)
+joining-number-spec = tie.close (tie.spec returns returns-2 returns-3 returns-4)

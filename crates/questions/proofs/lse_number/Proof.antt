@@ -1,15 +1,25 @@
--- `lse_number` meets its contract.
-use mathlib.Core.Bool.{Bool·not-not}
+-- `questions::lse_number` meets its contract. Assumes nothing.
 use borrow.Author.Needs.{needs}
-use Rattle.year.specs.Year.{obligation}
-use Rattle.questions.specs.Questions.{q7, q9}
+use mathlib.Core.Bool.{Bool·not-not}
+use Rattle.layouts.specs.Questions.{firstFailed}
+use Rattle.questions.specs.Questions.{q6, q7, q8, q9, q10, q11, q12, q13, q14, q15, q16, questions}
 use Rattle.questions.proofs.lse_number.Statement.{statement}
 use Rattle.questions.proofs.lse_number.Tie as tie
+use Rattle.cells.proofs.obligation_of.Reads as obligation-of-reads
+use Rattle.cells.proofs.started.Reads as started-reads
+use Rattle.questions.proofs.is_open.Reads as is-open-reads
+use Rattle.questions.proofs.joining_number.Reads as joining-number-reads
 
 returns : tie.Need-returns
-unfolding q7 q9 obligation
-returns c = λ l. rw (c .before .before .before .pre .0) (rw (Bool·not-not) at (c .joining-number .ensures))
+unfolding firstFailed questions q6 q7 q8 q9 q10 q11 q12 q13 q14 q15 q16
+returns c l room = rw (c .before .before .is-open .ensures, c .before .started .ensures, c .before .before .before .obligation-of .ensures, Bool·not-not) at (c .joining-number .ensures)
 
 pub lse-number-spec : {M : Type 1} → statement M
 lse-number-spec =
-    tie.close (tie.spec (λ c. search needs) (λ c. search needs) (λ c. search needs) (λ c κs. search needs) returns)
+    tie.close
+    (tie.spec
+    (λ c κs. search needs)
+    (λ c κs. search needs)
+    (λ c κs. search needs)
+    (λ c κs. search needs)
+    returns)

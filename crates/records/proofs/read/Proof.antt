@@ -5,26 +5,27 @@ use native.Mathlib.Omega.{arith}
 use lib.ListN.{length}
 use Rattle.layouts.specs.Questions.{numbersOf}
 use Rattle.records.specs.Accepted.{accepted, taken-numbers, consumed-size, numbers-few}
-use Rattle.records.proofs.Reading.{read-fails, read-short, read-full, rejects, yields, row-front, row-long}
+use Rattle.records.proofs.Reading.{row-long}
+use Rattle.records.proofs.Answers.{read-fails, read-short, read-full, rejects, yields, row-front}
 use Rattle.records.proofs.read.Statement.{statement}
 use Rattle.records.proofs.read.Tie as tie
 
 returns : tie.Need-returns
 returns c =
-    let p = c .before .before .before .before .parse-into .ensures in
+    let p = c .before .before .before .before .parse .ensures in
     let some = c .before .if1 .taken in
     let u = c .refused .ensures in
     rejects _ (u .0 ∙ p .numbers) (u .1) (u .2) refl (λ e. some (p .numbers ∙ e)) (read-fails _ _ (λ e. some (p .numbers ∙ e)))
 
 returns-2 : tie.Need-returns-2
 returns-2 c =
-    let p = c .before .before .before .before .before .parse-into .ensures in
+    let p = c .before .before .before .before .before .parse .ensures in
     let u = c .refused2 .ensures in
     rejects 16 (u .0) (u .1) (u .2) refl (λ e. omega arith) (read-short _ _ (sym (p .numbers) ∙ c .before .before .if1 .left) (omega (arith, c .before .if2 .taken)))
 
 returns-3 : tie.Need-returns-3
 returns-3 c =
-    let p = c .before .before .before .before .before .before .before .before .before .parse-into .ensures in
+    let p = c .before .before .before .before .before .before .before .before .before .parse .ensures in
     let none = c .before .before .before .before .before .before .if1 .left in
     let zero = sym (p .numbers) ∙ none in
     let n = p .counts ∙ ap length (taken-numbers _ zero) in
@@ -34,7 +35,7 @@ returns-3 c =
 copy-front-requires : tie.Need-copy-front-requires
 copy-front-requires c κs =
     let bytes = c .before .before .before .before .before .before .before .before .before .before .args .bytes .now in
-    let p = c .before .before .before .before .before .before .parse-into .ensures in
+    let p = c .before .before .before .before .before .before .parse .ensures in
     let none = c .before .before .before .if1 .left in
     let zero = sym (p .numbers) ∙ none in
     let few = numbers-few bytes (accepted bytes zero) in

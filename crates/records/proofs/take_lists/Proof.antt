@@ -1,96 +1,123 @@
--- The deficits go behind the numbers of the head, and the entries behind the deficits.
-use Prim.Native.Nat.{_+_, _*_}
-use mathlib.Core.List.{_++_}
-use mathlib.Core.Path.{_≡_, sym, ap, _∙_}
-use borrow.Author.Needs.{needs}
+-- With i lists taken, the row has the numbers before list i.
+use Prim.Native.Nat.{ℕ, _-_, _*_, _≤_, _<_}
+use mathlib.Core.Path.{_≡_, ap, _∙_}
+use lib.ListN.{length}
+use Rattle.bits.specs.Table.{total, fieldsAt}
+use Rattle.bits.specs.ItemLaws.{total-times}
+use Rattle.layouts.specs.Layout.{lists, listAt, itemsIn, rulesTo, widths}
+use Rattle.layouts.specs.LayoutLaws.{item-small}
+use Rattle.layouts.specs.Questions.{isKind, headOf, numbersOf, row}
+use Rattle.layouts.specs.QuestionLaws.{kind-in, length-row}
+use Rattle.records.specs.Accepted.{numbers-count}
+use Rattle.layouts.specs.PartLaws.{table-long}
+use Rattle.layouts.specs.ListLaws.{length-list, total-list}
+use Rattle.records.proofs.Reading.{row-start, row-stated, row-items, take-fits, take-count, take-room, take-row, row-all, all-are, head-few, whole-size}
 use native.Mathlib.Omega.{arith}
-use lib.ListN.{length, length-append}
-use Rattle.bits.specs.Table.{total, times, fieldsAt}
-use Rattle.bits.specs.TableLaws.{length-fields}
-use Rattle.bits.specs.ItemLaws.{length-times}
-use Rattle.layouts.specs.Layout.{head, deficit, widths}
-use Rattle.layouts.specs.LayoutLaws.{head-small, length-widths}
-use Rattle.layouts.specs.Questions.{row}
-use Rattle.layouts.specs.ShapeLaws.{length-parts, total-parts, fit-deficits, fit-entries, list-fields, length-row, row-more}
 use Rattle.records.proofs.take_lists.Statement.{statement}
 use Rattle.records.proofs.take_lists.Tie as tie
 
-add-second : tie.Need-add-second
-add-second c =
-    let s = c .before .before .before .before .before .before .args .s in
-    let z = c .before .before .before .before .before .before .pre .0 in
-    omega (arith, head-small (s .kind))
+abbrev Inv-loop : tie.InvT-loop
+Inv-loop kind bytes ws values₀ n d₀ p₀ i₀ values d p i = (i ≤ length (lists kind)) × (p ≡ length (rulesTo kind (headOf bytes) i)) × (d .at ≡ total (widths (rulesTo kind (headOf bytes) i))) × (values ≡ row (fieldsAt bytes 0 (widths (rulesTo kind (headOf bytes) i))))
 
-take-items-requires : tie.Need-take-items-requires
+abbrev μ-loop : tie.MeasureT-loop
+μ-loop kind bytes ws values₀ n d₀ p₀ i₀ values d p i = length (lists kind) - i
+
+loop-holds : tie.Need-loop-holds Inv-loop μ-loop
+unfolding rulesTo
+loop-holds c = (omega arith, c .head-of .ensures, c .before .before .before .before .before .pre .1 .1 .1 .1 .0, row-start (c .before .before .before .before .before .pre .0) (c .before .before .before .before .before .pre .1 .1 .1 .1 .1))
+
+list-at-requires : tie.Need-list-at-requires Inv-loop μ-loop
+list-at-requires c κs =
+    let s = c .before .before .before .before .before .before .before .before in
+    let l = c .before .before .loop in
+    (row-stated (s .pre .0) (l .i) (l .inv .3), omega (arith, c .before .before .before .before .lists-of .ensures, c .before .loop-test .taken))
+
+take-items-requires : tie.Need-take-items-requires Inv-loop μ-loop
 take-items-requires c κs =
-    let s = c .before .before .before .before .before .before .before .before .args .s in
-    let p = c .before .before .before .before .before .before .before .before .pre in
-    let z = p .0 in
-    let bytes = c .before .before .before .before .before .before .before .before .args .bytes .now in
-    let ws = widths (head (s .kind)) in
-    let first = fieldsAt bytes 0 ws in
-    let n = length-fields bytes 0 ws ∙ length-widths (head (s .kind)) in
-    let parts = length-parts (s .kind) (s .deficits) (s .entries) in
-    let all = length-row first (omega arith) in
-    rw (c .before .before .before .before .before .widths-of-deficit .ensures) (fit-deficits z bytes (p .1 .1 .0) _ (p .1 .1 .1 .0), ((omega arith, omega arith), omega (arith, ap length (p .1 .1 .1 .1))))
+    let s = c .before .before .before .before .before .before .before .before .before .before .before in
+    let k = s .args .kind in
+    let bytes = s .args .bytes .now in
+    let w = s .pre .0 in
+    let l = c .before .before .before .before .before .loop in
+    let h = c .before .before .list-at .ensures in
+    let inside : l .i < length (lists k) = omega (arith, c .before .before .before .before .before .before .before .lists-of .ensures, c .before .before .before .before .loop-test .taken) in
+    let few = s .pre .1 .1 .0 in
+    let whole = whole-size bytes (s .pre .1 .0) in
+    rw (s .pre .1 .1 .1 .0, h .fields (λ r. r .width), h .items, row-items w (l .i) (l .inv .3) (l .i))
+    (take-fits w (l .i) (l .inv .3) few whole inside (l .inv .2), (item-small k (l .i) inside, take-room w (l .i) (l .inv .3) few whole inside (l .inv .1)))
 
--- the row with the deficits behind the head
-halfway : (c : tie.After-take-items) → let s = c .before .before .before .before .before .before .before .before .before .args .s in let bytes = c .before .before .before .before .before .before .before .before .before .args .bytes .now in let ws = widths (head (s .kind)) in
-    (c .take-items .result .at ≡ total ws + total (times (s .deficits) (widths deficit)))
-    × (c .take-items .last .1 .1 .1 .1 .0 ≡ row (fieldsAt bytes 0 ws ++ fieldsAt bytes (total ws) (times (s .deficits) (widths deficit))))
-halfway c =
-    let s = c .before .before .before .before .before .before .before .before .before .args .s in
-    let p = c .before .before .before .before .before .before .before .before .before .pre in
-    let bytes = c .before .before .before .before .before .before .before .before .before .args .bytes .now in
-    let ws = widths (head (s .kind)) in
-    let t = rw (c .before .before .before .before .before .before .widths-of-deficit .ensures, p .1 .1 .1 .0) at (c .take-items .ensures) in
-    let n = length-fields bytes 0 ws ∙ length-widths (head (s .kind)) in
-    (t .0, t .1 ∙ row-more (fieldsAt bytes 0 ws) _ (c .before .before .before .before .before .before .before .before .before .args .values .now) (s .count) (omega (arith, p .0 .count)) (p .1 .1 .1 .1))
+-- what list i has
+inside-at : (c : tie.After-struct-known Inv-loop μ-loop) → c .before .before .before .before .before .before .before .before .before .loop .i < length (lists (c .before .before .before .before .before .before .before .before .before .before .before .before .before .before .before .args .kind))
+inside-at c = omega (arith, c .before .before .before .before .before .before .before .before .before .before .before .lists-of .ensures, c .before .before .before .before .before .before .before .before .loop-test .taken)
 
-take-items-requires-2 : tie.Need-take-items-requires-2
-take-items-requires-2 c κs =
-    let s = c .before .before .before .before .before .before .before .before .before .before .before .before .before .args .s in
-    let p = c .before .before .before .before .before .before .before .before .before .before .before .before .before .pre in
-    let z = p .0 in
-    let h = halfway (c .before .before .before .before) in
-    let bytes = c .before .before .before .before .before .before .before .before .before .before .before .before .before .args .bytes .now in
-    let ws = widths (head (s .kind)) in
-    let us = times (s .deficits) (widths deficit) in
-    let n = length-fields bytes 0 ws ∙ length-widths (head (s .kind)) in
-    let m = length-fields bytes (total ws) us in
-    let parts = length-parts (s .kind) (s .deficits) (s .entries) in
-    let twice = length-times (widths deficit) (s .deficits) in
-    let both = length-append (fieldsAt bytes 0 ws) (fieldsAt bytes (total ws) us) in
-    let all = length-row (fieldsAt bytes 0 ws ++ fieldsAt bytes (total ws) us) (omega arith) in
-    rw (c .before .before .before .before .before .before .before .before .before .widths-of-entry .ensures) (fit-entries z bytes (p .1 .1 .0) _ (h .0), ((omega arith, omega arith), omega (arith, ap length (h .1))))
+items-at : (c : tie.After-struct-known Inv-loop μ-loop) → c .before .before .before .before .before .before .list-at .result .items ≡ itemsIn (c .before .before .before .before .before .before .before .before .before .before .before .before .before .before .before .args .kind) (headOf (c .before .before .before .before .before .before .before .before .before .before .before .before .before .before .before .args .bytes .now)) (c .before .before .before .before .before .before .before .before .before .loop .i)
+items-at c = let l = c .before .before .before .before .before .before .before .before .before .loop in c .before .before .before .before .before .before .list-at .ensures .items ∙ row-items (c .before .before .before .before .before .before .before .before .before .before .before .before .before .before .before .pre .0) (l .i) (l .inv .3) (l .i)
 
-returns : tie.Need-returns
+numbers-at : (c : tie.After-struct-known Inv-loop μ-loop) → let k = c .before .before .before .before .before .before .before .before .before .before .before .before .before .before .before .args .kind in let i = c .before .before .before .before .before .before .before .before .before .loop .i in
+    c .before .before .before .before .before .before .list-at .result .numbers ≡ itemsIn k (headOf (c .before .before .before .before .before .before .before .before .before .before .before .before .before .before .before .args .bytes .now)) i * length (listAt k i .fields)
+numbers-at c =
+    let l = c .before .before .before .before .before .before .before .before .before .loop in
+    c .before .before .before .before .before .before .list-at .ensures .numbers ∙ ap (λ (x : ℕ). x * length (listAt (c .before .before .before .before .before .before .before .before .before .before .before .before .before .before .before .args .kind) (l .i) .fields)) (row-items (c .before .before .before .before .before .before .before .before .before .before .before .before .before .before .before .pre .0) (l .i) (l .inv .3) (l .i))
+
+add-p : tie.Need-add-p Inv-loop μ-loop
+add-p c =
+    let s = c .before .before .before .before .before .before .before .before .before .before .before .before .before .before .before in
+    let l = c .before .before .before .before .before .before .before .before .before .loop in
+    omega (arith, l .inv .1, numbers-at c, take-count (s .pre .0) (l .i) (l .inv .3) (s .pre .1 .1 .0) (whole-size (s .args .bytes .now) (s .pre .1 .0)) (inside-at c))
+
+loop-again : tie.Need-loop-again Inv-loop μ-loop
+loop-again c =
+    let s = c .before .before .before .before .before .before .before .before .before .before .before .before .before .before .before in
+    let k = s .args .kind in
+    let w = s .pre .0 in
+    let bytes = s .args .bytes .now in
+    let l = c .before .before .before .before .before .before .before .before .before .loop in
+    let inside = inside-at c in
+    let ws = widths (listAt k (l .i) .fields) in
+    let t = rw (s .pre .1 .1 .1 .0, c .before .before .before .before .before .before .list-at .ensures .fields (λ r. r .width), items-at c) at (c .before .before .before .take-items .ensures) in (
+      omega (arith, inside),
+      omega (arith, l .inv .1, numbers-at c, length-list k (headOf bytes) (l .i)),
+      omega (arith, t .0, l .inv .2, total-list k (headOf bytes) (l .i), total-times ws (itemsIn k (headOf bytes) (l .i))),
+      take-row w (l .i) (l .inv .3) (s .pre .1 .1 .0) (whole-size bytes (s .pre .1 .0)) inside (l .inv .1) (l .inv .2) (t .1),
+    )
+
+whole-row : (c : tie.After-loop Inv-loop μ-loop) → c .before .loop .values ≡ row (numbersOf (c .before .before .before .before .before .before .before .args .bytes .now))
+whole-row c =
+    let s = c .before .before .before .before .before .before .before in
+    let l = c .before .loop in
+    let n : l .i ≡ length (lists (s .args .kind)) = omega (arith, c .before .before .before .lists-of .ensures) in
+    row-all (s .pre .0) (l .inv .3 ∙ ap (λ (i : ℕ). row (fieldsAt (s .args .bytes .now) 0 (widths (rulesTo (s .args .kind) (headOf (s .args .bytes .now)) i)))) n)
+
+same-length : tie.Need-same-length Inv-loop μ-loop
+same-length c =
+    let s = c .before .before .before .before .before .before .before in
+    let l = c .before .loop in
+    omega (arith, ap length (whole-row c), length-row (numbersOf (s .args .bytes .now)) (omega (arith, numbers-count (s .args .bytes .now), s .pre .1 .1 .0)), ap length (s .pre .1 .1 .1 .1 .1), length-row (headOf (s .args .bytes .now)) (head-few (s .pre .0)))
+
+returns : tie.Need-returns Inv-loop μ-loop
 returns c =
-    let s = c .before .before .before .before .before .before .before .before .before .before .before .before .before .before .before .before .args .s in
-    let z = c .before .before .before .before .before .before .before .before .before .before .before .before .before .before .before .before .pre .0 in
-    let h = halfway (c .before .before .before .before .before .before .before) in
-    let t = rw (c .before .before .before .before .before .before .before .before .before .before .before .before .widths-of-entry .ensures, h .0) at (c .before .before .take-items2 .ensures) in
-    let bytes = c .before .before .before .before .before .before .before .before .before .before .before .before .before .before .before .before .args .bytes .now in
-    let ws = widths (head (s .kind)) in
-    let us = times (s .deficits) (widths deficit) in
-    let n = length-fields bytes 0 ws ∙ length-widths (head (s .kind)) in
-    let m = length-fields bytes (total ws) us in
-    let twice = length-times (widths deficit) (s .deficits) in
-    let both = length-append (fieldsAt bytes 0 ws) (fieldsAt bytes (total ws) us) in
-    let second = row-more (fieldsAt bytes 0 ws ++ fieldsAt bytes (total ws) us) _ (c .before .before .before .before .before .before .before .take-items .last .1 .1 .1 .1 .0) (s .count + 2 * s .deficits) (omega arith) (h .1) in
-    (t .0 ∙ sym (total-parts (s .kind) (s .deficits) (s .entries)), t .1 ∙ second ∙ ap row (list-fields bytes (s .kind) (s .deficits) (s .entries)))
+    let s = c .before .before .before .before .before .before .before in
+    let l = c .before .loop in
+    let n : l .i ≡ length (lists (s .args .kind)) = omega (arith, c .before .before .before .lists-of .ensures) in
+    (l .inv .2 ∙ ap (λ (i : ℕ). total (widths (rulesTo (s .args .kind) (headOf (s .args .bytes .now)) i))) n ∙ ap (λ (rs : _). total (widths rs)) (all-are (s .pre .0)), whole-row c)
 
 pub take-lists-spec : {M : Type 1} → statement M
 take-lists-spec =
     tie.close
     (tie.spec
-    (λ c κs. search needs)
-    (λ c κs. search needs)
-    (λ c. search needs)
-    add-second
-    (λ c. search needs)
+    Inv-loop
+    μ-loop
+    (λ c κs. kind-in _ (ap isKind (c .before .before .before .pre .0 .kind) ∙ c .before .before .before .pre .0 .first))
+    (λ c κs. kind-in _ (ap isKind (c .before .before .before .before .pre .0 .kind) ∙ c .before .before .before .before .pre .0 .first))
+    loop-holds
+    list-at-requires
+    (λ c. omega (arith, c .list-at .ensures .long))
+    (λ c. omega (arith, c .list-at .ensures .long, c .list-at .ensures .within, table-long (λ r. r .width) (c .before .before .before .before .before .before .before .before .before .pre .1 .1 .1 .0)))
+    (λ c. omega (arith, c .list-at .ensures .within, table-long (λ r. r .width) (c .before .before .before .before .before .before .before .before .before .pre .1 .1 .1 .0)))
     take-items-requires
-    (λ c. search needs)
-    take-items-requires-2
-    (λ c. search needs)
+    add-p
+    (λ c. omega arith)
+    (λ c. omega (arith, c .before .before .before .before .before .before .before .before .before .before .before .lists-of .ensures, c .before .before .before .before .before .before .before .before .loop-test .taken))
+    loop-again
+    same-length
     returns)

@@ -6,8 +6,7 @@ use native.Mathlib.Omega.{arith}
 use Rattle.year.specs.Year.{known, seller, size}
 use Rattle.year.specs.Limits.{seller-below, size-is}
 use Rattle.statement.specs.Statement.{hasRegistration}
-use Rattle.statement.specs.Code.{Marks}
-use Rattle.statement.specs.Turns.{amongFirst, marks-none, mark-skip, mark-more}
+use Rattle.statement.specs.Marks.{Marks, amongFirst, marks-none, mark-skip, mark-more}
 use Rattle.statement.proofs.present.Statement.{statement}
 use Rattle.statement.proofs.present.Tie as tie
 

@@ -1,6 +1,6 @@
 -- Digits up to 9, then letters.
 use borrow.Author.Tests.{lt-ltb, le-ltb}
-use Rattle.text.specs.Text.{character}
+use Rattle.text.specs.Lines.{character}
 use borrow.Author.Needs.{needs}
 use Rattle.text.proofs.character_of.Statement.{statement}
 use Rattle.text.proofs.character_of.Tie as tie

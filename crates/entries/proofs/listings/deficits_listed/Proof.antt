@@ -1,56 +1,57 @@
--- `deficits_listed` meets its contract. The invariant: all deficits so far have an entry.
-use Prim.Native.Nat.{_≤_, _-_}
+-- `entries::listings::deficits_listed` meets its contract. The invariant: all deficits so far have an entry. Assumes nothing.
+use Prim.Native.Nat.{_+_, _≤_, _-_}
 use mathlib.Core.Path.{_≡_, refl, sym, _∙_}
 use mathlib.Core.Bool.{true, _||_}
 use native.Mathlib.Omega.{arith}
-use borrow.Author.Needs.{needs}
 use mathlib.Core.Logic.{⊎-elim}
 use borrow.Author.Tests.{not-true, not-false, eq-eqb, ne-eqb}
-use Rattle.ids.specs.Ids.{holds, allTo}
-use Rattle.ids.specs.Tests.{all-more, all-fails}
 use lib.Dec.{eqb}
+use Rattle.ids.specs.Ids.{at, holds, allTo}
+use Rattle.ids.specs.Tests.{all-more, all-fails}
 use Rattle.year.specs.Year.{deficit}
-use Rattle.entries.specs.Passes.{deficits-listed}
+use Rattle.cells.specs.Layout.{listingAt, termsIn}
+use Rattle.entries.specs.Passes.{row-deficit, deficits-listed}
 use Rattle.entries.proofs.listings.deficits_listed.Statement.{statement}
 use Rattle.entries.proofs.listings.deficits_listed.Tie as tie
+use Rattle.entries.proofs.listings.sellers_listed.Reads as sellers-listed-reads
 
 abbrev Inv-loop : tie.InvT-loop
-Inv-loop listing sellers s₀ s = (s ≤ 16) × (allTo s (λ k. eqb (deficit listing k) 0 || holds sellers k) ≡ true)
+Inv-loop year listing sellers s₀ s = (s ≤ 16) × (allTo s (λ k. eqb (deficit (listingAt (at listing)) k) 0 || holds sellers k) ≡ true)
 
 abbrev μ-loop : tie.MeasureT-loop
-μ-loop listing sellers s₀ s = 16 - s
+μ-loop year listing sellers s₀ s = 16 - s
 
 loop-holds : tie.Need-loop-holds Inv-loop μ-loop
 unfolding allTo
 loop-holds c = (omega arith, refl)
 
 returns : tie.Need-returns Inv-loop μ-loop
-unfolding deficit
 returns c =
     let a = c .before .before .before .before .before .before .before .args in
+    let row = a .listing .now in
     let marks = c .before .before .before .before .before .sellers-listed in
     let s = c .before .before .before .before .loop .s in
-    sym (all-fails 16 (λ k. eqb (deficit (a .t2) k) 0 || holds (marks .result) k) s (omega arith)
-    (rw (ne-eqb (deficit (a .t2) s) 0 (c .before .if1 .taken), not-true (holds (marks .result) s) (c .if2 .taken))))
-    ∙ deficits-listed (a .terms) (a .t2) (marks .ensures)
+    sym (all-fails 16 (λ k. eqb (deficit (listingAt (at row)) k) 0 || holds (marks .result) k) s (omega arith)
+    (rw (row-deficit row {s = s} (omega arith), ne-eqb (at row (128 + s)) 0 (c .before .if1 .taken), not-true (holds (marks .result) s) (c .if2 .taken))))
+    ∙ deficits-listed (termsIn (a .year .now)) (listingAt (at row)) (marks .ensures)
 
 loop-again : tie.Need-loop-again Inv-loop μ-loop
-unfolding deficit
 loop-again c =
-    let l = c .before .before .before .before .before .before .args .t2 in
+    let row = c .before .before .before .before .before .before .args .listing .now in
     let marks = c .before .before .before .before .sellers-listed .result in
-    let at = c .before .before .before .loop in (
+    let l = c .before .before .before .loop in (
       omega arith,
-      all-more (at .s) (λ k. eqb (deficit l k) 0 || holds marks k) (at .inv .1)
-          (⊎-elim (λ w. rw (ne-eqb (deficit l (at .s)) 0 (w .0 .taken), not-false (holds marks (at .s)) (w .1 .left)))
-          (λ w. rw (eq-eqb (deficit l (at .s)) 0 (w .left))) (c .if1 .came)),
+      all-more (l .s) (λ k. eqb (deficit (listingAt (at row)) k) 0 || holds marks k) (l .inv .1)
+          (rw (row-deficit row {s = l .s} (omega arith))
+          (⊎-elim (λ w. rw (ne-eqb (at row (128 + l .s)) 0 (w .0 .taken), not-false (holds marks (l .s)) (w .1 .left)))
+          (λ w. rw (eq-eqb (at row (128 + l .s)) 0 (w .left))) (c .if1 .came))),
     )
 
 returns-2 : tie.Need-returns-2 Inv-loop μ-loop
 returns-2 c =
-    let all : c .before .loop .s ≡ 16 = omega arith in
     let a = c .before .before .before .before .args in
-    sym (rw all at (c .before .loop .inv .1)) ∙ deficits-listed (a .terms) (a .t2) (c .before .before .sellers-listed .ensures)
+    let all : c .before .loop .s ≡ 16 = omega arith in
+    sym (rw all at (c .before .loop .inv .1)) ∙ deficits-listed (termsIn (a .year .now)) (listingAt (at (a .listing .now))) (c .before .before .sellers-listed .ensures)
 
 pub deficits-listed-spec : {M : Type 1} → statement M
 deficits-listed-spec =
@@ -58,8 +59,9 @@ deficits-listed-spec =
     (tie.spec
     Inv-loop
     μ-loop
-    (λ c κs. search needs)
+    (λ c κs. c .before .pre)
     loop-holds
+    (λ c. omega arith)
     (λ c. omega arith)
     (λ c. omega arith)
     (λ c. omega arith)

@@ -1,8 +1,10 @@
--- `entries_pass` meets its contract.
-use mathlib.Core.Path.{sym}
+-- `entries::listings::entries_pass` meets its contract. Assumes nothing.
 use borrow.Author.Needs.{needs}
+use mathlib.Core.Path.{sym}
 use Rattle.entries.proofs.listings.entries_pass.Statement.{statement}
 use Rattle.entries.proofs.listings.entries_pass.Tie as tie
+use Rattle.entries.proofs.listings.deficits_listed.Reads as deficits-listed-reads
+use Rattle.entries.proofs.listings.every_listed.Reads as every-listed-reads
 
 returns : tie.Need-returns
 returns c = rw (sym (c .before .before .every-listed .ensures), c .before .if1 .taken) (c .deficits-listed .ensures)
@@ -12,4 +14,9 @@ returns-2 c = rw (sym (c .before .every-listed .ensures), c .if1 .left)
 
 pub entries-pass-spec : {M : Type 1} → statement M
 entries-pass-spec =
-    tie.close (tie.spec (λ c κs. search needs) (λ c κs. search needs) returns returns-2)
+    tie.close
+    (tie.spec
+    (λ c κs. search needs)
+    (λ c κs. search needs)
+    returns
+    returns-2)

@@ -1,44 +1,50 @@
--- `every_listed` meets its contract. The invariant: all so far pass where they are listed.
+-- `entries::listings::every_listed` meets its contract. The invariant: all so far meet the condition where they are listed. Assumes nothing.
 use Prim.Native.Nat.{_≤_, _-_}
-use mathlib.Core.Path.{_≡_, refl, sym}
+use mathlib.Core.Path.{_≡_, refl, sym, _∙_}
 use mathlib.Core.Bool.{true, not, _||_}
 use native.Mathlib.Omega.{arith}
-use mathlib.Core.Logic.{⊎-elim}
 use borrow.Author.Tests.{not-true, not-false}
-use Rattle.ids.specs.Ids.{holds, allTo}
+use Rattle.ids.specs.Ids.{at, allTo}
 use Rattle.ids.specs.Tests.{all-more, all-fails}
+use Rattle.year.specs.Year.{listed, registration, size}
+use Rattle.year.specs.Limits.{size-is}
+use Rattle.cells.specs.Layout.{listingAt, termsIn}
+use Rattle.entries.specs.Entries.{everyListed}
+use Rattle.entries.specs.Meets.{fulfils}
 use Rattle.entries.proofs.listings.every_listed.Statement.{statement}
 use Rattle.entries.proofs.listings.every_listed.Tie as tie
+use Rattle.entries.proofs.listings.passes.Reads as passes-reads
 
 abbrev Inv-loop : tie.InvT-loop
-Inv-loop listed passes i₀ i = (i ≤ 64) × (allTo i (λ k. not (holds listed k) || holds passes k) ≡ true)
+Inv-loop year listing condition i₀ i = (i ≤ 64) × (allTo i (λ k. not (listed (listingAt (at listing)) k) || fulfils condition (registration (termsIn year) k)) ≡ true)
 
 abbrev μ-loop : tie.MeasureT-loop
-μ-loop listed passes i₀ i = 64 - i
+μ-loop year listing condition i₀ i = 64 - i
 
 loop-holds : tie.Need-loop-holds Inv-loop μ-loop
 unfolding allTo
 loop-holds c = (omega arith, refl)
 
 returns : tie.Need-returns Inv-loop μ-loop
+unfolding everyListed
 returns c =
-    let a = c .before .before .before .before .args in
-    let i = c .before .before .before .loop .i in
-    sym (all-fails 64 (λ k. not (holds (a .t1) k) || holds (a .t2) k) i (omega arith)
-    (rw (c .before .if1 .taken, not-true (holds (a .t2) i) (c .if2 .taken))))
+    let start = c .before .before .before .before .before in
+    let a = start .args in
+    let T = termsIn (a .year .now) in
+    let p = c .before .passes in
+    sym (all-fails (size T) (λ k. not (listed (listingAt (at (a .listing .now))) k) || fulfils (a .condition) (registration (termsIn (a .year .now)) k)) (c .before .before .before .loop .i) (omega (arith, size-is (start .pre .0 .sound .terms))) (sym (p .ensures) ∙ not-true (p .result) (c .if1 .taken)))
 
 loop-again : tie.Need-loop-again Inv-loop μ-loop
 loop-again c =
-    let a = c .before .before .before .args in
-    let at = c .before .before .loop in (
-      omega arith,
-      all-more (at .i) (λ k. not (holds (a .t1) k) || holds (a .t2) k) (at .inv .1)
-          (⊎-elim (λ w. rw (w .0 .taken, not-false (holds (a .t2) (at .i)) (w .1 .left))) (λ w. rw (w .left)) (c .if1 .came)),
-    )
+    let at = c .before .before .before .loop in
+    let p = c .before .passes in
+    (omega arith, all-more (at .i) _ (at .inv .1) (sym (p .ensures) ∙ not-false (p .result) (c .if1 .left)))
 
 returns-2 : tie.Need-returns-2 Inv-loop μ-loop
+unfolding everyListed
 returns-2 c =
-    let all : c .before .loop .i ≡ 64 = omega arith in
+    let start = c .before .before .before in
+    let all : c .before .loop .i ≡ size (termsIn (start .args .year .now)) = omega (arith, size-is (start .pre .0 .sound .terms)) in
     sym (rw all at (c .before .loop .inv .1))
 
 pub every-listed-spec : {M : Type 1} → statement M
@@ -48,8 +54,7 @@ every-listed-spec =
     Inv-loop
     μ-loop
     loop-holds
-    (λ c. omega arith)
-    (λ c. omega arith)
+    (λ c κs. omega arith)
     returns
     (λ c. omega arith)
     (λ c. omega arith)

@@ -1,20 +1,22 @@
--- `any_registration` meets its contract. The invariant: none so far is known.
+-- `entries::registrations::any_registration` meets its contract. The invariant: none so far is known. Assumes nothing.
 use Prim.Native.Nat.{_≤_, _-_}
-use mathlib.Core.Path.{_≡_, refl, sym}
+use mathlib.Core.Path.{_≡_, refl, sym, _∙_}
 use mathlib.Core.Bool.{false}
 use native.Mathlib.Omega.{arith}
 use Rattle.ids.specs.Ids.{anyTo}
 use Rattle.ids.specs.Tests.{any-at, any-none}
 use Rattle.year.specs.Year.{known, size}
 use Rattle.year.specs.Limits.{size-is}
+use Rattle.cells.specs.Layout.{termsIn}
 use Rattle.entries.proofs.registrations.any_registration.Statement.{statement}
 use Rattle.entries.proofs.registrations.any_registration.Tie as tie
+use Rattle.cells.proofs.registration_at.Reads as registration-at-reads
 
 abbrev Inv-loop : tie.InvT-loop
-Inv-loop terms i₀ i = (i ≤ 64) × (anyTo i (known terms) ≡ false)
+Inv-loop year i₀ i = (i ≤ 64) × (anyTo i (known (termsIn year)) ≡ false)
 
 abbrev μ-loop : tie.MeasureT-loop
-μ-loop terms i₀ i = 64 - i
+μ-loop year i₀ i = 64 - i
 
 loop-holds : tie.Need-loop-holds Inv-loop μ-loop
 unfolding anyTo
@@ -24,15 +26,17 @@ returns : tie.Need-returns Inv-loop μ-loop
 unfolding known
 returns c =
     let start = c .before .before .before .before in
-    sym (any-at (size (start .args .t1)) (known (start .args .t1)) (c .before .before .before .loop .i) (omega (arith, size-is (start .pre))) (c .if1 .taken))
+    let T = termsIn (start .args .year .now) in
+    sym (any-at (size T) (known T) (c .before .before .before .loop .i) (omega (arith, size-is (start .pre .sound .terms))) (rw (c .before .registration-at .ensures) at (c .if1 .taken)))
 
 loop-again : tie.Need-loop-again Inv-loop μ-loop
 unfolding known
-loop-again c = (omega arith, any-none _ _ (c .before .before .before .loop .inv .1) (c .if1 .left))
+loop-again c = (omega arith, any-none _ _ (c .before .before .before .loop .inv .1) (rw (c .before .registration-at .ensures) at (c .if1 .left)))
 
 returns-2 : tie.Need-returns-2 Inv-loop μ-loop
 returns-2 c =
-    let all : c .before .loop .i ≡ size (c .before .before .args .t1) = omega (arith, size-is (c .before .before .pre)) in
+    let start = c .before .before in
+    let all : c .before .loop .i ≡ size (termsIn (start .args .year .now)) = omega (arith, size-is (start .pre .sound .terms)) in
     sym (rw all at (c .before .loop .inv .1))
 
 pub any-registration-spec : {M : Type 1} → statement M
@@ -42,8 +46,7 @@ any-registration-spec =
     Inv-loop
     μ-loop
     loop-holds
-    (λ c. omega arith)
-    (λ c. omega arith)
+    (λ c κs. omega arith)
     returns
     (λ c. omega arith)
     (λ c. omega arith)

@@ -1,8 +1,13 @@
 -- A kind is in the table, and has a head.
-use mathlib.Core.Path.{sym}
-use borrow.Author.Needs.{needs}
+use mathlib.Core.Path.{sym, _∙_}
+use borrow.Author.Tests.{lt-ltb, le-ltb}
+use native.Mathlib.Decide.{decLt}
+use lib.ListN.{length}
+use Rattle.layouts.specs.Layout.{head}
 use Rattle.layouts.specs.Questions.{isKind}
 use Rattle.layouts.specs.QuestionLaws.{not-kind}
+use borrow.Author.Needs.{needs}
+use native.Mathlib.Omega.{arith}
 use Rattle.layouts.proofs.checks.is_kind.Statement.{statement}
 use Rattle.layouts.proofs.checks.is_kind.Tie as tie
 
@@ -11,7 +16,19 @@ returns c = sym (not-kind (c .before .args .kind) (c .if1 .taken))
 
 returns-2 : tie.Need-returns-2
 unfolding isKind
-returns-2 c = rw (c .count-at .ensures)
+returns-2 c =
+    let p = c .before .part-at .result in
+    let n = length (head (c .before .before .before .args .kind)) in
+    let long = c .before .part-at .ensures .long in
+    elim (decLt 0 n) [
+      | yes l ↦ lt-ltb (p .start) (p .end) (omega arith) ∙ sym (lt-ltb 0 n l)
+      | no l ↦ le-ltb (p .start) (p .end) (omega arith) ∙ sym (le-ltb 0 n (omega arith))
+    ]
 
 pub is-kind-spec : {M : Type 1} → statement M
-is-kind-spec = tie.close (tie.spec returns (λ c κs. search needs) returns-2)
+is-kind-spec =
+    tie.close
+    (tie.spec
+    returns
+    (λ c κs. search needs)
+    returns-2)

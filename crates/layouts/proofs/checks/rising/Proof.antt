@@ -1,46 +1,89 @@
--- Every pair passed rises; the first that does not settles the question.
+-- Every pair of ids passed rises; the first that does not settles the question.
 use mathlib.Core.Bool.{true}
 use mathlib.Core.Path.{_≡_, refl, sym}
-use Prim.Native.Nat.{_+_, _-_, _*_, _≤_}
+use Prim.Native.Nat.{ℕ, _+_, _-_, _*_, _≤_, _<_}
 use borrow.Author.Tests.{lt-ltb, le-ltb}
-use native.Mathlib.Omega.{arith}
+use native.Mathlib.Nat.{mul-le-mul-right}
 use lib.Dec.{ltb}
-use Rattle.ids.specs.Ids.{at as number, allTo}
+use Rattle.ids.specs.Ids.{at, allTo}
+use Rattle.ids.specs.Tests.{all-more, all-fails}
 use Rattle.layouts.specs.Questions.{rises}
-use Rattle.layouts.specs.QuestionLaws.{not-all}
-use Rattle.ids.specs.Tests.{all-more}
+use native.Mathlib.Omega.{arith}
 use Rattle.layouts.proofs.checks.rising.Statement.{statement}
 use Rattle.layouts.proofs.checks.rising.Tie as tie
 
+-- two more items lie within the n
+room : (w n k : ℕ) → k + 1 < n → w * k + 2 * w ≤ n * w
+room w n k h = let more : (k + 2) * w ≤ n * w = mul-le-mul-right w (omega arith) in omega arith
+
 abbrev Inv-loop : tie.InvT-loop
-Inv-loop values at n k₀ k = (k ≤ n - 1) × (allTo k (λ i. ltb (number values (at + 2 * i)) (number values (at + 2 * (i + 1)))) ≡ true)
+Inv-loop values fields from n p₀ k₀ p k = (k ≤ n - 1) × (p ≡ from + fields * k) × (allTo k (λ i. ltb (at values (from + fields * i)) (at values (from + fields * (i + 1)))) ≡ true)
 
 abbrev μ-loop : tie.MeasureT-loop
-μ-loop values at n k₀ k = n - k
+μ-loop values fields from n p₀ k₀ p k = n - k
 
 loop-holds : tie.Need-loop-holds Inv-loop μ-loop
 unfolding allTo
-loop-holds c = (omega arith, refl)
+loop-holds c = (omega arith, omega arith, refl)
+
+add-q : tie.Need-add-q Inv-loop μ-loop
+add-q c =
+    let a = c .before .before .args in
+    let l = c .before .loop in
+    omega (arith, c .before .before .pre, room (a .fields) (a .n) (l .k) (omega arith))
+
+mul-if1 : tie.Need-mul-if1 Inv-loop μ-loop
+mul-if1 c =
+    let a = c .before .before .args in
+    let l = c .before .loop in
+    omega (arith, c .before .before .pre, room (a .fields) (a .n) (l .k) (omega arith))
+
+shared-slice-read-if1 : tie.Need-shared-slice-read-if1 Inv-loop μ-loop
+shared-slice-read-if1 c =
+    let a = c .before .before .before .args in
+    let l = c .before .before .loop in
+    omega (arith, c .before .before .before .pre, room (a .fields) (a .n) (l .k) (omega arith))
+
+mul-if1-2 : tie.Need-mul-if1-2 Inv-loop μ-loop
+mul-if1-2 c =
+    let a = c .before .before .before .args in
+    let l = c .before .before .loop in
+    omega (arith, c .before .before .before .pre, room (a .fields) (a .n) (l .k) (omega arith))
+
+shared-slice-read-if1-2 : tie.Need-shared-slice-read-if1-2 Inv-loop μ-loop
+shared-slice-read-if1-2 c =
+    let a = c .before .before .before .before .args in
+    let l = c .before .before .before .loop in
+    omega (arith, c .before .before .before .before .pre, room (a .fields) (a .n) (l .k) (omega arith))
 
 returns : tie.Need-returns Inv-loop μ-loop
 unfolding rises
 returns c =
     let a = c .before .before .before .before .before .args in
-    let k = c .before .before .before .before .loop .k in
-    sym (not-all (a .n - 1) (λ i. ltb (number (a .values .now) (a .at + 2 * i)) (number (a .values .now) (a .at + 2 * (i + 1)))) k (omega arith) (le-ltb (number (a .values .now) (a .at + 2 * k)) (number (a .values .now) (a .at + 2 * (k + 1))) (omega (arith, c .if1 .taken))))
+    let l = c .before .before .before .before .loop in
+    let vs = a .values .now in
+    let q : a .from + a .fields * (l .k + 1) ≡ l .p + a .fields = omega (arith, l .inv .1) in
+    sym (all-fails (a .n - 1) (λ i. ltb (at vs (a .from + a .fields * i)) (at vs (a .from + a .fields * (i + 1)))) (l .k) (omega arith)
+    (rw (q, ← l .inv .1) (le-ltb (at vs (l .p)) (at vs (l .p + a .fields)) (c .if1 .taken))))
 
 loop-again : tie.Need-loop-again Inv-loop μ-loop
 loop-again c =
     let a = c .before .before .before .before .before .args in
     let l = c .before .before .before .before .loop in
-    (omega arith, all-more (l .k) (λ i. ltb (number (a .values .now) (a .at + 2 * i)) (number (a .values .now) (a .at + 2 * (i + 1)))) (l .inv .1) (lt-ltb (number (a .values .now) (a .at + 2 * l .k)) (number (a .values .now) (a .at + 2 * (l .k + 1))) (omega (arith, c .if1 .left))))
+    let vs = a .values .now in
+    let q : a .from + a .fields * (l .k + 1) ≡ l .p + a .fields = omega (arith, l .inv .1) in (
+      omega arith,
+      sym q,
+      all-more (l .k) (λ i. ltb (at vs (a .from + a .fields * i)) (at vs (a .from + a .fields * (i + 1)))) (l .inv .2)
+          (rw (q, ← l .inv .1) (lt-ltb (at vs (l .p)) (at vs (l .p + a .fields)) (omega (arith, c .if1 .left)))),
+    )
 
 returns-2 : tie.Need-returns-2 Inv-loop μ-loop
 unfolding rises
 returns-2 c =
     let l = c .before .loop in
     let n : l .k ≡ c .before .before .args .n - 1 = omega arith in
-    sym (rw n at (l .inv .1))
+    sym (rw n at (l .inv .2))
 
 pub rising-spec : {M : Type 1} → statement M
 rising-spec =
@@ -50,15 +93,11 @@ rising-spec =
     μ-loop
     loop-holds
     (λ c. omega arith)
-    (λ c. omega arith)
-    (λ c. omega arith)
-    (λ c. omega arith)
-    (λ c. omega arith)
-    (λ c. omega arith)
-    (λ c. omega arith)
-    (λ c. omega arith)
-    (λ c. omega arith)
-    (λ c. omega arith)
+    add-q
+    mul-if1
+    shared-slice-read-if1
+    mul-if1-2
+    shared-slice-read-if1-2
     returns
     (λ c. omega arith)
     (λ c. omega arith)

@@ -1,0 +1,114 @@
+-- An amount a seller, allotted over its registrations: sixteen allotments side by side in four rows of the working table.
+use Prim.Native.Nat.{ℕ, _+_, _*_, _<_, _^_}
+use mathlib.Core.Path.{_≡_, refl, sym, _∙_}
+use mathlib.Core.Bool.{Bool, true, false, cond}
+use mathlib.Core.List.{List}
+use native.Mathlib.Omega.{arith}
+use native.Mathlib.Nat.{mul-zero, zero-div}
+use lib.Dec.{eqb}
+use lib.ListN.{length}
+use borrow.Author.Tests.{eq-eqb, eqb-true, eqb-false}
+use Rattle.ids.specs.Ids.{at, keyed}
+use Rattle.allotment.specs.declared.Allotment.{Allotment}
+use Rattle.allotment.specs.declared.Share.{Share}
+use Rattle.allotment.specs.Stepper.{Asks, Gives, Before, before-first, share-asks, share-value, share-next, share-skip}
+use Rattle.owed.specs.Facts.{Facts}
+use Rattle.owed.specs.Owed.{ofSeller, shareOf}
+use Rattle.cells.specs.Rows.{Off}
+use Rattle.table.specs.Rows.{Stored, Aside, Row, none}
+
+-- seller s's allotment, in the rows from p on
+abbrev pub stepper : ℕ → List ℕ → ℕ → Allotment
+stepper p w s =
+    record { amount = at w (p + (16 + s)); total = at w (p + s); passed = at w (p + (32 + s)); quotient = at w (p + (48 + s)) }
+
+-- one share of seller s: what it gives, and that nothing else changes
+pub record Shared (p s weight : ℕ) (w v : List ℕ) (r : ℕ) : Type 0 where
+  pub long : length v ≡ length w
+  pub others : (k : ℕ) → (k ≡ p + (32 + s) → ⊥) → (k ≡ p + (48 + s) → ⊥) → at v k ≡ at w k
+  pub gives : Gives (stepper p w s) weight (record { value = r; next = stepper p v s })
+
+-- the next weight and quotient are stored
+pub shared : {p s weight : ℕ} {w m v : List ℕ} {r : Share} → s < 16 → Gives (stepper p w s) weight r
+    → Stored (p + (32 + s)) (r .next .passed) w m → Stored (p + (48 + s)) (r .next .quotient) m v → Shared p s weight w v (r .value)
+shared {p} {s} {weight} {w} {m} {v} {r} l g a b =
+    record {
+      long = b .long ∙ a .long;
+      others = others;
+      gives = record {
+        value = g .value;
+        next = record {
+          amount = others (p + (16 + s)) (λ e. omega arith) (λ e. omega arith);
+          total = others (p + s) (λ e. omega arith) (λ e. omega arith);
+          passed = b .others (p + (32 + s)) (λ e. omega arith) ∙ a .here ∙ g .next .passed;
+          quotient = b .here ∙ g .next .quotient;
+        };
+      };
+    }
+  where
+    others : (k : ℕ) → (k ≡ p + (32 + s) → ⊥) → (k ≡ p + (48 + s) → ⊥) → at v k ≡ at w k
+    others k x y = b .others k y ∙ a .others k x
+
+pub shared-aside : {p s weight r : ℕ} {w v : List ℕ} → s < 16 → Shared p s weight w v r → Aside (p + 32) 32 w v
+shared-aside l g = record { long = g .long; outside = λ k o. g .others k (λ e. o (omega arith) (omega arith)) (λ e. o (omega arith) (omega arith)) }
+
+-- each seller's amount, before share i
+pub record Abreast (F : Facts) (weight amount : ℕ → ℕ) (p i : ℕ) (w : List ℕ) : Type 0 where
+  pub before : (s : ℕ) → s < 16 → Before 64 (keyed (F .seller) weight s) (amount s) i (stepper p w s)
+
+-- weights summed up, amounts, and nothing passed
+pub abreast-first : {F : Facts} {weight amount : ℕ → ℕ} {p : ℕ} {w : List ℕ} → Row w p 16 (λ s. ofSeller F s weight) → Row w (p + 16) 16 amount → Row w (p + 32) 32 none → Abreast F weight amount p 0 w
+unfolding ofSeller
+abreast-first {F} {weight} {amount} {p} {w} t a z =
+    record { before = λ s l. before-first {b = amount s} refl (t .is s l) (record { amount = first s l; total = refl; passed = zero 0 s (omega arith); quotient = zero 16 s (omega arith) ∙ sym (rw (mul-zero (amount s)) (zero-div (at w (p + s)))) }) }
+  where
+    first : (s : ℕ) → s < 16 → at w (p + (16 + s)) ≡ amount s
+    first s l = let z : p + 16 + s ≡ p + (16 + s) = omega arith in rw z at (a .is s l)
+
+    zero : (d s : ℕ) → d + s < 32 → at w (p + (32 + d + s)) ≡ 0
+    zero d s l = let q : p + 32 + (d + s) ≡ p + (32 + d + s) = omega arith in rw q at (z .is (d + s) l)
+
+module _ {F : Facts} {weight amount : ℕ → ℕ} {p i : ℕ} {w : List ℕ} (h : Abreast F weight amount p i w) where
+  abreast-same : {v : List ℕ} → ((k : ℕ) → k < 64 → at v (p + k) ≡ at w (p + k)) → Abreast F weight amount p i v
+  abreast-same {v} e = record { before = λ s l. rw (same s l) (h .before s l) }
+    where
+      same : (s : ℕ) → s < 16 → stepper p v s ≡ stepper p w s
+      same s l = cc (e s (omega arith), e (16 + s) (omega arith), e (32 + s) (omega arith), e (48 + s) (omega arith))
+
+  -- what is stored elsewhere
+  pub abreast-kept : {q x : ℕ} {v : List ℕ} → Stored q x w v → Off p 64 q → Abreast F weight amount p i v
+  abreast-kept s o = abreast-same (λ k l. s .others (p + k) (λ e. o (omega arith) (omega arith)))
+
+  pub abreast-aside : {q m : ℕ} {v : List ℕ} → Aside q m w v → ((k : ℕ) → k < 64 → Off q m (p + k)) → Abreast F weight amount p i v
+  abreast-aside a o = abreast-same (λ k l. a .outside (p + k) (o k l))
+
+  -- a registration without weight
+  pub abreast-none : weight i ≡ 0 → Abreast F weight amount p (i + 1) w
+  abreast-none z = record { before = λ s l. share-skip (h .before s l) (go (eqb (F .seller i) s)) }
+    where
+      go : (b : Bool) → cond b (weight i) 0 ≡ 0
+      go true = z
+      go false = refl
+
+  module _ {x : ℕ} (l : F .seller i < 16) (e : x ≡ weight i) where
+    own : x ≡ keyed (F .seller) weight (F .seller i) i
+    own = rw (eq-eqb (F .seller i) (F .seller i) refl) e
+
+    pub abreast-asks : i < 64 → amount (F .seller i) * ofSeller F (F .seller i) weight < 2 ^ 64 → Asks (stepper p w (F .seller i)) x
+    unfolding ofSeller
+    abreast-asks m f = share-asks (h .before (F .seller i) l) m own f
+
+    module _ {v : List ℕ} {r : ℕ} (g : Shared p (F .seller i) x w v r) where
+      pub abreast-value : r ≡ shareOf F weight amount i
+      unfolding shareOf
+      abreast-value = share-value (h .before (F .seller i) l) own (g .gives)
+
+      pub abreast-more : Abreast F weight amount p (i + 1) v
+      abreast-more = record { before = λ s m. go s m (eqb (F .seller i) s) refl }
+        where
+          go : (s : ℕ) → s < 16 → (b : Bool) → eqb (F .seller i) s ≡ b → Before 64 (keyed (F .seller) weight s) (amount s) (i + 1) (stepper p v s)
+          go s m true q = let z = eqb-true (F .seller i) s q in rw (← z) (share-next (h .before (F .seller i) l) own (g .gives))
+          go s m false q =
+              let o = eqb-false (F .seller i) s q in
+              let kept : stepper p v s ≡ stepper p w s = cc (g .others (p + s) (λ a. omega arith) (λ a. omega arith), g .others (p + (16 + s)) (λ a. omega arith) (λ a. omega arith), g .others (p + (32 + s)) (λ a. o (omega arith)) (λ a. omega arith), g .others (p + (48 + s)) (λ a. omega arith) (λ a. o (omega arith))) in
+              rw kept (share-skip (h .before s m) (rw q))

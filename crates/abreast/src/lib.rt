@@ -1,0 +1,35 @@
+// An amount a seller, allotted over its registrations: sixteen allotments side by side in four rows of the working table.
+ghost use mathlib.Core.Path.{_≡_};
+ghost use Prim.Native.Nat.{_+_, _≤_, _<_};
+ghost use lib.ListN.{length};
+ghost use Rattle.allotment.specs.Stepper.{Asks};
+ghost use Rattle.table.specs.Places.{size};
+ghost use Rattle.abreast.specs.Abreast.{stepper, Shared};
+use allotment::Allotment;
+use table::Work;
+
+// The rows: the sums of all weights, then the amounts, the weights passed and the last quotients.
+pub const AMOUNT: usize = 16;
+
+const PASSED: usize = 32;
+
+const QUOTIENT: usize = 48;
+
+// The share of seller s's next weight, in the rows from p on.
+pub fn share(work: &mut Work, p: usize, s: usize, weight: u64) -> u64
+    requires { ⌜ (length (now work) ≡ size) × (p + 64 ≤ size) × (s < 16) ⌝ }
+    requires { ⌜ Asks (stepper p (now work) s) weight ⌝ }
+    ensures { λ r. ⌜ Shared p s weight (now (work .entry)) (now (work .exit)) r ⌝ }
+{
+    let before = Allotment {
+        amount: work[p + (AMOUNT + s)],
+        total: work[p + s],
+        passed: work[p + (PASSED + s)],
+        quotient: work[p + (QUOTIENT + s)],
+    };
+    let share = before.share(weight);
+    let next = share.next;
+    table::put(work, p + (PASSED + s), next.passed);
+    table::put(work, p + (QUOTIENT + s), next.quotient);
+    share.value
+}

@@ -1,0 +1,77 @@
+-- Where the year stands in its cells: four marks and the terms, then tables, one row an element. The entries of all tests are one table by registration.
+use Prim.Native.Nat.{ℕ, _+_, _*_}
+use mathlib.Core.Path.{_≡_}
+use mathlib.Core.Bool.{Bool, not, _&&_, cond}
+use mathlib.Core.List.{List}
+use lib.Dec.{eqb}
+use lib.ListN.{length}
+use Rattle.ids.specs.Ids.{at, tabulate}
+use Rattle.year.specs.declared.Registration.{Registration}
+use Rattle.year.specs.declared.Listing.{Listing}
+use Rattle.year.specs.declared.Event.{Event}
+use Rattle.year.specs.declared.Test.{Test}
+use Rattle.year.specs.declared.Terms.{Terms}
+use Rattle.year.specs.declared.Amounts.{Amounts}
+use Rattle.year.specs.declared.Year.{Year}
+use Rattle.year.specs.Year.{zone, product}
+use Rattle.year.specs.Sound.{Sound}
+use Rattle.cells.specs.Rows.{from, rows}
+
+abbrev pub flag : ℕ → Bool
+flag x = not (eqb x 0)
+
+-- rows of 7, of 144 and of 147 cells
+abbrev pub registrationAt : (ℕ → ℕ) → Registration
+registrationAt g =
+    record { known = flag (g 0); seller = g 1; area = g 2; zone = g 3; product = g 4; committed = record { 0 = g 5 }; rate = g 6 }
+
+abbrev pub listingAt : (ℕ → ℕ) → Listing
+listingAt g =
+    record { listed = tabulate 64 (λ i. flag (g i)); reductions = tabulate 64 (λ i. g (64 + i)); deficits = tabulate 16 (λ j. g (128 + j)) }
+
+abbrev pub eventAt : (ℕ → ℕ) → Event
+eventAt g = record { area = g 0; month = g 1; period = g 2; listing = listingAt (λ k. g (3 + k)) }
+
+-- the terms
+unfoldable pub registrationsIn : List ℕ → List Registration
+registrationsIn c = rows registrationAt 7 64 7 c
+
+unfoldable pub obligationsIn : List ℕ → List ℕ
+obligationsIn c = tabulate 16 (from 455 c)
+
+abbrev pub termsIn : List ℕ → Terms
+termsIn c =
+    record { leap = at c 4; factor = at c 5; requirement = at c 6; registrations = registrationsIn c; obligations = obligationsIn c }
+
+unfoldable pub eventsIn : List ℕ → List Event
+eventsIn c = rows eventAt 147 16 471 c
+
+-- the place of registration i's test
+unfoldable pub placeIn : List ℕ → ℕ → ℕ
+placeIn c i = 3 * zone (termsIn c) i + product (termsIn c) i
+
+-- the test at place k: a row of 18 cells, and of the entries of all tests those whose registrations have this place
+module _ (place : ℕ → ℕ) (entries : ℕ → ℕ) (k : ℕ) where
+  abbrev pub entryAt : ℕ → Bool
+  entryAt i = flag (entries i) && eqb (place i) k
+
+  abbrev pub testAt : (ℕ → ℕ) → Test
+  testAt g =
+      record { taken = flag (g 0); month = g 1; listing = record { listed = tabulate 64 entryAt; reductions = tabulate 64 (λ i. cond (entryAt i) (entries (64 + i)) 0); deficits = tabulate 16 (λ j. g (2 + j)) } }
+
+unfoldable pub testsIn : List ℕ → List Test
+testsIn c = tabulate 24 (λ k. testAt (placeIn c) (from 3255 c) k (from (2823 + 18 * k) c))
+
+unfoldable pub billedIn : List ℕ → Amounts
+billedIn c =
+    record { compliance = tabulate 16 (from 3383 c); test = tabulate 16 (from 3399 c); credit = tabulate 16 (from 3415 c); lse = tabulate 16 (from 3431 c) }
+
+-- the year in the cells
+abbrev pub yearIn : List ℕ → Year
+yearIn c =
+    record { opened = flag (at c 3); started = flag (at c 1); closed = at c 0; terms = termsIn c; events = eventsIn c; held = at c 2; tests = testsIn c; billed = billedIn c }
+
+-- what is asked and kept of the cells: there are 3447, and their year is sound
+pub record Held (c : List ℕ) : Type 0 where
+  pub long : length c ≡ 3447
+  pub sound : Sound (yearIn c)

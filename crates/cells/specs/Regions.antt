@@ -1,0 +1,154 @@
+-- The parts of the year in its cells: each element of a table, what stays where the cells do, and the year where all cells are 0.
+use Prim.Native.Nat.{ℕ, _+_, _*_, _<_}
+use mathlib.Core.Path.{_≡_, refl, _∙_}
+use mathlib.Core.Bool.{Bool, false, _&&_, cond}
+use mathlib.Core.List.{List, [], _∷_}
+use native.Mathlib.Omega.{arith}
+use lib.Dec.{eqb, lit<, lit≤}
+use lib.ListN.{getD, replicate}
+use Rattle.ids.specs.Ids.{at, tabulate}
+use Rattle.ids.specs.Tables.{tabulate-same, getD-tabulate}
+use Rattle.year.specs.declared.Registration.{Registration}
+use Rattle.year.specs.declared.Event.{Event}
+use Rattle.year.specs.declared.Test.{Test}
+use Rattle.year.specs.Year.{newYear, noRegistration, noEvent, noTest, pastEvent, listed, zone, product}
+use Rattle.cells.specs.Rows.{Same, same-in, from, View, rows, numbers-kept, same-row, rows-kept, row-at, table-of}
+use Rattle.cells.specs.Layout.{flag, registrationAt, listingAt, eventAt, registrationsIn, obligationsIn, termsIn, eventsIn, placeIn, entryAt, testAt, testsIn, billedIn, yearIn}
+
+pub registration-view : View 7 registrationAt
+registration-view g h e =
+    cc (e 0 (lit< tt), e 1 (lit< tt), e 2 (lit< tt), e 3 (lit< tt), e 4 (lit< tt), e 5 (lit< tt), e 6 (lit< tt))
+
+pub listing-view : View 144 listingAt
+listing-view g h e =
+    cc (
+      tabulate-same 64 {f = λ i. flag (g i)} {g = λ i. flag (h i)} (λ i l. rw (e i (omega arith))),
+      tabulate-same 64 {f = λ i. g (64 + i)} {g = λ i. h (64 + i)} (λ i l. e (64 + i) (omega arith)),
+      tabulate-same 16 {f = λ i. g (128 + i)} {g = λ i. h (128 + i)} (λ i l. e (128 + i) (omega arith)),
+    )
+
+pub event-view : View 147 eventAt
+event-view g h e =
+    cc (e 0 (lit< tt), e 1 (lit< tt), e 2 (lit< tt), listing-view (λ k. g (3 + k)) (λ k. h (3 + k)) (λ k l. e (3 + k) (omega arith)))
+
+-- two tests at a place: their rows agree, and what each lists of the entries of all tests
+pub test-same : (k : ℕ) (p q g h x y : ℕ → ℕ) → ((j : ℕ) → j < 18 → x j ≡ y j)
+    → ((i : ℕ) → i < 64 → (entryAt p g k i ≡ entryAt q h k i) × (cond (entryAt p g k i) (g (64 + i)) 0 ≡ cond (entryAt q h k i) (h (64 + i)) 0))
+    → testAt p g k x ≡ testAt q h k y
+test-same k p q g h x y row entries =
+    cc (
+      row 0 (lit< tt),
+      row 1 (lit< tt),
+      tabulate-same 64 {f = entryAt p g k} {g = entryAt q h k} (λ i l. entries i l .0),
+      tabulate-same 64 {f = λ i. cond (entryAt p g k i) (g (64 + i)) 0} {g = λ i. cond (entryAt q h k i) (h (64 + i)) 0} (λ i l. entries i l .1),
+      tabulate-same 16 {f = λ j. x (2 + j)} {g = λ j. y (2 + j)} (λ j l. row (2 + j) (omega arith)),
+    )
+
+-- an element of a table
+module _ (c : List ℕ) where
+  pub registration-in : {i : ℕ} (d : Registration) → i < 64 → getD (registrationsIn c) i d ≡ registrationAt (from (7 + 7 * i) c)
+  unfolding registrationsIn
+  registration-in {i} d l = row-at registration-view 64 7 i c d l
+
+  pub obligation-in : {j : ℕ} → j < 16 → at (obligationsIn c) j ≡ at c (455 + j)
+  unfolding obligationsIn
+  obligation-in {j} l = getD-tabulate (from 455 c) 16 j 0 l
+
+  pub event-in : {e : ℕ} (d : Event) → e < 16 → getD (eventsIn c) e d ≡ eventAt (from (471 + 147 * e) c)
+  unfolding eventsIn
+  event-in {e} d l = row-at event-view 16 471 e c d l
+
+  pub listed-in : {e i : ℕ} → e < 16 → i < 64 → listed (getD (eventsIn c) e pastEvent .listing) i ≡ flag (at c (471 + 147 * e + (3 + i)))
+  unfolding listed
+  listed-in {e} {i} l m = rw (event-in pastEvent l) (getD-tabulate (λ k. flag (at c (471 + 147 * e + (3 + k)))) 64 i false m)
+
+  pub test-in : {k : ℕ} (d : Test) → k < 24 → getD (testsIn c) k d ≡ testAt (placeIn c) (from 3255 c) k (from (2823 + 18 * k) c)
+  unfolding testsIn
+  test-in {k} d l = getD-tabulate (λ k. testAt (placeIn c) (from 3255 c) k (from (2823 + 18 * k) c)) 24 k d l
+
+-- what stays
+pub places-kept : (c d : List ℕ) → registrationsIn d ≡ registrationsIn c → (i : ℕ) → placeIn d i ≡ placeIn c i
+unfolding placeIn zone product
+places-kept c d e i = rw e
+
+module _ {c d : List ℕ} where
+  pub registrations-kept : Same 7 448 c d → registrationsIn d ≡ registrationsIn c
+  unfolding registrationsIn
+  registrations-kept s = rows-kept registration-view 64 7 s
+
+  pub obligations-kept : Same 455 16 c d → obligationsIn d ≡ obligationsIn c
+  unfolding obligationsIn
+  obligations-kept s = numbers-kept 16 455 s
+
+  pub terms-kept : Same 4 467 c d → termsIn d ≡ termsIn c
+  terms-kept s =
+      cc (
+        s .cell 0 (lit< tt),
+        s .cell 1 (lit< tt),
+        s .cell 2 (lit< tt),
+        registrations-kept (same-in 7 448 (lit≤ tt) (lit≤ tt) s),
+        obligations-kept (same-in 455 16 (lit≤ tt) (lit≤ tt) s),
+      )
+
+  pub events-kept : Same 471 2352 c d → eventsIn d ≡ eventsIn c
+  unfolding eventsIn
+  events-kept s = rows-kept event-view 16 471 s
+
+  pub tests-kept : registrationsIn d ≡ registrationsIn c → Same 2823 560 c d → testsIn d ≡ testsIn c
+  unfolding testsIn
+  tests-kept e s =
+      tabulate-same 24
+      (λ k l. test-same k (placeIn d) (placeIn c) (from 3255 d) (from 3255 c) (from (2823 + 18 * k) d) (from (2823 + 18 * k) c)
+      (same-row 2823 18 24 k l (same-in 2823 432 (lit≤ tt) (lit≤ tt) s) .cell)
+      (λ i m. let kept = same-in 3255 128 (lit≤ tt) (lit≤ tt) s in
+      rw (places-kept c d e i, kept .cell i (omega arith), kept .cell (64 + i) (omega arith)) (refl, refl)))
+
+  pub billed-kept : Same 3383 64 c d → billedIn d ≡ billedIn c
+  unfolding billedIn
+  billed-kept s =
+      cc (
+        numbers-kept 16 3383 (same-in 3383 16 (lit≤ tt) (lit≤ tt) s),
+        numbers-kept 16 3399 (same-in 3399 16 (lit≤ tt) (lit≤ tt) s),
+        numbers-kept 16 3415 (same-in 3415 16 (lit≤ tt) (lit≤ tt) s),
+        numbers-kept 16 3431 (same-in 3431 16 (lit≤ tt) (lit≤ tt) s),
+      )
+
+-- where all cells are 0 there is a new year
+pub new-year : (c : List ℕ) → ((k : ℕ) → at c k ≡ 0) → yearIn c ≡ newYear
+unfolding registrationsIn obligationsIn eventsIn testsIn billedIn
+new-year c z =
+    cc (
+      z 0,
+      z 1,
+      z 2,
+      z 3,
+      z 4,
+      z 5,
+      z 6,
+      table-of {f = λ i. registrationAt (from (7 + 7 * i) c)} 64 (λ i l. registration-view (from (7 + 7 * i) c) (λ k. 0) (λ k l. z (7 + 7 * i + k))),
+      zeros 16 455,
+      table-of {f = λ i. eventAt (from (471 + 147 * i) c)} 16 (λ i l. event-view (from (471 + 147 * i) c) (λ k. 0) (λ k l. z (471 + 147 * i + k)) ∙ no-event),
+      table-of {f = λ k. testAt (placeIn c) (from 3255 c) k (from (2823 + 18 * k) c)} 24 (λ k l. no-test k),
+      zeros 16 3383,
+      zeros 16 3399,
+      zeros 16 3415,
+      zeros 16 3431,
+    )
+  where
+    zeros : (n q : ℕ) → tabulate n (from q c) ≡ replicate n 0
+    zeros n q = table-of {f = from q c} n (λ j l. z (q + j))
+
+    no-event : eventAt (λ k. 0) ≡ noEvent
+    no-event =
+        cc
+        (table-of {f = λ i. flag 0} 64 (λ i l. refl), table-of {A = ℕ} {f = λ i. 0} 64 (λ i l. refl), table-of {A = ℕ} {f = λ i. 0} 16 (λ i l. refl))
+
+    no-test : (k : ℕ) → testAt (placeIn c) (from 3255 c) k (from (2823 + 18 * k) c) ≡ noTest
+    no-test k =
+        cc (
+          z (2823 + 18 * k + 0),
+          z (2823 + 18 * k + 1),
+          table-of {f = entryAt (placeIn c) (from 3255 c) k} {x = false} 64 (λ i l. rw (z (3255 + i))),
+          table-of {A = ℕ} {f = λ i. cond (entryAt (placeIn c) (from 3255 c) k i) (from 3255 c (64 + i)) 0} {x = 0} 64 (λ i l. rw (z (3255 + i))),
+          table-of {f = λ j. from (2823 + 18 * k) c (2 + j)} 16 (λ j l. z (2823 + 18 * k + (2 + j))),
+        )

@@ -1,3 +1,0 @@
--- Laws that the proofs of the loops cite.
-pub mod Charging
-pub mod Crediting

@@ -1,0 +1,2 @@
+-- An event's charges entry by entry.
+pub mod Charging

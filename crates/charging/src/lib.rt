@@ -1,0 +1,129 @@
+// An event's charges, from what the working table has of its entries: no look at one.
+ghost use mathlib.Core.Bool.{cond};
+ghost use mathlib.Core.Path.{_≡_};
+ghost use Prim.Native.Nat.{_+_, _-_, _*_, _/_, _≤_, _<_, min, max};
+ghost use lib.Dec.{leb};
+ghost use lib.ListN.{length};
+ghost use Rattle.calendar.specs.Calendar.{due};
+ghost use Rattle.cells.specs.Layout.{Held};
+ghost use Rattle.ids.specs.Ids.{sumTo};
+ghost use Rattle.looks.specs.Looks.{facts};
+ghost use Rattle.owed.specs.Owed.{charge};
+ghost use Rattle.table.specs.Places.{size, takenRow};
+ghost use Rattle.table.specs.Rows.{Aside};
+ghost use Rattle.charging.specs.Charging.{lineAt, dailyOf, Given, Billed};
+use cells::Cells;
+use table::Work;
+use units::Nominated;
+use units::Unforced;
+
+// A listed registration in the table.
+pub struct Line {
+    pub seller: usize,
+    pub product: u64,
+    pub calls: u64,
+    pub rate: u64,
+    pub cap: u64,
+    pub taken: u64,
+    pub u: Unforced,
+    pub e: Nominated,
+}
+
+pub fn line_at(work: &Work, i: usize) -> Line
+    requires { ⌜ length (now work) ≡ size ⌝ }
+    requires { ⌜ i < 64 ⌝ }
+    ensures { λ r. ⌜ r ≡ lineAt (now (work .entry)) i ⌝ }
+{
+    let u = Unforced(work[table::U + i]);
+    let e = Nominated(work[table::E + i]);
+    Line {
+        seller: work[table::SELLER + i] as usize,
+        product: work[table::PRODUCT + i],
+        calls: work[table::CALLS + i],
+        rate: work[table::RATE + i],
+        cap: work[table::CAP + i],
+        taken: work[table::TAKEN + i],
+        u: u,
+        e: e,
+    }
+}
+
+// a less b, at least 0.
+fn less(a: u64, b: u64) -> u64
+    ensures { λ r. ⌜ r ≡ a - b ⌝ }
+{
+    if b < a { a - b } else { 0 }
+}
+
+pub fn lesser(a: u64, b: u64) -> u64
+    ensures { λ r. ⌜ r ≡ min a b ⌝ }
+{
+    if a < b { a } else { b }
+}
+
+// The daily charge before the cap, in thousandths of a cent; `peak` where the event is of period 1 or 3.
+fn before_cap(peak: bool, n: u64, u: Unforced, rate: u64) -> u64
+    requires { ⌜ u .0 ≤ 144000 ⌝ }
+    requires { ⌜ rate ≤ 100000 ⌝ }
+    ensures { λ r. ⌜ r ≡ u .0 * rate / cond peak (max n 2) 52 ⌝ }
+{
+    let all = u.0 * rate;
+    if peak {
+        if n < 2 { all / 2 } else { all / n }
+    } else {
+        all / 52
+    }
+}
+
+// The daily charge: the lesser of that and the cap's rest.
+fn daily_of(peak: bool, line: Line) -> u64
+    requires { ⌜ line .u .0 ≤ 144000 ⌝ }
+    requires { ⌜ line .rate ≤ 100000 ⌝ }
+    ensures { λ r. ⌜ r ≡ dailyOf peak line ⌝ }
+{
+    let u = line.u;
+    let asked = before_cap(peak, line.calls, u, line.rate);
+    let rest = less(line.cap, line.taken);
+    lesser(asked, rest)
+}
+
+// The charge to date in cents, once the due month is reached.
+fn cents(product: u64, month: u64, k: u64, days: u64, daily: u64) -> u64
+    requires { ⌜ month ≤ 12 ⌝ }
+    requires { ⌜ days ≤ 366 ⌝ }
+    requires { ⌜ daily ≤ 14400000000 ⌝ }
+    ensures { λ r. ⌜ r ≡ cond (leb (due product month) k) (daily * days / 1000) 0 ⌝ }
+{
+    let from = calendar::due_month(product, month);
+    if from <= k { daily * days / 1000 } else { 0 }
+}
+
+// Event ev's charges to date at month k, added to what is taken of the caps and to the sellers' compliance; their sum.
+pub fn charge(year: &Cells, work: &mut Work, ev: usize, k: u64) -> u64
+    requires { ⌜ Held (now year) ⌝ }
+    requires { ⌜ (ev < 16) × (1 ≤ k) × (k ≤ 15) ⌝ }
+    requires { ⌜ Given (facts (now year)) ev (now work) ⌝ }
+    requires { ⌜ Billed (facts (now year)) k ev (now work) ⌝ }
+    ensures billed { λ r. ⌜ Billed (facts (now (year .entry))) k (ev + 1) (now (work .exit)) ⌝ }
+    ensures charges { λ r. ⌜ r ≡ sumTo 64 (charge (facts (now (year .entry))) k ev) ⌝ }
+    ensures aside { λ r. ⌜ Aside takenRow 80 (now (work .entry)) (now (work .exit)) ⌝ }
+{
+    let peak = looks::one_or_three(year, ev);
+    let month = looks::month_of(year, ev);
+    let days = looks::days_to(year, k);
+    let mut all: u64 = 0;
+    let mut i: usize = 0;
+    while i < 64 {
+        if work[table::LISTED + i] != 0 {
+            let line = line_at(work, i);
+            let s = line.seller;
+            let daily = daily_of(peak, line);
+            let due = cents(line.product, month, k, days, daily);
+            table::add_at(work, table::TAKEN + i, daily);
+            table::add_at(work, table::COMPLIANCE + s, due);
+            all = all + due;
+        }
+        i += 1;
+    }
+    all
+}

@@ -1,0 +1,2 @@
+-- An event's credits entry by entry.
+pub mod Crediting

@@ -1,0 +1,70 @@
+// An event's excess credits, from the shares e that the working table keeps of its entries: no look at one.
+ghost use mathlib.Core.Path.{_≡_};
+ghost use Prim.Native.Nat.{_+_, _*_, _/_, _≤_, _<_};
+ghost use lib.ListN.{length};
+ghost use Rattle.cells.specs.Layout.{Held};
+ghost use Rattle.charging.specs.Charging.{Given};
+ghost use Rattle.ids.specs.Ids.{at, sumTo};
+ghost use Rattle.looks.specs.Looks.{facts};
+ghost use Rattle.owed.specs.Owed.{charge};
+ghost use Rattle.table.specs.Places.{size, creditRow, eRow};
+ghost use Rattle.table.specs.Rows.{Aside, Row};
+ghost use Rattle.crediting.specs.Crediting.{Small, creditBy};
+use allotment::Allotment;
+use cells::Cells;
+use table::Work;
+use units::Nominated;
+
+// The sum of all e.
+fn excesses(work: &Work) -> u64
+    requires { ⌜ length (now work) ≡ size ⌝ }
+    requires { ⌜ Small (now work) ⌝ }
+    ensures { λ r. ⌜ r ≡ sumTo 64 (λ i. at (now (work .entry)) (eRow + i)) ⌝ }
+{
+    let mut sum: u64 = 0;
+    let mut i: usize = 0;
+    while i < 64 {
+        sum = sum + work[table::E + i];
+        i += 1;
+    }
+    sum
+}
+
+// The most that e kilowatts are credited, the bracket rounded first.
+fn limit(e: Nominated, rate: u64, days: u64) -> u64
+    requires { ⌜ e .0 ≤ 100000 ⌝ }
+    requires { ⌜ rate ≤ 100000 ⌝ }
+    requires { ⌜ days ≤ 366 ⌝ }
+    ensures { λ r. ⌜ r ≡ e .0 * rate / 5 * days / 1000 ⌝ }
+{
+    e.0 * rate / 5 * days / 1000
+}
+
+// Event ev's charges to date at month k, allotted over its entries by e: each seller's credits with those of its entries.
+pub fn credit(year: &Cells, work: &mut Work, ev: usize, k: u64, charges: u64)
+    requires { ⌜ Held (now year) ⌝ }
+    requires { ⌜ (ev < 16) × (1 ≤ k) × (k ≤ 15) ⌝ }
+    requires { ⌜ Given (facts (now year)) ev (now work) ⌝ }
+    requires { ⌜ Row (now work) creditRow 16 (creditBy (facts (now year)) k ev) ⌝ }
+    requires { ⌜ charges ≡ sumTo 64 (charge (facts (now year)) k ev) ⌝ }
+    ensures credited { λ _. ⌜ Row (now (work .exit)) creditRow 16 (creditBy (facts (now (year .entry))) k (ev + 1)) ⌝ }
+    ensures aside { λ _. ⌜ Aside creditRow 16 (now (work .entry)) (now (work .exit)) ⌝ }
+{
+    let days = looks::days_to(year, k);
+    let total = excesses(work);
+    let mut allotment = Allotment::new(charges, total);
+    let mut i: usize = 0;
+    while i < 64 {
+        if work[table::LISTED + i] != 0 {
+            let line = charging::line_at(work, i);
+            let s = line.seller;
+            let e = line.e;
+            let share = allotment.share(e.0);
+            let most = limit(e, line.rate, days);
+            let credit = charging::lesser(share.value, most);
+            table::add_at(work, table::CREDIT + s, credit);
+            allotment = share.next;
+        }
+        i += 1;
+    }
+}

@@ -1,0 +1,69 @@
+-- `head_of` meets its contract, by kind.
+use borrow.Author.Needs.{needs}
+use borrow.Author.Tests.{ne-eqb}
+use Rattle.heads.specs.Record.{headOf}
+use Rattle.heads.proofs.head_of.Statement.{statement}
+use Rattle.heads.proofs.head_of.Tie as tie
+
+returns : tie.Need-returns
+unfolding headOf
+returns c = rw (c .before .before .before .if1 .taken)
+
+returns-2 : tie.Need-returns-2
+unfolding headOf
+returns-2 c = rw (c .before .before .before .before .before .before .before .if2 .taken)
+
+returns-3 : tie.Need-returns-3
+unfolding headOf
+returns-3 c = rw (c .before .before .if3 .taken)
+
+returns-4 : tie.Need-returns-4
+unfolding headOf
+returns-4 c = rw (c .before .before .before .if4 .taken)
+
+returns-5 : tie.Need-returns-5
+unfolding headOf
+returns-5 c = rw (c .before .before .before .if5 .taken)
+
+returns-6 : tie.Need-returns-6
+unfolding headOf
+returns-6 c =
+    let other = c .before in
+    rw (
+      ne-eqb _ 1 (other .before .before .before .before .if1 .left),
+      ne-eqb _ 2 (other .before .before .before .if2 .left),
+      ne-eqb _ 3 (other .before .before .if3 .left),
+      ne-eqb _ 4 (other .before .if4 .left),
+      ne-eqb _ 5 (other .if5 .left),
+    )
+
+pub head-of-spec : {M : Type 1} → statement M
+head-of-spec =
+    tie.close
+    (tie.spec
+    (λ c. search needs)
+    (λ c. search needs)
+    (λ c. search needs)
+    (λ c. search needs)
+    returns
+    (λ c. search needs)
+    (λ c. search needs)
+    (λ c. search needs)
+    (λ c. search needs)
+    (λ c. search needs)
+    (λ c. search needs)
+    (λ c. search needs)
+    returns-2
+    (λ c. search needs)
+    (λ c. search needs)
+    returns-3
+    (λ c. search needs)
+    (λ c. search needs)
+    (λ c. search needs)
+    returns-4
+    (λ c. search needs)
+    (λ c. search needs)
+    (λ c. search needs)
+    returns-5
+    (λ c. search needs)
+    returns-6)

@@ -1,0 +1,33 @@
+-- What question 3 says of a head: its fields within their limits, as far as the year and the code rest on them.
+use Prim.Native.Nat.{_≤_, _<_}
+use Rattle.year.specs.Sound.{Factors}
+use Rattle.heads.specs.declared.RegistrationHead.{RegistrationHead}
+use Rattle.heads.specs.declared.LseHead.{LseHead}
+use Rattle.heads.specs.declared.TestHead.{TestHead}
+use Rattle.heads.specs.declared.Head.{Head}
+use Rattle.heads.specs.declared.Head.the-variants.{Opening, Registration, Lse, Event, Test, Close}
+
+pub record RegistrationWithin (r : RegistrationHead) : Type 0 where
+  pub id : r .id < 64
+  pub seller : r .seller < 16
+  pub area : r .area < 8
+  pub zone : r .zone < 8
+  pub product : r .product < 3
+  pub committed : r .committed ≤ 100000
+  pub rate : r .rate ≤ 100000
+
+pub record LseWithin (j : LseHead) : Type 0 where
+  pub id : j .id < 16
+  pub obligation : j .obligation ≤ 1000000
+
+pub record TestWithin (t : TestHead) : Type 0 where
+  pub zone : t .zone < 8
+  pub product : t .product < 3
+
+unfoldable pub Within : Head → Type 0
+Within (Opening o) = Factors (o .leap) (o .factor) (o .requirement)
+Within (Registration r) = RegistrationWithin r
+Within (Lse j) = LseWithin j
+Within (Event e) = e .month ≤ 12
+Within (Test t) = TestWithin t
+Within (Close c) = c .month ≤ 15

@@ -1,0 +1,29 @@
+-- The match has the first part of each kind.
+use mathlib.Core.Path.{_≡_}
+use borrow.Author.Needs.{needs}
+use native.Mathlib.Omega.{arith}
+use Rattle.layouts.specs.Parts.{startOf, kinds}
+use Rattle.layouts.specs.PartLaws.{none-below}
+use Rattle.layouts.proofs.first_of.Statement.{statement}
+use Rattle.layouts.proofs.first_of.Tie as tie
+
+-- past the last kind
+returns-8 : tie.Need-returns-8
+unfolding startOf kinds
+returns-8 c =
+    let last : c .before .args .kind ≡ 7 = omega (arith, none-below 7 (c .before .args .kind) (c .match .rest), c .before .pre) in
+    rw last
+
+pub first-of-spec : {M : Type 1} → statement M
+unfolding startOf kinds
+first-of-spec =
+    tie.close
+    (tie.spec
+    (λ c. search needs)
+    (λ c. search needs)
+    (λ c. search needs)
+    (λ c. search needs)
+    (λ c. search needs)
+    (λ c. search needs)
+    (λ c. search needs)
+    returns-8)

@@ -1,0 +1,98 @@
+-- The code's tables, as the layouts say them: the fields of every part of every kind one after another, a part being a head or an item of a list.
+use Prim.Native.Nat.{ℕ, zero, suc, _+_, _-_, _*_, _≤_, _<_}
+use mathlib.Core.Bool.{Bool, _&&_}
+use mathlib.Core.List.{List, [], _∷_, _++_, map}
+use mathlib.Core.Path.{_≡_}
+use lib.Dec.{leb}
+use lib.ListN.{length, getD, take, drop}
+use Rattle.ids.specs.Ids.{at, allTo}
+use Rattle.bits.specs.Table.{total}
+use Rattle.layouts.specs.declared.Part.{Part}
+use Rattle.layouts.specs.declared.shapes.Shape.{Shape}
+use Rattle.layouts.specs.declared.shapes.ItemList.{ItemList}
+use Rattle.layouts.specs.Layout.{Rule, Items, noItems, Layout, layouts, layoutOf, head, listAt, itemsIn, rulesFor, widths, longestRecord}
+
+-- lists one after another, and where list k starts among them
+unfoldable pub join : {A : Type 0} → List (List A) → List A
+join [] = []
+join (h ∷ hs) = h ++ join hs
+
+unfoldable pub startOf : {A : Type 0} → List (List A) → ℕ → ℕ
+startOf [] k = 0
+startOf (h ∷ hs) zero = 0
+startOf (h ∷ hs) (suc k) = length h + startOf hs k
+
+-- the parts of a kind: its head, which has no count, and its lists
+abbrev pub partsIn : Layout → List Items
+partsIn l = record { count = 0; fields = l .head; reductions = [] } ∷ l .lists
+
+abbrev pub partAt : ℕ → ℕ → Items
+partAt k i = getD (partsIn (layoutOf k)) i noItems
+
+-- of all kinds: their parts, and the fields of these
+unfoldable pub kinds : List (List Items)
+kinds = map partsIn layouts
+
+unfoldable pub parts : List Items
+parts = join kinds
+
+unfoldable pub fieldsIn : List Items → List (List Rule)
+fieldsIn xs = map (λ x. x .fields) xs
+
+unfoldable pub rules : List Rule
+rules = join (fieldsIn parts)
+
+abbrev pub lows : List Rule → List ℕ
+lows rs = map (λ r. r .low) rs
+
+abbrev pub highs : List Rule → List ℕ
+highs rs = map (λ r. r .high) rs
+
+-- a part with these numbers, and part h: where its fields start and end, the bits that they take, and the place of its count
+abbrev pub rowOf : ℕ → ℕ → ℕ → ℕ → Part
+rowOf s e b c = record { start = s; end = e; bits = b; count = c }
+
+abbrev pub rowAt : ℕ → Part
+rowAt h =
+    rowOf (startOf (fieldsIn parts) h) (startOf (fieldsIn parts) (h + 1)) (total (widths (getD parts h noItems .fields))) (getD parts h noItems .count)
+
+-- p is where the tables have part i of kind k
+pub record Placed (k i : ℕ) (p : Part) : Type 0 where
+  pub fields : (f : Rule → ℕ) → take (p .end - p .start) (drop (p .start) (map f rules)) ≡ map f (partAt k i .fields)
+  pub long : p .end ≡ p .start + length (partAt k i .fields)
+  pub within : p .end ≤ length rules
+  pub bits : p .bits ≡ total (widths (partAt k i .fields))
+  pub count : p .count ≡ partAt k i .count
+
+-- numbers that state a record of kind k which is no longer than the longest
+pub record Stated (k : ℕ) (vs : List ℕ) : Type 0 where
+  pub kind : k < length layouts
+  pub head : length (head k) ≤ length vs
+  pub bits : total (widths (rulesFor k vs)) ≤ 8 * longestRecord
+
+-- l is list i of the record that the numbers state, and the tables have the fields of its items there
+pub record Listed (k : ℕ) (vs : List ℕ) (i : ℕ) (l : ItemList) : Type 0 where
+  pub fields : (f : Rule → ℕ) → take (l .end - l .start) (drop (l .start) (map f rules)) ≡ map f (listAt k i .fields)
+  pub long : l .end ≡ l .start + length (listAt k i .fields)
+  pub within : l .end ≤ length rules
+  pub bits : l .bits ≡ total (widths (listAt k i .fields))
+  pub items : l .items ≡ itemsIn k vs i
+  pub numbers : l .numbers ≡ itemsIn k vs i * length (listAt k i .fields)
+
+-- how many fields and bits there are
+pub record Shaped (rs : List Rule) (s : Shape) : Type 0 where
+  pub count : s .count ≡ length rs
+  pub bits : s .bits ≡ total (widths rs)
+
+-- question 3 over a table of lowest values and one of highest: of numbers, of n numbers that stand w apart from place p on, and of n items in a row, field by field
+abbrev pub between : ℕ → ℕ → ℕ → Bool
+between l h v = leb l v && leb v h
+
+unfoldable pub within : List ℕ → List ℕ → List ℕ → Bool
+within ls hs vs = allTo (length ls) (λ j. between (at ls j) (at hs j) (at vs j))
+
+unfoldable pub columnWithin : ℕ → ℕ → List ℕ → ℕ → ℕ → ℕ → Bool
+columnWithin l h vs p w n = allTo n (λ k. between l h (at vs (p + k * w)))
+
+unfoldable pub itemsWithin : List ℕ → List ℕ → List ℕ → ℕ → ℕ → Bool
+itemsWithin ls hs vs p n = allTo (length ls) (λ j. columnWithin (at ls j) (at hs j) vs (p + j) (length ls) n)

@@ -1,0 +1,88 @@
+// What the closing reads of the year: of an event its entries, one look at a time, month, period and deficits; the factors.
+ghost use mathlib.Core.Path.{_≡_};
+ghost use Prim.Native.Nat.{_≤_, _<_};
+ghost use Rattle.cells.specs.Layout.{Held};
+ghost use Rattle.owed.specs.Owed.{oneOrThree, D, unforced};
+ghost use Rattle.looks.specs.Looks.{facts, lookAt};
+use cells::Cells;
+use units::Nominated;
+use units::Unforced;
+
+pub struct Entry {
+    pub listed: bool,
+    pub reduction: Nominated,
+}
+
+// Where the opening's numbers stand, and an event's in its row (cells/specs/Layout.antt).
+const LEAP: usize = 4;
+
+const FACTOR: usize = 5;
+
+const REQUIREMENT: usize = 6;
+
+const MONTH: usize = 1;
+
+const PERIOD: usize = 2;
+
+const REDUCTIONS: usize = 67;
+
+const DEFICITS: usize = 131;
+
+// One look at an entry: nothing else reads one.
+pub fn look(year: &Cells, ev: usize, i: usize) -> Entry
+    requires { ⌜ ev < 16 ⌝ }
+    requires { ⌜ i < 64 ⌝ }
+    ensures { λ r. ⌜ r ≡ lookAt (facts (now (year .entry))) ev i ⌝ }
+{
+    let listed = cells::listed_in(year, ev, i);
+    let p = cells::EVENTS + cells::EVENT * ev;
+    let reduction = Nominated(year[p + (REDUCTIONS + i)]);
+    Entry { listed, reduction }
+}
+
+pub fn month_of(year: &Cells, ev: usize) -> u64
+    requires { ⌜ ev < 16 ⌝ }
+    ensures { λ r. ⌜ r ≡ facts (now (year .entry)) .month ev ⌝ }
+{
+    let p = cells::EVENTS + cells::EVENT * ev;
+    year[p + MONTH]
+}
+
+// Is an event of period 1 or 3?
+pub fn one_or_three(year: &Cells, ev: usize) -> bool
+    requires { ⌜ ev < 16 ⌝ }
+    ensures { λ r. ⌜ r ≡ oneOrThree (facts (now (year .entry)) .period ev) ⌝ }
+{
+    let p = cells::EVENTS + cells::EVENT * ev;
+    let period = year[p + PERIOD];
+    period == 1 || period == 3
+}
+
+// A seller's deficit in an event, 0 where it is absent.
+pub fn deficit_of(year: &Cells, ev: usize, s: usize) -> Unforced
+    requires { ⌜ ev < 16 ⌝ }
+    requires { ⌜ s < 16 ⌝ }
+    ensures { λ r. ⌜ r .0 ≡ facts (now (year .entry)) .deficit ev s ⌝ }
+{
+    let p = cells::EVENTS + cells::EVENT * ev;
+    Unforced(year[p + (DEFICITS + s)])
+}
+
+// Converted by the year's factors: a registration's kilowatts, or a seller's sum.
+pub fn unforced(year: &Cells, kw: Nominated) -> Unforced
+    requires { ⌜ Held (now year) ⌝ }
+    requires { ⌜ kw .0 ≤ 6400000 ⌝ }
+    ensures { λ r. ⌜ r .0 ≡ unforced (facts (now (year .entry))) (kw .0) ⌝ }
+{
+    kw.unforced(year[FACTOR], year[REQUIREMENT])
+}
+
+// Days from 1 June to the end of a month.
+pub fn days_to(year: &Cells, k: u64) -> u64
+    requires { ⌜ Held (now year) ⌝ }
+    requires { ⌜ 1 ≤ k ⌝ }
+    requires { ⌜ k ≤ 15 ⌝ }
+    ensures { λ r. ⌜ r ≡ D (facts (now (year .entry))) k ⌝ }
+{
+    calendar::days(year[LEAP], k)
+}

@@ -1,0 +1,2 @@
+-- What the LSEs are credited, from the working table's rows.
+pub mod Lses

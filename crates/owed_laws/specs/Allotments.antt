@@ -1,0 +1,39 @@
+-- The allotment's facts, cited for each allotment of the rules: a seller's shortfall (u) and excess (e), an event's charges (credits), and what the LSEs are credited.
+use Prim.Native.Nat.{ℕ, _-_}
+use mathlib.Core.Bool.{Bool, true, false}
+use mathlib.Core.Path.{_≡_, refl, sym, fun-ext}
+use lib.Dec.{eqb}
+use borrow.Author.Tests.{eqb-true}
+use Rattle.ids.specs.Ids.{sumTo, keyed}
+use Rattle.allotment.specs.Allot.{Allotted, allotted, share, share-zero}
+use Rattle.owed.specs.Facts.{Facts, registrations, lses}
+use Rattle.owed.specs.Owed.{shareOf, shortfall, lack, more, u, charge, excess, e, creditShare, charges, credits, lse}
+
+module _ (F : Facts) where
+  -- registrations' shares of their sellers' amounts are, seller by seller, an allotment over the seller's registrations
+  shares-of : (weight amount : ℕ → ℕ) (s : ℕ)
+      → Allotted registrations (keyed (F .seller) weight s) (amount s) (keyed (F .seller) (shareOf F weight amount) s)
+  unfolding shareOf
+  shares-of weight amount s =
+      rw (fun-ext (λ i. go i (eqb (F .seller i) s) refl)) (allotted registrations (keyed (F .seller) weight s) (amount s))
+    where
+      go : (i : ℕ) (b : Bool) → eqb (F .seller i) s ≡ b
+          → keyed (F .seller) (shareOf F weight amount) s i ≡ share registrations (keyed (F .seller) weight s) (amount s) i
+      go i true q = rw (q, eqb-true (F .seller i) s q)
+      go i false q = rw q (sym (share-zero registrations (keyed (F .seller) weight s) (amount s) i (rw q)))
+
+  pub u-allotted : (ev s : ℕ) → Allotted registrations (keyed (F .seller) (lack F ev) s) (shortfall F ev s) (keyed (F .seller) (u F ev) s)
+  unfolding u
+  u-allotted ev s = shares-of (lack F ev) (shortfall F ev) s
+
+  pub e-allotted : (ev s : ℕ) → Allotted registrations (keyed (F .seller) (more F ev) s) (excess F ev s) (keyed (F .seller) (e F ev) s)
+  unfolding e
+  e-allotted ev s = shares-of (more F ev) (excess F ev) s
+
+  pub credit-allotted : (k ev : ℕ) → Allotted registrations (e F ev) (sumTo registrations (charge F k ev)) (creditShare F k ev)
+  unfolding creditShare
+  credit-allotted k ev = allotted registrations (e F ev) _
+
+  pub lse-allotted : (k : ℕ) → Allotted lses (F .obligation) (charges F k - credits F k) (lse F k)
+  unfolding lse
+  lse-allotted k = allotted lses (F .obligation) _

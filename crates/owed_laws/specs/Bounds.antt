@@ -1,0 +1,153 @@
+-- Bounds of what the rules compute for one entry, one registration, one seller or one event, where the facts are within their limits.
+use Prim.Native.Nat.{ℕ, _*_, _-_, _/_, _≤_, _<_, _^_}
+use mathlib.Core.Bool.{Bool, true, false, cond}
+use mathlib.Core.Path.{refl}
+use native.Mathlib.Omega.{arith}
+use native.Mathlib.Nat.{mul-le-mul, mul-le-mul-left, div-le-of-le-mul, div-mul-le-self, le-trans, le-refl}
+use lib.Dec.{eqb, leb}
+use borrow.Author.Tests.{eq-eqb}
+use Rattle.ids.specs.Ids.{sumTo, only, keyed}
+use Rattle.ids.specs.Sums.{sum-mul, sum-le, sum-bound}
+use Rattle.ids.specs.Tests.{cond-le}
+use Rattle.units.specs.Units.{convert-scaled}
+use Rattle.calendar.specs.Calendar.{due, days-le}
+use Rattle.allotment.specs.Allot.{share-most}
+use Rattle.owed.specs.Facts.{Facts, registrations}
+use Rattle.owed.specs.Owed.{raised, D, unforced, ofSeller, shareOf, shortfallOver, shortfall, lack, more, u, cap, daily, taken, charge, excess, e, creditLimit, creditOf, stands, testShortfall, B, testOf}
+use Rattle.owed_laws.specs.Limits.{Limits}
+use Rattle.owed_laws.specs.Sellers.{ofSeller-le, net-is, excess-is}
+use Rattle.owed_laws.specs.Allotments.{e-allotted}
+
+module _ {F : Facts} (L : Limits F) where
+  pub D-le : (k : ℕ) → D F k ≤ 366
+  D-le k = days-le k (L .leap)
+
+  -- converted: at most 1.44 for 1, and so one registration's
+  pub unforced-scaled : (a : ℕ) → unforced F a * 100 ≤ a * 144
+  unfolding unforced
+  unforced-scaled a = convert-scaled a (L .factor) (L .requirement)
+
+  pub unforced-one : {a : ℕ} → a ≤ 100000 → unforced F a ≤ 144000
+  unforced-one {a} h = omega (arith, unforced-scaled a)
+
+  -- an entry's weights
+  pub lack-le : (ev i : ℕ) → lack F ev i ≤ 100000
+  lack-le ev i = cond-le (F .listed ev i) (omega (arith, L .committed i))
+
+  pub more-le : (ev i : ℕ) → more F ev i ≤ 100000
+  more-le ev i = cond-le (F .listed ev i) (omega (arith, L .reduction ev i))
+
+  -- a seller's: what is committed, the shortfall, the excess
+  pub committed-le : (p : ℕ → Bool) (s : ℕ) → ofSeller F s (only p (F .committed)) ≤ 6400000
+  committed-le p s = ofSeller-le F s 100000 (λ i. cond-le (p i) (L .committed i))
+
+  shortfall-scaled : (p : ℕ → Bool) (v d : ℕ → ℕ) (s : ℕ)
+      → shortfallOver F p v d s * 100 ≤ (ofSeller F s (only p (F .committed)) - ofSeller F s (only p v)) * 144
+  unfolding shortfallOver
+  shortfall-scaled p v d s =
+      omega (arith, unforced-scaled (ofSeller F s (only p (F .committed)) - ofSeller F s (only p v)))
+
+  pub shortfall-le : (p : ℕ → Bool) (v d : ℕ → ℕ) (s : ℕ) → shortfallOver F p v d s ≤ 9216000
+  shortfall-le p v d s = omega (arith, shortfall-scaled p v d s, committed-le p s)
+
+  pub excess-le : (ev s : ℕ) → excess F ev s ≤ ofSeller F s (more F ev)
+  excess-le ev s = omega (arith, excess-is F s ev)
+
+  -- an entry's shares: at most one registration's kilowatts
+  shortfall-lack : (ev s : ℕ) → shortfall F ev s * 100000 ≤ 144000 * ofSeller F s (lack F ev)
+  shortfall-lack ev s =
+      omega (arith, net-is F s ev, shortfall-scaled (F .listed ev) (F .reduction ev) (F .deficit ev) s)
+
+  pub u-le : (ev i : ℕ) → u F ev i ≤ 144000
+  unfolding u shareOf ofSeller
+  u-le ev i =
+      let s = F .seller i in
+      share-most registrations (keyed (F .seller) (lack F ev) s) (shortfall F ev s) i 144000
+      (le-trans (mul-le-mul-left (shortfall F ev s) (cond-le (eqb s s) (lack-le ev i))) (shortfall-lack ev s))
+
+  e-more : (ev i : ℕ) → e F ev i ≤ more F ev i
+  unfolding ofSeller
+  e-more ev i =
+      let s = F .seller i in
+      rw (eq-eqb s s refl) at (e-allotted F ev s .most (excess-le ev s) i)
+
+  pub e-le : (ev i : ℕ) → e F ev i ≤ 100000
+  e-le ev i = le-trans (e-more ev i) (more-le ev i)
+
+  -- a registration's cap, and what is taken of it
+  pub cap-le : (i : ℕ) → cap F i ≤ 14400000000
+  unfolding cap
+  cap-le i = mul-le-mul (unforced-one (L .committed i)) (L .rate i)
+
+  pub daily-le : (ev x i : ℕ) → daily F ev x i ≤ 14400000000
+  unfolding daily
+  daily-le ev x i = cond-le (F .listed ev i) (omega (arith, cap-le i))
+
+  pub daily-days : (k ev x i : ℕ) → daily F ev x i * D F k ≤ 5270400000000
+  daily-days k ev x i = mul-le-mul (daily-le ev x i) (D-le k)
+
+  pub charge-le : (k ev i : ℕ) → charge F k ev i ≤ 5270400000
+  unfolding charge
+  charge-le k ev i = cond-le (leb (due (F .product i) (F .month ev)) k) (omega (arith, daily-days k ev (taken F ev i) i))
+
+  -- all charges of an event, and what is allotted of them
+  pub charged-le : (k ev : ℕ) → sumTo registrations (charge F k ev) ≤ 337305600000
+  charged-le k ev = sum-bound registrations 5270400000 (charge F k ev) (λ i l. charge-le k ev i)
+
+  pub e-sum : (ev : ℕ) → sumTo registrations (e F ev) ≤ 6400000
+  e-sum ev = sum-bound registrations 100000 (e F ev) (λ i l. e-le ev i)
+
+  pub charged-fits : (k ev : ℕ) → sumTo registrations (charge F k ev) * sumTo registrations (e F ev) < 2 ^ 63
+  charged-fits k ev = omega (arith, mul-le-mul (charged-le k ev) (e-sum ev))
+
+  -- a credit's limit
+  pub limit-le : (k ev i : ℕ) → creditLimit F k ev i ≤ 732000000
+  unfolding creditLimit
+  limit-le k ev i =
+      let h : e F ev i * F .rate i / 5 ≤ 2000000000 = omega (arith, mul-le-mul (e-le ev i) (L .rate i)) in
+      omega (arith, mul-le-mul h (D-le k))
+
+  pub credit-le : (k ev i : ℕ) → creditOf F k ev i ≤ 732000000
+  unfolding creditOf
+  credit-le k ev i = omega (arith, limit-le k ev i)
+
+  -- a test's base, at most the highest rate, its rate, and its charge
+  pub worth-le : (p : ℕ → Bool) (s : ℕ)
+      → ofSeller F s (only p (λ i. F .committed i * F .rate i)) ≤ ofSeller F s (only p (F .committed)) * 100000
+  unfolding ofSeller
+  worth-le p s =
+      let c : ℕ → ℕ = keyed (F .seller) (only p (F .committed)) s in
+      let w : ℕ → ℕ = keyed (F .seller) (only p (λ i. F .committed i * F .rate i)) s in
+      omega (
+        arith,
+        sum-mul registrations c 100000,
+        sum-le registrations {f = w} {g = λ i. c i * 100000} (λ i l. go (eqb (F .seller i) s) (p i) (F .committed i) (L .rate i)),
+      )
+    where
+      go : (k b : Bool) (c : ℕ) {q : ℕ} → q ≤ 100000 → cond k (cond b (c * q) 0) 0 ≤ cond k (cond b c 0) 0 * 100000
+      go false b c h = omega arith
+      go true false c h = omega arith
+      go true true c h = mul-le-mul-left c h
+
+  pub B-le : (p s : ℕ) → B F p s ≤ 100000
+  unfolding B
+  B-le p s = div-le-of-le-mul (ofSeller F s (only (stands F p) (F .committed))) (worth-le (stands F p) s)
+
+  pub raised-le : (p s : ℕ) → raised (B F p s) ≤ 120000
+  unfolding raised
+  raised-le p s = omega (arith, B-le p s)
+
+  -- by what is committed in it
+  pub test-scaled : (k p s : ℕ) → testOf F k p s * 100000 ≤ ofSeller F s (only (stands F p) (F .committed)) * 6324480000
+  unfolding testOf
+  test-scaled k p s =
+      let a = testShortfall F p s in
+      omega (
+        arith,
+        div-mul-le-self (a * raised (B F p s) * D F k) 1000,
+        mul-le-mul (mul-le-mul (le-refl a) (raised-le p s)) (D-le k),
+        shortfall-scaled (stands F p) (F .testReduction p) (F .testDeficit p) s,
+      )
+
+  pub test-le : (k p s : ℕ) → testOf F k p s ≤ 404766720000
+  test-le k p s = omega (arith, test-scaled k p s, committed-le (stands F p) s)

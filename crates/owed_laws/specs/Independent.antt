@@ -1,0 +1,134 @@
+-- Independence: facts that agree in what is seller r's give it the same compliance and test charges, whatever other sellers' registrations reduce.
+use Prim.Native.Nat.{ℕ, zero, suc, _*_, _≤_, _<_}
+use mathlib.Core.Bool.{Bool, true, false, cond}
+use mathlib.Core.Path.{_≡_, refl, ap, fun-ext, _∙_}
+use native.Mathlib.Omega.{arith}
+use lib.Dec.{eqb}
+use borrow.Author.Tests.{eqb-true}
+use Rattle.ids.specs.Ids.{sumTo, anyTo, only, keyed}
+use Rattle.ids.specs.Sums.{sum-same}
+use Rattle.ids.specs.Tests.{any-same}
+use Rattle.owed.specs.Facts.{Facts, registrations, places}
+use Rattle.owed.specs.Owed.{unforced, ofSeller, shareOf, called, calls, shortfallOver, shortfall, lack, u, cap, daily, taken, charge, stands, B, testOf, compliance, test}
+
+-- two facts that agree in what is seller r's, along the accepted events and at every test
+pub record Same (r : ℕ) (F G : Facts) : Type 0 where
+  pub leap : F .leap ≡ G .leap
+  pub factor : F .factor ≡ G .factor
+  pub requirement : F .requirement ≡ G .requirement
+  pub seller : (i : ℕ) → F .seller i ≡ G .seller i
+  pub events : F .events ≡ G .events
+  pub month : (ev : ℕ) → ev < F .events → F .month ev ≡ G .month ev
+  pub period : (ev : ℕ) → ev < F .events → F .period ev ≡ G .period ev
+  pub deficit : (ev : ℕ) → ev < F .events → F .deficit ev r ≡ G .deficit ev r
+  pub testDeficit : (p : ℕ) → F .testDeficit p r ≡ G .testDeficit p r
+  -- of its registrations
+  pub product : (i : ℕ) → F .seller i ≡ r → F .product i ≡ G .product i
+  pub committed : (i : ℕ) → F .seller i ≡ r → F .committed i ≡ G .committed i
+  pub rate : (i : ℕ) → F .seller i ≡ r → F .rate i ≡ G .rate i
+  pub listed : (ev : ℕ) → ev < F .events → (i : ℕ) → F .seller i ≡ r → F .listed ev i ≡ G .listed ev i
+  pub reduction : (ev : ℕ) → ev < F .events → (i : ℕ) → F .seller i ≡ r → F .reduction ev i ≡ G .reduction ev i
+  pub tested : (p i : ℕ) → F .seller i ≡ r → F .tested p i ≡ G .tested p i
+  pub testReduction : (p i : ℕ) → F .seller i ≡ r → F .testReduction p i ≡ G .testReduction p i
+
+module _ {r : ℕ} {F G : Facts} (h : Same r F G) where
+  -- equal at seller r's registrations
+  abbrev Alike : {A : Type 0} → (ℕ → A) → (ℕ → A) → Type 0
+  Alike f g = (i : ℕ) → F .seller i ≡ r → f i ≡ g i
+
+  same-keyed : {f g : ℕ → ℕ} → Alike f g → keyed (F .seller) f r ≡ keyed (G .seller) g r
+  same-keyed {f} {g} a = fun-ext (λ i. rw (← (h .seller i)) (go i (eqb (F .seller i) r) refl))
+    where
+      go : (i : ℕ) (b : Bool) → eqb (F .seller i) r ≡ b → cond b (f i) 0 ≡ cond b (g i) 0
+      go i true q = a i (eqb-true (F .seller i) r q)
+      go i false q = refl
+
+  same-seller : {f g : ℕ → ℕ} → Alike f g → ofSeller F r f ≡ ofSeller G r g
+  unfolding ofSeller
+  same-seller a = ap (sumTo registrations) (same-keyed a)
+
+  same-only : {p q : ℕ → Bool} {f g : ℕ → ℕ} → Alike p q → Alike f g → Alike (only p f) (only q g)
+  same-only a b i own = rw (a i own, b i own)
+
+  same-unforced : (a : ℕ) → unforced F a ≡ unforced G a
+  unfolding unforced
+  same-unforced a = cc (h .factor, h .requirement)
+
+  same-shortfall : {p q : ℕ → Bool} {v w : ℕ → ℕ} (d c : ℕ → ℕ) → Alike p q → Alike v w → d r ≡ c r
+      → shortfallOver F p v d r ≡ shortfallOver G q w c r
+  unfolding shortfallOver
+  same-shortfall {p} {q} {v} {w} d c a b e =
+      cc (e, same-unforced _, same-seller (same-only a (h .committed)), same-seller (same-only a b))
+
+  same-share : {weight w : ℕ → ℕ} (amount a : ℕ → ℕ) → Alike weight w → amount r ≡ a r → Alike (shareOf F weight amount) (shareOf G w a)
+  unfolding shareOf
+  same-share amount a b e i own = rw (← (h .seller i), own, same-keyed b, e)
+
+  same-sum : {f g : ℕ → ℕ} → ((ev : ℕ) → ev < F .events → f ev ≡ g ev) → sumTo (F .events) f ≡ sumTo (G .events) g
+  same-sum {f} {g} a = sum-same (F .events) a ∙ ap (λ n. sumTo n g) (h .events)
+
+  same-calls : Alike (calls F) (calls G)
+  unfolding calls
+  same-calls i own = same-sum (λ ev l. rw (h .listed ev l i own, h .period ev l))
+
+  same-called : Alike (called F) (called G)
+  unfolding called
+  same-called i own =
+      any-same (F .events) {q = λ ev. G .listed ev i} (λ ev l. h .listed ev l i own) ∙ ap (λ n. anyTo n (λ ev. G .listed ev i)) (h .events)
+
+  same-cap : Alike (cap F) (cap G)
+  unfolding cap
+  same-cap i own = cc (h .committed i own, h .rate i own, same-unforced (F .committed i))
+
+  module _ (ev : ℕ) (l : ev < F .events) where
+    same-lack : Alike (lack F ev) (lack G ev)
+    same-lack i own = rw (h .listed ev l i own, h .committed i own, h .reduction ev l i own)
+
+    same-u : Alike (u F ev) (u G ev)
+    unfolding u
+    same-u =
+        same-share (shortfall F ev) (shortfall G ev) same-lack
+        (same-shortfall (F .deficit ev) (G .deficit ev) (h .listed ev l) (h .reduction ev l) (h .deficit ev l))
+
+    same-daily : (x : ℕ) → Alike (daily F ev x) (daily G ev x)
+    unfolding daily
+    same-daily x i own =
+        cc (h .listed ev l i own, h .period ev l, h .rate i own, same-calls i own, same-u i own, same-cap i own)
+
+  same-taken : (ev : ℕ) → ev ≤ F .events → Alike (taken F ev) (taken G ev)
+  unfolding taken
+  same-taken zero l i own = refl
+  same-taken (suc ev) l i own = cc (same-taken ev (omega arith) i own, same-daily ev l (taken F ev i) i own)
+
+  same-charge : (k ev : ℕ) → ev < F .events → Alike (charge F k ev) (charge G k ev)
+  unfolding charge
+  same-charge k ev l i own =
+      cc (h .leap, h .product i own, h .month ev l, same-taken ev (omega arith) i own, same-daily ev l (taken F ev i) i own)
+
+  pub same-compliance : (k : ℕ) → compliance F k r ≡ compliance G k r
+  unfolding compliance
+  same-compliance k = same-sum (λ ev l. same-seller (same-charge k ev l))
+
+  same-stands : (p : ℕ) → Alike (stands F p) (stands G p)
+  same-stands p i own = cc (h .tested p i own, same-called i own)
+
+  same-B : (p : ℕ) → B F p r ≡ B G p r
+  unfolding B
+  same-B p =
+      cc (
+        same-seller (same-only (same-stands p) (h .committed)),
+        same-seller (same-only {f = λ i. F .committed i * F .rate i} {g = λ i. G .committed i * G .rate i} (same-stands p) (λ i own. cc (h .committed i own, h .rate i own))),
+      )
+
+  same-testOf : (k p : ℕ) → testOf F k p r ≡ testOf G k p r
+  unfolding testOf
+  same-testOf k p =
+      cc (
+        h .leap,
+        same-B p,
+        same-shortfall (F .testDeficit p) (G .testDeficit p) (same-stands p) (h .testReduction p) (h .testDeficit p),
+      )
+
+  pub same-test : (k : ℕ) → test F k r ≡ test G k r
+  unfolding test
+  same-test k = ap (sumTo places) (fun-ext (same-testOf k))

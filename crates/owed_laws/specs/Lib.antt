@@ -1,0 +1,11 @@
+-- The laws of what is owed.
+pub mod Limits
+pub mod Sellers
+pub mod Allotments
+pub mod Cap
+pub mod Balance
+pub mod Independent
+pub mod Unlisted
+pub mod Parties
+pub mod Bounds
+pub mod Totals

@@ -1,0 +1,106 @@
+-- Limits of the facts of a sound year, at every id.
+use Prim.Native.Nat.{ℕ, _+_, _*_, _≤_, _<_}
+use mathlib.Core.Bool.{Bool, true, false, cond}
+use mathlib.Core.List.{List}
+use mathlib.Core.Path.{_≡_, refl}
+use native.Mathlib.Omega.{arith}
+use native.Mathlib.Nat.{le-trans, le-refl, le-of-eq}
+use lib.Dec.{eqb, lit≤}
+use lib.ListN.{length, getD}
+use borrow.Author.Tests.{eq-eqb}
+use Rattle.ids.specs.Ids.{sumTo}
+use Rattle.ids.specs.Sums.{sum-le, sum-at}
+use Rattle.year.specs.declared.Event.{Event}
+use Rattle.year.specs.declared.Test.{Test}
+use Rattle.year.specs.declared.Listing.{Listing}
+use Rattle.year.specs.declared.Year.{Year}
+use Rattle.year.specs.Year.{pastListing, pastEvent, pastTest, zone, product, obligation}
+use Rattle.year.specs.Year as year
+use Rattle.year.specs.Sound.{SoundListing, AtMost, Sound}
+use Rattle.year.specs.Limits.{each-anywhere, seller-below, zone-below, product-below, committed-most, committed-blank, rate-most, reduction-most}
+use Rattle.owed.specs.Facts.{Facts, factsOf, registrations, sellers, places}
+
+pub record Limits (F : Facts) : Type 0 where
+  pub leap : F .leap ≤ 1
+  pub factor : F .factor ≤ 12000
+  pub requirement : F .requirement ≤ 12000
+  pub seller : (i : ℕ) → F .seller i < sellers
+  pub product : (i : ℕ) → F .product i < 3
+  pub committed : (i : ℕ) → F .committed i ≤ 100000
+  pub rate : (i : ℕ) → F .rate i ≤ 100000
+  pub blank : (i : ℕ) → F .known i ≡ false → F .committed i ≡ 0
+  pub obligation : (j : ℕ) → F .obligation j ≤ 1000000
+  pub events : F .events ≤ 16
+  pub month : (ev : ℕ) → F .month ev ≤ 12
+  pub reduction : (ev i : ℕ) → F .reduction ev i ≤ 100000
+  pub deficit : (ev s : ℕ) → F .deficit ev s ≤ 1000000
+  pub testReduction : (p i : ℕ) → F .testReduction p i ≤ 100000
+  pub testDeficit : (p s : ℕ) → F .testDeficit p s ≤ 1000000
+  -- no registration is in two tests
+  pub once : (i : ℕ) → i < registrations → sumTo places (λ p. cond (F .tested p i) 1 0) ≤ 1
+
+-- a listing's numbers, at every id
+record Within (l : Listing) : Type 0 where
+  reduction : (i : ℕ) → year.reduction l i ≤ 100000
+  deficit : (s : ℕ) → year.deficit l s ≤ 1000000
+
+within : {l : Listing} → SoundListing l → Within l
+unfolding year.deficit
+within h = record { reduction = reduction-most h; deficit = each-anywhere (AtMost 1000000) (lit≤ tt) (h .deficits) }
+
+within-past : Within pastListing
+unfolding year.reduction year.deficit
+within-past = record { reduction = λ i. lit≤ tt; deficit = λ s. lit≤ tt }
+
+-- what holds past the end and of each element holds of what is read anywhere
+everywhere : {A : Type 0} (P : A → Type 0) (d : A) (l : List A) {n : ℕ} → P d → length l ≡ n → ((k : ℕ) → k < n → P (getD l k d)) → (i : ℕ) → P (getD l i d)
+everywhere P d l h e f = each-anywhere P {d = d} h {l = l} (record { long = e; at = f })
+
+module _ {y : Year} (S : Sound y) where
+  event-within : (ev : ℕ) → Within (getD (y .events) ev pastEvent .listing)
+  event-within =
+      everywhere (λ (x : Event). Within (x .listing)) pastEvent (y .events) within-past (S .events .long) (λ k l. within (S .events .at k l .listing))
+
+  test-within : (p : ℕ) → Within (getD (y .tests) p pastTest .listing)
+  test-within = everywhere (λ (x : Test). Within (x .listing)) pastTest (y .tests) within-past (S .places) (λ k l. within (S .tests k l .listing))
+
+  month-most : (ev : ℕ) → getD (y .events) ev pastEvent .month ≤ 12
+  month-most =
+      everywhere (λ (x : Event). x .month ≤ 12) pastEvent (y .events) (lit≤ tt) (S .events .long) (λ k l. S .events .at k l .month)
+
+  obligation-most : (j : ℕ) → obligation (y .terms) j ≤ 1000000
+  unfolding obligation
+  obligation-most = each-anywhere (AtMost 1000000) (lit≤ tt) (S .terms .obligations)
+
+  -- a registration is in the test of its zone and product alone
+  in-one-test : (i : ℕ) → i < registrations → sumTo places (λ p. cond (factsOf y .tested p i) 1 0) ≤ 1
+  in-one-test i l =
+      let own = 3 * zone (y .terms) i + product (y .terms) i in
+      le-trans (sum-le places (λ p b. go p (factsOf y .tested p i) (S .tests p b .own i l)))
+      (le-of-eq (sum-at places own 1 (omega (arith, zone-below (S .terms) i, product-below (S .terms) i))))
+    where
+      go : (p : ℕ) (b : Bool) → (b ≡ true → 3 * zone (y .terms) i + product (y .terms) i ≡ p)
+          → cond b 1 0 ≤ cond (eqb (3 * zone (y .terms) i + product (y .terms) i) p) 1 0
+      go p true h = rw (eq-eqb (3 * zone (y .terms) i + product (y .terms) i) p (h refl)) (le-refl 1)
+      go p false h = omega arith
+
+  pub limits : Limits (factsOf y)
+  limits =
+      record {
+        leap = S .terms .factors .leap;
+        factor = S .terms .factors .factor;
+        requirement = S .terms .factors .requirement;
+        seller = seller-below (S .terms);
+        product = product-below (S .terms);
+        committed = committed-most (S .terms);
+        rate = rate-most (S .terms);
+        blank = committed-blank (S .terms);
+        obligation = obligation-most;
+        events = S .held;
+        month = month-most;
+        reduction = λ ev. event-within ev .reduction;
+        deficit = λ ev. event-within ev .deficit;
+        testReduction = λ p. test-within p .reduction;
+        testDeficit = λ p. test-within p .deficit;
+        once = in-one-test;
+      }

@@ -1,0 +1,2 @@
+-- The passes over the accepted events, one after the other.
+pub mod Passes

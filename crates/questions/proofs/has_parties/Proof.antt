@@ -1,0 +1,22 @@
+-- `questions::has_parties` meets its contract. Assumes nothing.
+use borrow.Author.Needs.{needs}
+use mathlib.Core.Path.{sym}
+use Rattle.questions.proofs.has_parties.Statement.{statement}
+use Rattle.questions.proofs.has_parties.Tie as tie
+use Rattle.entries.proofs.any_lse.Reads as any-lse-reads
+use Rattle.entries.proofs.any_registration.Reads as any-registration-reads
+
+returns : tie.Need-returns
+returns c = rw (sym (c .before .before .any-registration .ensures), c .before .if1 .taken) (c .any-lse .ensures)
+
+returns-2 : tie.Need-returns-2
+returns-2 c = rw (sym (c .before .any-registration .ensures), c .if1 .left)
+
+pub has-parties-spec : {M : Type 1} → statement M
+has-parties-spec =
+    tie.close
+    (tie.spec
+    (λ c κs. search needs)
+    (λ c κs. search needs)
+    returns
+    returns-2)

@@ -1,0 +1,3 @@
+pub mod Find
+pub mod Digits
+pub mod Words

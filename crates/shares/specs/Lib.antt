@@ -1,2 +1,0 @@
--- The loop of the allotments by seller.
-pub mod Sellers

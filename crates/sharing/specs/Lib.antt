@@ -1,0 +1,2 @@
+-- Pass 3: u and e entry by entry.
+pub mod Sharing

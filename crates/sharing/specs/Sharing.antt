@@ -1,0 +1,126 @@
+-- Pass 3: u and e entry by entry.
+use Prim.Native.Nat.{ℕ, _+_, _-_, _≤_, _<_}
+use mathlib.Core.Path.{_≡_, sym, _∙_}
+use mathlib.Core.Bool.{true, false}
+use mathlib.Core.List.{List}
+use native.Mathlib.Omega.{arith}
+use native.Mathlib.Nat.{mul-le-mul}
+use Rattle.ids.specs.Ids.{at}
+use Rattle.abreast.specs.Abreast.{Abreast, Shared, stepper, shared-aside, abreast-asks, abreast-value, abreast-more, abreast-none, abreast-kept, abreast-aside}
+use Rattle.allotment.specs.Stepper.{Asks}
+use Rattle.owed.specs.Facts.{Facts}
+use Rattle.owed.specs.Owed as owed
+use Rattle.owed_laws.specs.Limits.{Limits}
+use Rattle.owed_laws.specs.Sellers.{ofSeller-le}
+use Rattle.owed_laws.specs.Bounds.{lack-le, more-le, shortfall-le, excess-le}
+use Rattle.owed_laws.specs.Unlisted.{u-unlisted, e-unlisted}
+use Rattle.table.specs.Columns.{Columns, columns-kept, columns-aside}
+use Rattle.table.specs.Places.{sellerRow, committedRow, lackRow, moreRow, uRow, eRow, listedRow}
+use Rattle.table.specs.Rows.{Stored, Aside, Row, Renewed, none, mark, aside-none, aside-more, aside-then, row-within, renewed-first, renewed-all, renewed-kept, renewed-aside, renewed-more, renewed-none}
+use Rattle.weighing.specs.Weighing.{Ready}
+
+-- the shares of an event's entries, and which they are
+pub record Shares (F : Facts) (ev : ℕ) (w : List ℕ) : Type 0 where
+  pub u : Row w uRow 64 (owed.u F ev)
+  pub e : Row w eRow 64 (owed.e F ev)
+  pub listed : Row w listedRow 64 (λ i. mark (F .listed ev i))
+
+-- before entry i; w₀ is the table before the pass
+pub record Sharing (F : Facts) (ev i : ℕ) (w₀ w : List ℕ) : Type 0 where
+  pub upto : i ≤ 64
+  pub columns : Columns F w
+  pub aside : Aside lackRow 320 w₀ w
+  pub lack : Abreast F (owed.lack F ev) (owed.shortfall F ev) lackRow i w
+  pub more : Abreast F (owed.more F ev) (owed.excess F ev) moreRow i w
+  pub u : Renewed w uRow 64 (owed.u F ev) none i
+  pub e : Renewed w eRow 64 (owed.e F ev) none i
+  pub listed : Renewed w listedRow 64 (λ i. mark (F .listed ev i)) none i
+
+pub sharing-first : {F : Facts} {ev : ℕ} {w : List ℕ} → Columns F w → Ready F ev w → Sharing F ev 0 w w
+sharing-first {F} {ev} h r =
+    record {
+      upto = omega arith;
+      columns = h;
+      aside = aside-none;
+      lack = r .lack;
+      more = r .more;
+      u = renewed-first (owed.u F ev) (row-within uRow 64 (r .fresh) (omega arith) (omega arith));
+      e = renewed-first (owed.e F ev) (row-within eRow 64 (r .fresh) (omega arith) (omega arith));
+      listed = renewed-first (λ i. mark (F .listed ev i)) (row-within listedRow 64 (r .fresh) (omega arith) (omega arith));
+    }
+
+module _ {F : Facts} {ev i : ℕ} {w₀ w : List ℕ} (h : Sharing F ev i w₀ w) where
+  pub sharing-none : i < 64 → F .listed ev i ≡ false → Sharing F ev (i + 1) w₀ w
+  sharing-none l off =
+      record {
+        upto = omega arith;
+        columns = h .columns;
+        aside = h .aside;
+        lack = abreast-none (h .lack) (rw off);
+        more = abreast-none (h .more) (rw off);
+        u = renewed-none (h .u) l (sym (u-unlisted F ev i off));
+        e = renewed-none (h .e) l (sym (e-unlisted F ev i off));
+        listed = renewed-none (h .listed) l (rw off);
+      }
+
+  -- an entry's seller and committed kilowatts in the table
+  pub committed-is : i < 64 → at w (committedRow + i) ≡ F .committed i
+  committed-is l = h .columns .committed .is i l
+
+  pub seller-is : i < 64 → at w (sellerRow + i) ≡ F .seller i
+  seller-is l = h .columns .seller .is i l
+
+  pub sharing-all : i ≡ 64 → Shares F ev w
+  sharing-all q = record { u = renewed-all (rw q at (h .u)); e = renewed-all (rw q at (h .e)); listed = renewed-all (rw q at (h .listed)) }
+
+  -- a listed entry of seller s, with weights x and y
+  module _ {s x y : ℕ} (L : Limits F) (l : i < 64) (on : F .listed ev i ≡ true) (q : s ≡ F .seller i) (a : x ≡ F .committed i - F .reduction ev i) (b : y ≡ F .reduction ev i - F .committed i) where
+    lack-is : x ≡ owed.lack F ev i
+    lack-is = a ∙ rw on
+
+    more-is : y ≡ owed.more F ev i
+    more-is = b ∙ rw on
+
+    pub u-asks : Asks (stepper lackRow w s) x
+    u-asks =
+        rw q (abreast-asks (h .lack) (L .seller i) lack-is l
+        (omega (arith, mul-le-mul (shortfall-le L (F .listed ev) (F .reduction ev) (F .deficit ev) (F .seller i)) (ofSeller-le F (F .seller i) 100000 (lack-le L ev)))))
+
+    -- u is allotted
+    module _ {m : List ℕ} {u : ℕ} (g : Shared lackRow s x w m u) where
+      u-aside : Aside (lackRow + 32) 32 w m
+      u-aside = shared-aside (omega (arith, L .seller i)) g
+
+      pub e-asks : Asks (stepper moreRow m s) y
+      e-asks =
+          let most = ofSeller-le F (F .seller i) 100000 (more-le L ev) in
+          let less : owed.excess F ev (F .seller i) ≤ 6400000 = omega (arith, excess-le L ev (F .seller i)) in
+          rw q (abreast-asks (abreast-aside (h .more) u-aside (λ k c d e. omega arith)) (L .seller i) more-is l (omega (arith, mul-le-mul less most)))
+
+      -- e too, and both are kept
+      module _ {m' : List ℕ} {e : ℕ} (g' : Shared moreRow s y m m' e) where
+        e-aside : Aside (moreRow + 32) 32 m m'
+        e-aside = shared-aside (omega (arith, L .seller i)) g'
+
+        own : Shared lackRow (F .seller i) x w m u
+        own = rw q at g
+
+        own' : Shared moreRow (F .seller i) y m m' e
+        own' = rw q at g'
+
+        pub sharing-more : {m1 m2 v : List ℕ} → Stored (uRow + i) u m' m1 → Stored (eRow + i) e m1 m2 → Stored (listedRow + i) 1 m2 v → Sharing F ev (i + 1) w₀ v
+        unfolding owed.u owed.e
+        sharing-more s1 s2 s3 =
+            record {
+              upto = omega arith;
+              columns = columns-kept (columns-kept (columns-kept (columns-aside (columns-aside (h .columns) u-aside (omega arith)) e-aside (omega arith)) s1 (omega arith)) s2 (omega arith)) s3 (omega arith);
+              aside = aside-more (aside-more (aside-more (aside-then (aside-then {q = lackRow} {m = 320} (h .aside) u-aside (omega arith) (omega arith) (omega arith) (omega arith)) e-aside (omega arith) (omega arith) (omega arith) (omega arith)) s1 (omega arith) (omega arith)) s2 (omega arith) (omega arith)) s3 (omega arith) (omega arith);
+              lack = abreast-kept (abreast-kept (abreast-kept (abreast-aside (abreast-more (h .lack) (L .seller i) lack-is own) e-aside (λ k c d z. omega arith)) s1 (λ c d. omega arith)) s2 (λ c d. omega arith)) s3 (λ c d. omega arith);
+              more = abreast-kept (abreast-kept (abreast-kept (abreast-more (abreast-aside (h .more) u-aside (λ k c d z. omega arith)) (L .seller i) more-is own') s1 (λ c d. omega arith)) s2 (λ c d. omega arith)) s3 (λ c d. omega arith);
+              u = renewed-kept (renewed-kept (renewed-more (elsewhere (h .u) (λ j k. omega arith)) s1 (abreast-value (h .lack) (L .seller i) lack-is own)) s2 (omega arith) (λ c d. omega arith)) s3 (omega arith) (λ c d. omega arith);
+              e = renewed-kept (renewed-more (renewed-kept (elsewhere (h .e) (λ j k. omega arith)) s1 (h .upto) (λ c d. omega arith)) s2 (abreast-value (abreast-aside (h .more) u-aside (λ k c d z. omega arith)) (L .seller i) more-is own')) s3 (omega arith) (λ c d. omega arith);
+              listed = renewed-more (renewed-kept (renewed-kept (elsewhere (h .listed) (λ j k. omega arith)) s1 (h .upto) (λ c d. omega arith)) s2 (h .upto) (λ c d. omega arith)) s3 (rw on);
+            }
+          where
+            elsewhere : {p : ℕ} {f : ℕ → ℕ} → Renewed w p 64 f none i → ((j : ℕ) → j < 64 → uRow ≤ p + j) → Renewed m' p 64 f none i
+            elsewhere r o = renewed-aside (renewed-aside r u-aside (h .upto) (λ j k c d. omega (arith, o j k))) e-aside (h .upto) (λ j k c d. omega (arith, o j k))

@@ -1,0 +1,41 @@
+// Pass 3 over an event's entries: u and e, kept in the working table for the charges and the credits.
+ghost use Prim.Native.Nat.{_<_};
+ghost use Rattle.cells.specs.Layout.{Held};
+ghost use Rattle.looks.specs.Looks.{facts};
+ghost use Rattle.table.specs.Columns.{Columns};
+ghost use Rattle.table.specs.Places.{lackRow};
+ghost use Rattle.table.specs.Rows.{Aside};
+ghost use Rattle.weighing.specs.Weighing.{Ready};
+ghost use Rattle.sharing.specs.Sharing.{Shares};
+use cells::Cells;
+use table::Work;
+use units::Nominated;
+use units::Unforced;
+
+// Each entry's shares of its seller's shortfall and excess.
+pub fn share(year: &Cells, work: &mut Work, ev: usize)
+    requires { ⌜ Held (now year) ⌝ }
+    requires { ⌜ ev < 16 ⌝ }
+    requires { ⌜ Columns (facts (now year)) (now work) ⌝ }
+    requires { ⌜ Ready (facts (now year)) ev (now work) ⌝ }
+    ensures shares { λ _. ⌜ Shares (facts (now (year .entry))) ev (now (work .exit)) ⌝ }
+    ensures aside { λ _. ⌜ Aside lackRow 320 (now (work .entry)) (now (work .exit)) ⌝ }
+{
+    let mut i: usize = 0;
+    while i < 64 {
+        let x = looks::look(year, ev, i);
+        if x.listed {
+            let s = work[table::SELLER + i] as usize;
+            let committed = Nominated::new(work[table::COMMITTED + i]);
+            let reduction = x.reduction;
+            let lack = committed.less(reduction);
+            let more = reduction.less(committed);
+            let u = Unforced(abreast::share(work, table::LACK, s, lack.0));
+            let e = Nominated(abreast::share(work, table::MORE, s, more.0));
+            table::put(work, table::U + i, u.0);
+            table::put(work, table::E + i, e.0);
+            table::put(work, table::LISTED + i, 1);
+        }
+        i += 1;
+    }
+}

@@ -1,2 +1,0 @@
--- Bounds of shortfalls and of a test's rate.
-pub mod Bounds

@@ -1,0 +1,71 @@
+// Parts of the year by value, read out of its cells: its registrations, its terms, and what is billed.
+ghost use mathlib.Core.Path.{_≡_};
+ghost use Prim.Native.Nat.{_+_, _≤_};
+ghost use Rattle.ids.specs.Ids.{tabulate};
+ghost use Rattle.cells.specs.Rows.{from};
+ghost use Rattle.cells.specs.Layout.{yearIn};
+use cells::BILLED;
+use cells::Cells;
+use cells::OBLIGATIONS;
+use year::Amounts;
+use year::Registration;
+use year::Terms;
+
+// 16 numbers from a place on.
+fn numbers_at(year: &Cells, p: usize) -> [u64; 16]
+    requires { ⌜ p + 16 ≤ 3447 ⌝ }
+    ensures { λ r. ⌜ r ≡ tabulate 16 (from p (now (year .entry))) ⌝ }
+{
+    let mut numbers = [0u64; 16];
+    let mut i: usize = 0;
+    while i < 16 {
+        numbers[i] = year[p + i];
+        i += 1;
+    }
+    numbers
+}
+
+// The year's registrations.
+pub fn registrations_of(year: &Cells) -> [Registration; 64]
+    ensures { λ r. ⌜ r ≡ yearIn (now (year .entry)) .terms .registrations ⌝ }
+{
+    let first = cells::registration_at(year, 0);
+    let mut registrations = [first; 64];
+    let mut i: usize = 0;
+    while i < 64 {
+        registrations[i] = cells::registration_at(year, i);
+        i += 1;
+    }
+    registrations
+}
+
+// What no event, test or close changes.
+pub fn terms_of(year: &Cells) -> Terms
+    ensures { λ r. ⌜ r ≡ yearIn (now (year .entry)) .terms ⌝ }
+{
+    let registrations = registrations_of(year);
+    let obligations = numbers_at(year, OBLIGATIONS);
+    Terms {
+        leap: year[4],
+        factor: year[5],
+        requirement: year[6],
+        registrations: registrations,
+        obligations: obligations,
+    }
+}
+
+// The amounts to date at the last close.
+pub fn billed_of(year: &Cells) -> Amounts
+    ensures { λ r. ⌜ r ≡ yearIn (now (year .entry)) .billed ⌝ }
+{
+    let compliance = numbers_at(year, BILLED);
+    let test = numbers_at(year, BILLED + 16);
+    let credit = numbers_at(year, BILLED + 32);
+    let lse = numbers_at(year, BILLED + 48);
+    Amounts {
+        compliance: compliance,
+        test: test,
+        credit: credit,
+        lse: lse,
+    }
+}

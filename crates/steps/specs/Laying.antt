@@ -1,0 +1,234 @@
+-- The year in cells into which the rows of a step were laid: one fact a part, kept or laid anew.
+use Prim.Native.Nat.{ℕ, _+_, _*_, _≤_, _<_}
+use mathlib.Core.Path.{_≡_, refl, sym, _∙_}
+use mathlib.Core.Bool.{Bool, true, false, cond}
+use mathlib.Core.List.{List, [], _∷_, _++_}
+use mathlib.Core.Logic.{_≢_}
+use native.Mathlib.Omega.{arith}
+use native.Mathlib.Nat.{zero-add}
+use native.Mathlib.Decide.{decLt}
+use lib.Dec.{lit<, lit≤}
+use lib.ListN.{length, getD, set, replicate, take, drop, length-append, length-drop}
+use lib.Seq.{getD-append-add, getD-take, getD-drop, length-take-le}
+use Rattle.ids.specs.Tables.{length-tabulate, getD-tabulate}
+use Rattle.ids.specs.Ids.{at, tabulate}
+use Rattle.year.specs.declared.Registration.{Registration}
+use Rattle.year.specs.declared.Listing.{Listing}
+use Rattle.year.specs.declared.Event.{Event}
+use Rattle.year.specs.declared.Amounts.{Amounts}
+use Rattle.year.specs.declared.Year.{Year}
+use Rattle.year.specs.Year.{pastTest}
+use Rattle.year.specs.Steps.{withOpening, withRegistration, withLse, withEvent, withTest, withClose}
+use Rattle.year.specs.Sound.{SoundTest, SoundAmounts, Sound}
+use Rattle.cells.specs.Rows.{Laid, laid-on, Same, same-on, same-in, same-before, same-behind, rows-laid, cells-laid, numbers-kept, numbers-anew}
+use Rattle.cells.specs.Layout.{flag, registrationAt, listingAt, eventAt, registrationsIn, obligationsIn, termsIn, eventsIn, testsIn, billedIn, yearIn, Held}
+use Rattle.cells.specs.Regions.{registration-view, listing-view, event-view, registrations-kept, obligations-kept, terms-kept, events-kept, places-kept, tests-kept, billed-kept}
+use Rattle.steps.specs.Tests.{testOf, untaken-free, unmarked, tests-unmarked, Tested, tests-laid}
+
+-- a known registration is the one that its row has
+registration-row : (r : Registration) → r .known ≡ true → registrationAt (at (1 ∷ r .seller ∷ r .area ∷ r .zone ∷ r .product ∷ r .committed .0 ∷ r .rate ∷ [])) ≡ r
+registration-row r e = rw (← e)
+
+abbrev pub eventOf : ℕ → ℕ → ℕ → Listing → Event
+eventOf area month period l = record { area = area; month = month; period = period; listing = l }
+
+event-row : (area month period : ℕ) (l : List ℕ) → eventAt (at ((area ∷ month ∷ period ∷ []) ++ l)) ≡ eventOf area month period (listingAt (at l))
+event-row area month period l =
+    cc (listing-view (λ k. at ((area ∷ month ∷ period ∷ []) ++ l) (3 + k)) (at l) (λ k m. getD-append-add (area ∷ month ∷ period ∷ []) l k 0))
+
+module _ {c d : List ℕ} where
+  pub opening-laid : {leap factor requirement : ℕ} → Laid 3 (1 ∷ leap ∷ factor ∷ requirement ∷ []) c d → yearIn d ≡ withOpening (yearIn c) leap factor requirement
+  opening-laid h =
+      let marks = same-before h 0 3 (lit≤ tt) in
+      let registrations = registrations-kept (same-behind h 7 448 (lit≤ tt)) in
+      cc (
+        marks .cell 0 (lit< tt),
+        marks .cell 1 (lit< tt),
+        marks .cell 2 (lit< tt),
+        h .inside 0 (lit< tt),
+        h .inside 1 (lit< tt),
+        h .inside 2 (lit< tt),
+        h .inside 3 (lit< tt),
+        registrations,
+        obligations-kept (same-behind h 455 16 (lit≤ tt)),
+        events-kept (same-behind h 471 2352 (lit≤ tt)),
+        tests-kept registrations (same-behind h 2823 560 (lit≤ tt)),
+        billed-kept (same-behind h 3383 64 (lit≤ tt)),
+      )
+
+  -- before any test, since the place of a listed registration is never to change
+  pub registration-laid : Sound (yearIn c) → yearIn c .started ≡ false → (id : ℕ) (r : Registration) → id < 64 → r .known ≡ true
+      → Laid (7 + 7 * id) (1 ∷ r .seller ∷ r .area ∷ r .zone ∷ r .product ∷ r .committed .0 ∷ r .rate ∷ []) c d → yearIn d ≡ withRegistration (yearIn c) id r
+  unfolding registrationsIn
+  registration-laid s e id r l k h =
+      let marks = same-before h 0 7 (omega arith) in
+      cc (
+        marks .cell 0 (lit< tt),
+        marks .cell 1 (lit< tt),
+        marks .cell 2 (lit< tt),
+        marks .cell 3 (lit< tt),
+        marks .cell 4 (lit< tt),
+        marks .cell 5 (lit< tt),
+        marks .cell 6 (lit< tt),
+        rows-laid registration-view 64 7 id l refl h,
+        registration-row r k,
+        obligations-kept (same-behind h 455 16 (omega arith)),
+        events-kept (same-behind h 471 2352 (omega arith)),
+        tests-unmarked (unmarked c s (s .fresh e .2)) (same-behind h 2823 560 (omega arith)),
+        billed-kept (same-behind h 3383 64 (omega arith)),
+      )
+
+  pub lse-laid : (id : ℕ) {kw : ℕ} → id < 16 → Laid (455 + id) (kw ∷ []) c d → yearIn d ≡ withLse (yearIn c) id kw
+  unfolding obligationsIn
+  lse-laid id l h =
+      let marks = same-before h 0 7 (omega arith) in
+      let registrations = registrations-kept (same-before h 7 448 (omega arith)) in
+      cc (
+        marks .cell 0 (lit< tt),
+        marks .cell 1 (lit< tt),
+        marks .cell 2 (lit< tt),
+        marks .cell 3 (lit< tt),
+        marks .cell 4 (lit< tt),
+        marks .cell 5 (lit< tt),
+        marks .cell 6 (lit< tt),
+        registrations,
+        cells-laid (λ x. x) 16 455 id l h,
+        events-kept (same-behind h 471 2352 (omega arith)),
+        tests-kept registrations (same-behind h 2823 560 (omega arith)),
+        billed-kept (same-behind h 3383 64 (omega arith)),
+      )
+
+-- an event is laid by three rows: its head, its listing, and the marks
+pub call-laid : {a b c d l : List ℕ} (n : ℕ) {area month period : ℕ} → n ≡ at a 2 → n < 16 → length l ≡ 144
+    → Laid (471 + 147 * n) (area ∷ month ∷ period ∷ []) a b → Laid (471 + 147 * n + 3) l b c → Laid 1 (1 ∷ (n + 1) ∷ []) c d
+    → yearIn d ≡ withEvent (yearIn a) (eventOf area month period (listingAt (at l)))
+unfolding eventsIn
+call-laid {a} {b} {c} {d} {l} n {area} {month} {period} q m e g h i =
+    let row : Laid (471 + 147 * n) ((area ∷ month ∷ period ∷ []) ++ l) a c = laid-on g h in
+    let long : length ((area ∷ month ∷ period ∷ []) ++ l) ≡ 147 = omega (arith, length-append (area ∷ month ∷ period ∷ []) l) in
+    let marks = same-before row 0 7 (omega arith) in
+    let terms = same-on (same-before row 3 468 (omega arith)) (same-behind i 3 468 (lit≤ tt)) in
+    let behind = same-on (same-behind row 2823 624 (omega arith)) (same-behind i 2823 624 (lit≤ tt)) in
+    let kept = terms-kept (same-in 4 467 (lit≤ tt) (lit≤ tt) terms) in
+    cc (
+      q,
+      marks .cell 0 (lit< tt),
+      i .outside 0 (λ x y. omega arith),
+      i .inside 0 (lit< tt),
+      i .inside 1 (lit< tt),
+      terms .cell 0 (lit< tt),
+      kept,
+      events-kept (same-behind i 471 2352 (lit≤ tt)),
+      rows-laid event-view 16 471 n m long row,
+      event-row area month period l,
+      tests-kept (registrations-kept (same-in 7 448 (lit≤ tt) (lit≤ tt) terms)) (same-in 2823 560 (lit≤ tt) (lit≤ tt) behind),
+      billed-kept (same-in 3383 64 (lit≤ tt) (lit≤ tt) behind),
+    )
+
+-- what the entries of all tests become: the listing's part from q on where it lists, else the cells from p on
+module _ (c : List ℕ) (p : ℕ) (l : List ℕ) (q : ℕ) where
+  abbrev pub mergedAt : ℕ → ℕ
+  mergedAt i = cond (flag (at l i)) (at l (q + i)) (at c (p + i))
+
+  abbrev pub merged : List ℕ
+  merged = tabulate 64 mergedAt
+
+-- a test is laid by five rows: the mark, its head and its deficits, then marks and reductions of the entries of all tests
+module _ {a b c d e f : List ℕ} (l : List ℕ) (place : ℕ) {month : ℕ} (p : place < 24) (n : length l ≡ 144)
+    (start : Laid 1 (1 ∷ []) a b) (head : Laid (2823 + 18 * place) (1 ∷ month ∷ []) b c) (deficits : Laid (2823 + 18 * place + 2) (take 16 (drop 128 l)) c d)
+    (marks : Laid 3255 (merged a 3255 l 0) d e) (reductions : Laid 3319 (merged a 3319 l 64) e f) where
+  row : Laid (2823 + 18 * place) ((1 ∷ month ∷ []) ++ take 16 (drop 128 l)) b d
+  row = laid-on head deficits
+
+  sixteen : length (take 16 (drop 128 l)) ≡ 16
+  sixteen = length-take-le 16 (drop 128 l) (omega (arith, length-drop 128 l))
+
+  eighteen : length ((1 ∷ month ∷ []) ++ take 16 (drop 128 l)) ≡ 18
+  eighteen = omega (arith, length-append (1 ∷ month ∷ []) (take 16 (drop 128 l)), sixteen)
+
+  sixty-four : (c : List ℕ) (p q : ℕ) → length (merged c p l q) ≡ 64
+  sixty-four c p q = length-tabulate (mergedAt c p l q) 64
+
+  -- cells before the entries, and between the mark and the place's row
+  early : (q w : ℕ) → q + w ≤ 3255 → Same q w d f
+  early q w m = same-on (same-before marks q w m) (same-before reductions q w (omega arith))
+
+  between : (q w : ℕ) → 2 ≤ q → q + w ≤ 2823 → Same q w a f
+  between q w x y =
+      same-on (same-on (same-behind start q w x) (same-before row q w (omega arith))) (early q w (omega arith))
+
+  laid : Tested place month l a f
+  laid =
+      record {
+        taken = early (2823 + 18 * place) 18 (omega arith) .cell 0 (lit< tt) ∙ row .inside 0 (omega (arith, eighteen));
+        month = early (2823 + 18 * place) 18 (omega arith) .cell 1 (lit< tt) ∙ row .inside 1 (omega (arith, eighteen));
+        deficits = λ j m. early (2823 + 18 * place) 18 (omega arith) .cell (2 + j) (omega arith) ∙ row .inside (2 + j) (omega (arith, eighteen)) ∙ getD-append-add (1 ∷ month ∷ []) (take 16 (drop 128 l)) j 0 ∙ getD-take 16 (drop 128 l) j 0 m ∙ getD-drop 128 l j 0;
+        others = λ k m x. same-on (same-on (same-behind start (2823 + 18 * k) 18 (omega arith)) (apart k m x (decLt k place))) (early (2823 + 18 * k) 18 (omega arith));
+        marks = λ i m. same-before reductions 3255 64 (lit≤ tt) .cell i m ∙ marks .inside i (omega (arith, sixty-four a 3255 0)) ∙ entry a 3255 0 i m ∙ rw (zero-add i);
+        reductions = λ i m. let z : 3255 + (64 + i) ≡ 3319 + i = omega arith in rw z (reductions .inside i (omega (arith, sixty-four a 3319 64)) ∙ entry a 3319 64 i m);
+      }
+    where
+      entry : (c : List ℕ) (p q i : ℕ) → i < 64 → at (merged c p l q) i ≡ mergedAt c p l q i
+      entry c p q i m = getD-tabulate (mergedAt c p l q) 64 i 0 m
+
+      apart : (k : ℕ) → k < 24 → k ≢ place → Dec (k < place) → Same (2823 + 18 * k) 18 b d
+      apart k m x (yes y) = same-before row (2823 + 18 * k) 18 (omega arith)
+      apart k m x (no y) = same-behind row (2823 + 18 * k) 18 (omega (arith, eighteen))
+
+  pub test-laid : Held a → getD (testsIn a) place pastTest .taken ≡ false → SoundTest (termsIn a) place (testOf month (listingAt (at l)))
+      → yearIn f ≡ withTest (yearIn a) place (testOf month (listingAt (at l)))
+  test-laid k x s =
+      let kept = between 2 2821 (lit≤ tt) (lit≤ tt) in
+      let registrations = registrations-kept (same-in 7 448 (lit≤ tt) (lit≤ tt) kept) in
+      let behind = same-on (same-on (same-behind start 3383 64 (lit≤ tt)) (same-behind row 3383 64 (omega (arith, eighteen)))) (same-on (same-behind marks 3383 64 (omega (arith, sixty-four a 3255 0))) (same-behind reductions 3383 64 (omega (arith, sixty-four a 3319 64)))) in
+      cc (
+        same-on (same-on (same-before start 0 1 (lit≤ tt)) (same-before row 0 1 (omega arith))) (early 0 1 (lit≤ tt)) .cell 0 (lit< tt),
+        same-on (same-before row 1 1 (omega arith)) (early 1 1 (lit≤ tt)) .cell 0 (lit< tt),
+        start .inside 0 (lit< tt),
+        kept .cell 0 (lit< tt),
+        kept .cell 1 (lit< tt),
+        terms-kept (same-in 4 467 (lit≤ tt) (lit≤ tt) kept),
+        events-kept (same-in 471 2352 (lit≤ tt) (lit≤ tt) kept),
+        tests-laid laid p (places-kept a f registrations) s (untaken-free a (k .sound) p x),
+        billed-kept behind,
+      )
+
+-- four rows of amounts
+billed-laid : {b c d e f : List ℕ} (x : Amounts) → SoundAmounts x → Laid 3383 (x .compliance) b c → Laid 3399 (x .test) c d → Laid 3415 (x .credit) d e → Laid 3431 (x .lse) e f → billedIn f ≡ x
+unfolding billedIn
+billed-laid {f = f} x s h i j k =
+    let parts : billedIn f ≡ record { compliance = x .compliance; test = x .test; credit = x .credit; lse = x .lse } = cc (
+      numbers-anew (x .compliance) (s .compliance .long) h,
+      numbers-kept 16 3383 (same-on (same-on (same-before i 3383 16 (lit≤ tt)) (same-before j 3383 16 (lit≤ tt))) (same-before k 3383 16 (lit≤ tt))),
+      numbers-anew (x .test) (s .test .long) i,
+      numbers-kept 16 3399 (same-on (same-before j 3399 16 (lit≤ tt)) (same-before k 3399 16 (lit≤ tt))),
+      numbers-anew (x .credit) (s .credit .long) j,
+      numbers-kept 16 3415 (same-before k 3415 16 (lit≤ tt)),
+      numbers-anew (x .lse) (s .lse .long) k,
+    ) in
+    parts
+
+-- a close is laid by five rows: the marks, and the amounts
+pub close-laid : {a b c d e f : List ℕ} {z : ℕ} (x : Amounts) → SoundAmounts x → z ≡ at a 0 → Laid 0 ((z + 1) ∷ 1 ∷ []) a b
+    → Laid 3383 (x .compliance) b c → Laid 3399 (x .test) c d → Laid 3415 (x .credit) d e → Laid 3431 (x .lse) e f → yearIn f ≡ withClose (yearIn a) x
+close-laid {b = b} {f = f} x s q g h i j k =
+    let before : (q w : ℕ) → q + w ≤ 3383 → Same q w b f = λ q w m. same-on (same-on (same-before h q w m) (same-before i q w (omega arith))) (same-on (same-before j q w (omega arith)) (same-before k q w (omega arith))) in
+    let marks = before 0 2 (lit≤ tt) in
+    let kept = same-on (same-behind g 2 3381 (lit≤ tt)) (before 2 3381 (lit≤ tt)) in
+    cc (
+      q,
+      marks .cell 0 (lit< tt),
+      marks .cell 1 (lit< tt),
+      g .inside 0 (lit< tt),
+      g .inside 1 (lit< tt),
+      kept .cell 0 (lit< tt),
+      kept .cell 1 (lit< tt),
+      terms-kept (same-in 4 467 (lit≤ tt) (lit≤ tt) kept),
+      events-kept (same-in 471 2352 (lit≤ tt) (lit≤ tt) kept),
+      tests-kept (registrations-kept (same-in 7 448 (lit≤ tt) (lit≤ tt) kept)) (same-in 2823 560 (lit≤ tt) (lit≤ tt) kept),
+      billed-laid x s h i j k,
+    )
+
+-- a step on cells that hold a sound year
+pub stepped : {c d : List ℕ} {y : Year} → Held c → length d ≡ length c → yearIn d ≡ y → Sound y → (yearIn d ≡ y) × Held d
+stepped k l e s = (e, record { long = l ∙ k .long; sound = rw e s })

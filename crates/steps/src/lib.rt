@@ -1,0 +1,147 @@
+// The year after an accepted record of each kind, made where it lies: a step lays a few rows.
+ghost use mathlib.Core.Path.{_≡_};
+ghost use mathlib.Core.Bool.{true, false};
+ghost use Prim.Native.Nat.{_+_, _*_, _≤_, _<_};
+ghost use lib.ListN.{length, getD};
+ghost use Rattle.ids.specs.Ids.{at};
+ghost use Rattle.year.specs.Year.{pastTest};
+ghost use Rattle.year.specs.Steps.{withOpening, withRegistration, withLse, withEvent, withTest, withClose};
+ghost use Rattle.year.specs.Sound.{SoundRegistration, SoundListing, SoundTest, SoundAmounts, Factors};
+ghost use Rattle.cells.specs.Layout.{listingAt, yearIn, Held};
+ghost use Rattle.steps.specs.Tests.{testOf};
+ghost use Rattle.steps.specs.Laying.{eventOf, mergedAt, merged};
+use cells::BILLED;
+use cells::CLOSED;
+use cells::Cells;
+use cells::EVENT;
+use cells::EVENTS;
+use cells::OBLIGATIONS;
+use cells::OPENED;
+use cells::REGISTRATION;
+use cells::REGISTRATIONS;
+use cells::STARTED;
+use cells::TEST;
+use cells::TESTED;
+use cells::TESTS;
+use cells::lay;
+use year::Amounts;
+use year::Registration;
+
+// An opening: the year's leap mark and factors.
+pub fn open(year: &mut Cells, leap: u64, factor: u64, requirement: u64)
+    requires { ⌜ Held (now year) ⌝ }
+    requires { ⌜ Factors leap factor requirement ⌝ }
+    ensures equals { λ r. ⌜ yearIn (now (year .exit)) ≡ withOpening (yearIn (now (year .entry))) leap factor requirement ⌝ }
+    ensures held { λ r. ⌜ Held (now (year .exit)) ⌝ }
+{
+    lay(year, OPENED, &[1, leap, factor, requirement]);
+}
+
+// One more registration, before any event, test or close.
+pub fn register(year: &mut Cells, id: usize, r: Registration)
+    requires { ⌜ Held (now year) ⌝ }
+    requires { ⌜ yearIn (now year) .started ≡ false ⌝ }
+    requires { ⌜ id < 64 ⌝ }
+    requires { ⌜ r .known ≡ true ⌝ }
+    requires { ⌜ SoundRegistration r ⌝ }
+    ensures equals { λ u. ⌜ yearIn (now (year .exit)) ≡ withRegistration (yearIn (now (year .entry))) id r ⌝ }
+    ensures held { λ u. ⌜ Held (now (year .exit)) ⌝ }
+{
+    let committed = r.committed;
+    let row = [1, r.seller, r.area, r.zone, r.product, committed.0, r.rate];
+    lay(year, REGISTRATIONS + REGISTRATION * id, &row);
+}
+
+// One more LSE's obligation.
+pub fn oblige(year: &mut Cells, id: usize, kw: u64)
+    requires { ⌜ Held (now year) ⌝ }
+    requires { ⌜ id < 16 ⌝ }
+    requires { ⌜ kw ≤ 1000000 ⌝ }
+    ensures equals { λ r. ⌜ yearIn (now (year .exit)) ≡ withLse (yearIn (now (year .entry))) id kw ⌝ }
+    ensures held { λ r. ⌜ Held (now (year .exit)) ⌝ }
+{
+    lay(year, OBLIGATIONS + id, &[kw]);
+}
+
+// One more event; its listing is a row by id: 64 marks, 64 reductions, 16 deficits.
+pub fn call(year: &mut Cells, area: u64, month: u64, period: u64, listing: &[u64])
+    requires { ⌜ Held (now year) ⌝ }
+    requires { ⌜ yearIn (now year) .held < 16 ⌝ }
+    requires { ⌜ month ≤ 12 ⌝ }
+    requires { ⌜ length (now listing) ≡ 144 ⌝ }
+    requires { ⌜ SoundListing (listingAt (at (now listing))) ⌝ }
+    ensures equals { λ r. ⌜ yearIn (now (year .exit)) ≡ withEvent (yearIn (now (year .entry))) (eventOf area month period (listingAt (at (now (listing .entry))))) ⌝ }
+    ensures held { λ r. ⌜ Held (now (year .exit)) ⌝ }
+{
+    let n = cells::held(year);
+    lay(year, EVENTS + EVENT * n, &[area, month, period]);
+    lay(year, EVENTS + EVENT * n + 3, listing);
+    lay(year, STARTED, &[1, n as u64 + 1]);
+}
+
+// One of the entries of all tests, with a listing's: where it lists, its own.
+fn merged_at(year: &Cells, place: usize, listing: &[u64], part: usize, i: usize) -> u64
+    requires { ⌜ place + i < 3447 ⌝ }
+    requires { ⌜ i < length (now listing) ⌝ }
+    requires { ⌜ part + i < length (now listing) ⌝ }
+    ensures { λ r. ⌜ r ≡ mergedAt (now (year .entry)) place (now (listing .entry)) part i ⌝ }
+{
+    if listing[i] != 0 {
+        return listing[part + i];
+    }
+    year[place + i]
+}
+
+// All of them.
+fn merge(year: &Cells, place: usize, listing: &[u64], part: usize) -> [u64; 64]
+    requires { ⌜ place + 64 ≤ 3447 ⌝ }
+    requires { ⌜ part + 64 ≤ length (now listing) ⌝ }
+    ensures { λ r. ⌜ r ≡ merged (now (year .entry)) place (now (listing .entry)) part ⌝ }
+{
+    let mut entries = [0u64; 64];
+    let mut i: usize = 0;
+    while i < 64 {
+        entries[i] = merged_at(year, place, listing, part, i);
+        i += 1;
+    }
+    entries
+}
+
+// The test of a place that has none; its listing is a row as an event's.
+pub fn test(year: &mut Cells, place: usize, month: u64, listing: &[u64])
+    requires { ⌜ Held (now year) ⌝ }
+    requires { ⌜ place < 24 ⌝ }
+    requires { ⌜ getD (yearIn (now year) .tests) place pastTest .taken ≡ false ⌝ }
+    requires { ⌜ length (now listing) ≡ 144 ⌝ }
+    requires { ⌜ SoundTest (yearIn (now year) .terms) place (testOf month (listingAt (at (now listing)))) ⌝ }
+    ensures equals { λ r. ⌜ yearIn (now (year .exit)) ≡ withTest (yearIn (now (year .entry))) place (testOf month (listingAt (at (now (listing .entry))))) ⌝ }
+    ensures held { λ r. ⌜ Held (now (year .exit)) ⌝ }
+{
+    let marks = merge(year, TESTED, listing, 0);
+    let reductions = merge(year, TESTED + 64, listing, 64);
+    lay(year, STARTED, &[1]);
+    lay(year, TESTS + TEST * place, &[1, month]);
+    lay(year, TESTS + TEST * place + 2, &listing[128..144]);
+    lay(year, TESTED, &marks);
+    lay(year, TESTED + 64, &reductions);
+}
+
+// One more month closed, and what is billed by then.
+pub fn close(year: &mut Cells, billed: Amounts)
+    requires { ⌜ Held (now year) ⌝ }
+    requires { ⌜ yearIn (now year) .closed < 15 ⌝ }
+    requires { ⌜ SoundAmounts billed ⌝ }
+    ensures equals { λ r. ⌜ yearIn (now (year .exit)) ≡ withClose (yearIn (now (year .entry))) billed ⌝ }
+    ensures held { λ r. ⌜ Held (now (year .exit)) ⌝ }
+{
+    let z = cells::closed(year);
+    let compliance = billed.compliance;
+    let test = billed.test;
+    let credit = billed.credit;
+    let lse = billed.lse;
+    lay(year, CLOSED, &[z + 1, 1]);
+    lay(year, BILLED, &compliance);
+    lay(year, BILLED + 16, &test);
+    lay(year, BILLED + 32, &credit);
+    lay(year, BILLED + 48, &lse);
+}

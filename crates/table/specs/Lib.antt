@@ -1,0 +1,4 @@
+-- The working table: its rows, their laws, and the registrations' terms in it.
+pub mod Rows
+pub mod Places
+pub mod Columns

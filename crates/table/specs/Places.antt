@@ -1,0 +1,65 @@
+-- Where the rows of the working table stand: by registration 64 places, by seller and by LSE 16.
+use Prim.Native.Nat.{ℕ}
+
+abbrev pub size : ℕ
+size = 960
+
+-- a registration's terms
+abbrev pub sellerRow : ℕ
+sellerRow = 0
+
+abbrev pub productRow : ℕ
+productRow = 64
+
+abbrev pub committedRow : ℕ
+committedRow = 128
+
+abbrev pub rateRow : ℕ
+rateRow = 192
+
+abbrev pub capRow : ℕ
+capRow = 256
+
+-- the calls of a registration (n), and 1 where any event lists it
+abbrev pub callsRow : ℕ
+callsRow = 320
+
+abbrev pub calledRow : ℕ
+calledRow = 384
+
+-- what is taken of a cap; a seller's charges and credits to date
+abbrev pub takenRow : ℕ
+takenRow = 448
+
+abbrev pub complianceRow : ℕ
+complianceRow = 512
+
+abbrev pub creditRow : ℕ
+creditRow = 528
+
+-- one event: two allotments abreast, of shortfalls by lacks and of excesses by what is given more, four rows each; u, e, and 1 where it is listed
+abbrev pub lackRow : ℕ
+lackRow = 544
+
+abbrev pub moreRow : ℕ
+moreRow = 608
+
+abbrev pub uRow : ℕ
+uRow = 672
+
+abbrev pub eRow : ℕ
+eRow = 736
+
+abbrev pub listedRow : ℕ
+listedRow = 800
+
+-- a seller's test charges to date, and an LSE's credit
+abbrev pub testRow : ℕ
+testRow = 864
+
+abbrev pub lseRow : ℕ
+lseRow = 880
+
+-- the place of a registration's test
+abbrev pub placeRow : ℕ
+placeRow = 896

@@ -1,0 +1,90 @@
+// The closing's working table: one lent array of numbers with named rows, and the stores into it.
+ghost use mathlib.Core.Path.{_≡_};
+ghost use Prim.Native.Nat.{_+_, _≤_, _<_, _^_};
+ghost use lib.ListN.{length};
+ghost use Rattle.ids.specs.Ids.{at};
+ghost use Rattle.table.specs.Rows.{Stored, Aside, Row, none};
+ghost use Rattle.table.specs.Places.{size};
+
+// Rows that change together stand together (specs/Places.antt).
+pub type Work = [u64; 960];
+
+// By registration, 64 places each: its terms, copied from the lent run.
+pub const SELLER: usize = 0;
+
+pub const PRODUCT: usize = 64;
+
+pub const COMMITTED: usize = 128;
+
+pub const RATE: usize = 192;
+
+pub const CAP: usize = 256;
+
+// By registration: how many events of period 1 or 3 list it, and whether any event does (1).
+pub const CALLS: usize = 320;
+
+pub const CALLED: usize = 384;
+
+// By registration what the events so far took of its cap; by seller, 16 places each, their charges and credits to date.
+pub const TAKEN: usize = 448;
+
+pub const COMPLIANCE: usize = 512;
+
+pub const CREDIT: usize = 528;
+
+// One event, 320 places. Four rows by seller (crate abreast): what its entries lack, the shortfall that is allotted by that, the
+// weights passed and the last quotients; the same four of what they give more and the excess. By registration u, e, and
+// whether it is listed (1).
+pub const EVENT: usize = 320;
+
+pub const LACK: usize = 544;
+
+pub const MORE: usize = 608;
+
+pub const U: usize = 672;
+
+pub const E: usize = 736;
+
+pub const LISTED: usize = 800;
+
+// By seller the test charges to date, and by LSE its credit.
+pub const TEST: usize = 864;
+
+pub const LSE: usize = 880;
+
+// By registration the place of its test, 3 × zone + product.
+pub const PLACE: usize = 896;
+
+// x at a place.
+pub fn put(work: &mut Work, place: usize, x: u64)
+    requires { ⌜ length (now work) ≡ size ⌝ }
+    requires { ⌜ place < size ⌝ }
+    ensures { λ _. ⌜ Stored place x (now (work .entry)) (now (work .exit)) ⌝ }
+{
+    work[place] = x;
+}
+
+// x more at a place.
+pub fn add_at(work: &mut Work, place: usize, x: u64)
+    requires { ⌜ length (now work) ≡ size ⌝ }
+    requires { ⌜ place < size ⌝ }
+    requires { ⌜ at (now work) place + x < 2 ^ 64 ⌝ }
+    ensures { λ _. ⌜ Stored place (at (now (work .entry)) place + x) (now (work .entry)) (now (work .exit)) ⌝ }
+{
+    let sum = work[place];
+    work[place] = sum + x;
+}
+
+// Zeros in the n places from p on.
+pub fn clear(work: &mut Work, p: usize, n: usize)
+    requires { ⌜ length (now work) ≡ size ⌝ }
+    requires { ⌜ p + n ≤ size ⌝ }
+    ensures zeros { λ _. ⌜ Row (now (work .exit)) p n none ⌝ }
+    ensures aside { λ _. ⌜ Aside p n (now (work .entry)) (now (work .exit)) ⌝ }
+{
+    let mut i: usize = 0;
+    while i < n {
+        put(work, p + i, 0);
+        i += 1;
+    }
+}

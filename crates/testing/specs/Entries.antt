@@ -1,0 +1,134 @@
+-- The entries of all tests in the year's cells, as the facts of each test; which of them stand; and a place without a test.
+use Prim.Native.Nat.{ℕ, _+_, _*_, _-_, _≤_, _<_}
+use mathlib.Core.Path.{_≡_, refl, ap, sym, _∙_}
+use mathlib.Core.Bool.{Bool, true, false, not, _&&_, cond}
+use mathlib.Core.List.{List}
+use native.Mathlib.Omega.{arith}
+use native.Mathlib.Nat.{zero-mul, zero-sub}
+use lib.Dec.{eqb}
+use borrow.Author.Tests.{eq-eqb}
+use lib.ListN.{getD}
+use Rattle.ids.specs.Ids.{at, sumTo, anyTo, only}
+use Rattle.ids.specs.Sums.{sum-zero, sum-step}
+use Rattle.ids.specs.Tests.{cond-true, cond-le, none-at}
+use Rattle.ids.specs.Tables.{getD-tabulate}
+use Rattle.units.specs.Units.{convert-zero}
+use Rattle.year.specs.Limits.{zone-below, product-below}
+use Rattle.year.specs.Year.{pastTest, listed, reduction, deficit}
+use Rattle.cells.specs.Layout.{flag, placeIn, entryAt, yearIn, Held}
+use Rattle.cells.specs.Regions.{test-in}
+use Rattle.owed.specs.Facts.{Facts}
+use Rattle.owed.specs.Owed.{D, raised, unforced, ofSeller, called, shortfallOver, testShortfall, B, testOf}
+use Rattle.owed.specs.Owed as owed
+use Rattle.owed_laws.specs.Limits.{limits}
+use Rattle.looks.specs.Looks.{facts}
+use Rattle.table.specs.Places.{calledRow, placeRow}
+use Rattle.table.specs.Rows.{Row, mark}
+use Rattle.table.specs.Columns.{Columns}
+use Rattle.testing.specs.declared.sums.Entry.{Entry}
+
+-- a test that is asked the other way round
+pub unless : (b : Bool) {t : Bool} → not b ≡ t → b ≡ not t
+unless true e = ap not e
+unless false e = ap not e
+
+module _ (c : List ℕ) where
+  -- what a look at registration i's entry returns
+  abbrev pub lookAt : ℕ → Entry
+  lookAt i = record { listed = flag (at c (3255 + i)); reduction = record { 0 = at c (3255 + (64 + i)) } }
+
+  -- does it stand: is it listed, and its registration by no event
+  unfoldable pub stands : ℕ → Bool
+  stands i = lookAt i .listed && not (called (facts c) i)
+
+  -- is the test at a place taken
+  abbrev pub takenAt : ℕ → Bool
+  takenAt p = getD (yearIn c .tests) p pastTest .taken
+
+  -- what the passes read of the working table
+  pub record Ready (w : List ℕ) : Type 0 where
+    pub columns : Columns (facts c) w
+    pub called : Row w calledRow 64 (λ i. mark (called (facts c) i))
+    pub place : Row w placeRow 64 (placeIn c)
+
+  pub stands-off : (i : ℕ) → lookAt i .listed ≡ false → false ≡ stands i
+  unfolding stands
+  stands-off i e = rw e
+
+  pub stands-on : (i : ℕ) {x : ℕ} → lookAt i .listed ≡ true → x ≡ mark (called (facts c) i) → eqb x 0 ≡ stands i
+  unfolding stands
+  stands-on i e f = rw (e, f) (go (called (facts c) i))
+    where
+      go : (b : Bool) → eqb (mark b) 0 ≡ not b
+      go true = refl
+      go false = refl
+
+  -- the facts of the test at place p
+  module _ {p : ℕ} (l : p < 24) where
+    pub tested-in : {i : ℕ} → i < 64 → facts c .tested p i ≡ (lookAt i .listed && eqb (placeIn c i) p)
+    unfolding listed
+    tested-in {i} m = rw (test-in c pastTest l) (getD-tabulate (entryAt (placeIn c) (λ k. at c (3255 + k)) p) 64 i false m)
+
+    pub reduction-in : {i : ℕ} → i < 64 → facts c .testReduction p i ≡ cond (lookAt i .listed && eqb (placeIn c i) p) (lookAt i .reduction .0) 0
+    unfolding reduction
+    reduction-in {i} m =
+        rw (test-in c pastTest l)
+        (getD-tabulate (λ i. cond (entryAt (placeIn c) (λ k. at c (3255 + k)) p i) (at c (3255 + (64 + i))) 0) 64 i 0 m)
+
+    pub deficit-in : {s : ℕ} → s < 16 → facts c .testDeficit p s ≡ at c (2823 + 18 * p + (2 + s))
+    unfolding deficit
+    deficit-in {s} m = rw (test-in c pastTest l) (getD-tabulate (λ j. at c (2823 + 18 * p + (2 + j))) 16 s 0 m)
+
+    -- a test that was not taken charges nothing
+    module _ (h : Held c) (off : takenAt p ≡ false) where
+      none-stands : (s : ℕ) (f : ℕ → ℕ) → ofSeller (facts c) s (only (owed.stands (facts c) p) f) ≡ 0
+      unfolding ofSeller
+      none-stands s f =
+          sum-zero 64 (λ i m. go (eqb (facts c .seller i) s) (not (called (facts c) i)) (f i) (h .sound .tests p l .untaken off i m))
+        where
+          go : (a d : Bool) (x : ℕ) {t : Bool} → t ≡ false → cond a (cond (t && d) x 0) 0 ≡ 0
+          go true d x e = rw e
+          go false d x e = refl
+
+      none-short : (s : ℕ) → testShortfall (facts c) p s ≡ 0
+      unfolding shortfallOver unforced
+      none-short s =
+          let F = facts c in
+          let net : ofSeller F s (only (owed.stands F p) (F .committed)) - ofSeller F s (only (owed.stands F p) (F .testReduction p)) ≡ 0 = omega (arith, none-stands s (F .committed)) in
+          rw (net, convert-zero (F .factor) (F .requirement)) (zero-sub (F .testDeficit p s))
+
+      pub untaken : (k s : ℕ) → testOf (facts c) k p s ≡ 0
+      unfolding testOf
+      untaken k s = rw (none-short s, zero-mul (raised (B (facts c) p s)), zero-mul (D (facts c) k))
+
+-- places without a test leave the charges as they are
+module _ {c : List ℕ} (h : Held c) (k s : ℕ) where
+  pub untaken-step : {p : ℕ} → p < 24 → takenAt c p ≡ false → sumTo p (λ p. testOf (facts c) k p s) ≡ sumTo (p + 1) (λ p. testOf (facts c) k p s)
+  untaken-step {p} l off = omega (arith, sum-step p (λ p. testOf (facts c) k p s), untaken c l h off k s)
+
+  pub none-taken : anyTo 24 (takenAt c) ≡ false → 0 ≡ owed.test (facts c) k s
+  unfolding owed.test
+  none-taken e = sym (sum-zero 24 (λ p l. untaken c l h (none-at 24 (takenAt c) e p l) k s))
+
+-- within limits
+module _ {c : List ℕ} (h : Held c) (i : ℕ) where
+  pub place-below : placeIn c i < 24
+  unfolding placeIn
+  place-below = omega (arith, zone-below (h .sound .terms) i, product-below (h .sound .terms) i)
+
+  listed-le : i < 64 → lookAt c i .listed ≡ true → lookAt c i .reduction .0 ≤ 100000
+  listed-le m on =
+      let p = placeIn c i in
+      let whole : (lookAt c i .listed && eqb p p) ≡ true = rw on (eq-eqb p p refl) in
+      rw (cond-true 0 whole refl ∙ sym (reduction-in c place-below m)) (limits (h .sound) .testReduction p i)
+
+  pub reduction-le : i < 64 → only (stands c) (λ j. lookAt c j .reduction .0) i ≤ 100000
+  unfolding stands
+  reduction-le m = go (lookAt c i .listed) (not (called (facts c) i)) (listed-le m)
+    where
+      go : (t d : Bool) {x : ℕ} → (t ≡ true → x ≤ 100000) → cond (t && d) x 0 ≤ 100000
+      go true d f = cond-le d (f refl)
+      go false d f = omega arith
+
+  pub standing-le : i < 64 → stands c i ≡ true → lookAt c i .reduction .0 ≤ 100000
+  standing-le m on = rw on at (reduction-le m)

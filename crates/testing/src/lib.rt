@@ -1,0 +1,124 @@
+// What the tests of a year charge each seller: two passes over their entries, which are one table by registration.
+mod sums;
+
+ghost use mathlib.Core.Path.{_≡_};
+ghost use Prim.Native.Nat.{_+_, _*_, _/_, _≤_, _<_};
+ghost use lib.ListN.{length};
+ghost use Rattle.ids.specs.Ids.{sumTo, anyTo};
+ghost use Rattle.cells.specs.Layout.{Held};
+ghost use Rattle.owed.specs.Owed.{testShortfall, B, raised, testOf, test};
+ghost use Rattle.looks.specs.Looks.{facts};
+ghost use Rattle.table.specs.Places.{size, testRow};
+ghost use Rattle.table.specs.Rows.{Aside, Row, none};
+ghost use Rattle.testing.specs.Entries.{takenAt, Ready};
+ghost use Rattle.testing.specs.Sums.{Summed};
+use cells::Cells;
+use sums::Sums;
+use sums::sum_up;
+use table::Work;
+use units::Nominated;
+use units::Unforced;
+
+// Where a test's deficits stand in its row (cells/specs/Layout.antt).
+const DEFICITS: usize = 2;
+
+// A seller's deficit in the test at a place, 0 where it is absent.
+fn deficit_of(year: &Cells, place: usize, s: usize) -> Unforced
+    requires { ⌜ Held (now year) ⌝ }
+    requires { ⌜ (place < 24) × (s < 16) ⌝ }
+    ensures { λ r. ⌜ r .0 ≡ facts (now (year .entry)) .testDeficit place s ⌝ }
+{
+    let p = cells::TESTS + cells::TEST * place;
+    Unforced::sum(year[p + (DEFICITS + s)])
+}
+
+// The rate of a test: the average by committed kilowatts, a fifth more and at least 2,000 more.
+fn rate_of(worth: u64, committed: Nominated) -> u64
+    requires { ⌜ worth ≤ committed .0 * 100000 ⌝ }
+    ensures { λ r. ⌜ r ≡ raised (worth / committed .0) ⌝ }
+{
+    let kw = committed.0;
+    if kw == 0 {
+        return 2000;
+    }
+    let base = worth / kw;
+    let fifth = base / 5;
+    if fifth < 2000 {
+        base + 2000
+    } else {
+        base + fifth
+    }
+}
+
+// A seller's charge of the test at a place: its shortfall at the test's rate, and the days before the rounding.
+fn charge_of(year: &Cells, sums: &Sums, place: usize, s: usize, days: u64) -> u64
+    requires { ⌜ Held (now year) ⌝ }
+    requires { ⌜ Summed (now year) (now sums) ⌝ }
+    requires { ⌜ (place < 24) × (s < 16) × (days ≤ 366) ⌝ }
+    ensures { λ r. ⌜ r ≡ testShortfall (facts (now (year .entry))) place s * raised (B (facts (now (year .entry))) place s) * days / 1000 ⌝ }
+{
+    let key = 16 * place + s;
+    let committed = Nominated::sum(sums[sums::COMMITTED + key]);
+    let reduction = Nominated::sum(sums[sums::REDUCTION + key]);
+    let net = committed.less(reduction);
+    let all = looks::unforced(year, net);
+    let deficit = deficit_of(year, place, s);
+    let shortfall = all.less(deficit);
+    let rate = rate_of(sums[sums::WORTH + key], committed);
+    shortfall.0 * rate * days / 1000
+}
+
+// The charges of the test at a place, with those of the places before it.
+fn charge_place(year: &Cells, work: &mut Work, sums: &Sums, place: usize, k: u64)
+    requires { ⌜ Held (now year) ⌝ }
+    requires { ⌜ Summed (now year) (now sums) ⌝ }
+    requires { ⌜ Row (now work) testRow 16 (λ s. sumTo place (λ p. testOf (facts (now year)) k p s)) ⌝ }
+    requires { ⌜ (length (now work) ≡ size) × (place < 24) × (1 ≤ k) × (k ≤ 15) ⌝ }
+    ensures charged { λ _. ⌜ Row (now (work .exit)) testRow 16 (λ s. sumTo (place + 1) (λ p. testOf (facts (now (year .entry))) k p s)) ⌝ }
+    ensures aside { λ _. ⌜ Aside testRow 16 (now (work .entry)) (now (work .exit)) ⌝ }
+{
+    let days = looks::days_to(year, k);
+    let mut s: usize = 0;
+    while s < 16 {
+        let charge = charge_of(year, sums, place, s, days);
+        table::add_at(work, table::TEST + s, charge);
+        s += 1;
+    }
+}
+
+// Is any test taken?
+fn any_taken(year: &Cells) -> bool
+    ensures { λ r. ⌜ r ≡ anyTo 24 (takenAt (now (year .entry))) ⌝ }
+{
+    let mut place: usize = 0;
+    while place < 24 {
+        if cells::test_taken(year, place) {
+            return true;
+        }
+        place += 1;
+    }
+    false
+}
+
+// The test charges to date of each seller. A place without a test costs nothing.
+pub fn charge_tests(year: &Cells, work: &mut Work, k: u64)
+    requires { ⌜ Held (now year) ⌝ }
+    requires { ⌜ Ready (now year) (now work) ⌝ }
+    requires { ⌜ Row (now work) testRow 16 none ⌝ }
+    requires { ⌜ (1 ≤ k) × (k ≤ 15) ⌝ }
+    ensures charged { λ _. ⌜ Row (now (work .exit)) testRow 16 (test (facts (now (year .entry))) k) ⌝ }
+    ensures aside { λ _. ⌜ Aside testRow 16 (now (work .entry)) (now (work .exit)) ⌝ }
+{
+    if !any_taken(year) {
+        return;
+    }
+    let mut sums = [0u64; 1152];
+    sum_up(year, work, &mut sums);
+    let mut place: usize = 0;
+    while place < 24 {
+        if cells::test_taken(year, place) {
+            charge_place(year, work, &sums, place, k);
+        }
+        place += 1;
+    }
+}

@@ -1,2 +1,0 @@
--- From arrays to the rules: one test, and all of them.
-pub mod Test

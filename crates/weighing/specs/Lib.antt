@@ -1,0 +1,2 @@
+-- Pass 2: sums by seller, and shortfalls and excesses from them.
+pub mod Weighing

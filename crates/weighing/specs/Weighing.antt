@@ -1,0 +1,166 @@
+-- Pass 2: sums by seller entry by entry, then shortfalls and excesses seller by seller.
+use Prim.Native.Nat.{ℕ, _+_, _-_, _≤_, _<_}
+use mathlib.Core.Path.{_≡_, refl, sym, _∙_}
+use mathlib.Core.Bool.{true, false}
+use mathlib.Core.List.{List}
+use native.Mathlib.Omega.{arith}
+use lib.ListN.{length}
+use Rattle.ids.specs.Ids.{at}
+use Rattle.abreast.specs.Abreast.{Abreast, abreast-first}
+use Rattle.owed.specs.Facts.{Facts}
+use Rattle.owed.specs.Owed as owed
+use Rattle.owed.specs.Owed.{ofSeller, unforced, shortfallOver, excess}
+use Rattle.owed_laws.specs.Limits.{Limits}
+use Rattle.owed_laws.specs.Sellers.{ofSeller-le, net-is, excess-is}
+use Rattle.owed_laws.specs.Bounds.{lack-le, more-le}
+use Rattle.table.specs.Columns.{Columns, columns-kept}
+use Rattle.table.specs.Places.{size, sellerRow, committedRow, lackRow, moreRow, uRow}
+use Rattle.table.specs.Rows.{Stored, Aside, Row, Grown, none, aside-none, aside-more, row-kept, row-same, row-within, row-first, row-more, grown-first, grown-kept, grown-none, grown-more, grown-all, grown-most}
+
+-- the sums of an event's entries, and nothing allotted yet
+pub record Weighed (F : Facts) (ev : ℕ) (w : List ℕ) : Type 0 where
+  pub long : length w ≡ size
+  pub lack : Row w lackRow 16 (λ s. ofSeller F s (owed.lack F ev))
+  pub more : Row w moreRow 16 (λ s. ofSeller F s (owed.more F ev))
+  pub freshLack : Row w (lackRow + 32) 32 none
+  pub freshMore : Row w (moreRow + 32) 32 none
+
+-- before entry i; w₀ is the table before the pass
+pub record Weighing (F : Facts) (ev i : ℕ) (w₀ w : List ℕ) : Type 0 where
+  pub upto : i ≤ 64
+  pub columns : Columns F w
+  pub aside : Aside lackRow 128 w₀ w
+  pub lack : Grown w lackRow 16 none (F .seller) (owed.lack F ev) i
+  pub more : Grown w moreRow 16 none (F .seller) (owed.more F ev) i
+  pub freshLack : Row w (lackRow + 32) 32 none
+  pub freshMore : Row w (moreRow + 32) 32 none
+
+pub weighing-first : {F : Facts} (ev : ℕ) {w : List ℕ} → Columns F w → Row w lackRow 128 none → Weighing F ev 0 w w
+weighing-first {F} ev h r =
+    record {
+      upto = omega arith;
+      columns = h;
+      aside = aside-none;
+      lack = grown-first (F .seller) (owed.lack F ev) (row-within lackRow 16 r (omega arith) (omega arith));
+      more = grown-first (F .seller) (owed.more F ev) (row-within moreRow 16 r (omega arith) (omega arith));
+      freshLack = row-within (lackRow + 32) 32 r (omega arith) (omega arith);
+      freshMore = row-within (moreRow + 32) 32 r (omega arith) (omega arith);
+    }
+
+module _ {F : Facts} {ev i : ℕ} {w₀ w : List ℕ} (h : Weighing F ev i w₀ w) where
+  pub weighing-none : i < 64 → F .listed ev i ≡ false → Weighing F ev (i + 1) w₀ w
+  weighing-none l z =
+      record {
+        upto = omega arith;
+        columns = h .columns;
+        aside = h .aside;
+        lack = grown-none (h .lack) (rw z);
+        more = grown-none (h .more) (rw z);
+        freshLack = h .freshLack;
+        freshMore = h .freshMore;
+      }
+
+  -- an entry's seller and committed kilowatts in the table, and room for one more
+  pub committed-is : i < 64 → at w (committedRow + i) ≡ F .committed i
+  committed-is l = h .columns .committed .is i l
+
+  module _ (L : Limits F) where
+    pub seller-below : i < 64 → at w (sellerRow + i) < 16
+    seller-below l = omega (arith, h .columns .seller .is i l, L .seller i)
+
+    pub lack-room : (s : ℕ) → s < 16 → at w (lackRow + s) ≤ 6400000
+    lack-room s q = grown-most (h .lack) 0 100000 (h .upto) (λ j a. omega arith) (λ j a. lack-le L ev j) s q
+
+    pub more-room : (s : ℕ) → s < 16 → at w (moreRow + s) ≤ 6400000
+    more-room s q = grown-most (h .more) 0 100000 (h .upto) (λ j a. omega arith) (λ j a. more-le L ev j) s q
+
+  -- a listed entry
+  module _ {a b : ℕ} {m y : List ℕ} (on : F .listed ev i ≡ true) where
+    weighing-own : F .seller i < 16 → Stored (lackRow + F .seller i) (at w (lackRow + F .seller i) + a) w m → a ≡ F .committed i - F .reduction ev i
+        → Stored (moreRow + F .seller i) (at m (moreRow + F .seller i) + b) m y → b ≡ F .reduction ev i - F .committed i → i < 64 → Weighing F ev (i + 1) w₀ y
+    weighing-own l s1 d1 s2 d2 u =
+        record {
+          upto = omega arith;
+          columns = columns-kept (columns-kept (h .columns) s1 (omega arith)) s2 (omega arith);
+          aside = aside-more (aside-more (h .aside) s1 (omega arith) (omega arith)) s2 (omega arith) (omega arith);
+          lack = grown-kept (grown-more (h .lack) s1 l refl (d1 ∙ rw on)) s2 (λ p q. omega arith);
+          more = grown-more (grown-kept (h .more) s1 (λ p q. omega arith)) s2 l refl (d2 ∙ rw on);
+          freshLack = row-kept (row-kept (h .freshLack) s1 (λ p q. omega arith)) s2 (λ p q. omega arith);
+          freshMore = row-kept (row-kept (h .freshMore) s1 (λ p q. omega arith)) s2 (λ p q. omega arith);
+        }
+
+    pub weighing-more : {s : ℕ} → s ≡ F .seller i → s < 16 → i < 64 → Stored (lackRow + s) (at w (lackRow + s) + a) w m → a ≡ F .committed i - F .reduction ev i
+        → Stored (moreRow + s) (at m (moreRow + s) + b) m y → b ≡ F .reduction ev i - F .committed i → Weighing F ev (i + 1) w₀ y
+    weighing-more q l u s1 d1 s2 d2 = weighing-own (rw q at l) (rw q at s1) d1 (rw q at s2) d2 u
+
+  pub weighing-all : i ≡ 64 → Weighed F ev w
+  unfolding ofSeller
+  weighing-all q =
+      record {
+        long = h .columns .long;
+        lack = row-same (grown-all (rw q at (h .lack))) (λ j m. omega arith);
+        more = row-same (grown-all (rw q at (h .more))) (λ j m. omega arith);
+        freshLack = h .freshLack;
+        freshMore = h .freshMore;
+      }
+
+-- the shortfalls and excesses of the first s sellers
+pub record Netted (F : Facts) (ev s : ℕ) (w : List ℕ) : Type 0 where
+  pub upto : s ≤ 16
+  pub weighed : Weighed F ev w
+  pub shortfall : Row w (lackRow + 16) s (owed.shortfall F ev)
+  pub excess : Row w (moreRow + 16) s (owed.excess F ev)
+
+pub netted-first : {F : Facts} {ev : ℕ} {w : List ℕ} → Weighed F ev w → Netted F ev 0 w
+netted-first {F} {ev} {w} h =
+    record { upto = omega arith; weighed = h; shortfall = row-first w (lackRow + 16) (owed.shortfall F ev); excess = row-first w (moreRow + 16) (owed.excess F ev) }
+
+module _ {F : Facts} {ev s : ℕ} {w : List ℕ} (h : Netted F ev s w) where
+  -- the sums are a seller's
+  module _ (L : Limits F) (l : s < 16) where
+    pub lack-most : at w (lackRow + s) ≤ 6400000
+    lack-most = rw (h .weighed .lack .is s l) (ofSeller-le F s 100000 (lack-le L ev))
+
+    pub more-most : at w (moreRow + s) ≤ 6400000
+    more-most = rw (h .weighed .more .is s l) (ofSeller-le F s 100000 (more-le L ev))
+
+  module _ {lack more : ℕ} (l : s < 16) (p : lack ≡ at w (lackRow + s)) (q : more ≡ at w (moreRow + s)) where
+    shortfall-is : {net : ℕ} → net ≡ unforced F (lack - more) → net - F .deficit ev s ≡ owed.shortfall F ev s
+    unfolding shortfallOver
+    shortfall-is e = rw (e, p, q, h .weighed .lack .is s l, h .weighed .more .is s l, ← (net-is F s ev))
+
+    excess-of : more - lack ≡ owed.excess F ev s
+    excess-of = rw (p, q, h .weighed .lack .is s l, h .weighed .more .is s l) (sym (excess-is F s ev))
+
+    pub netted-more : {net a b : ℕ} {m v : List ℕ} → net ≡ unforced F (lack - more) → a ≡ net - F .deficit ev s → b ≡ more - lack
+        → Stored (lackRow + (16 + s)) a w m → Stored (moreRow + (16 + s)) b m v → Netted F ev (s + 1) v
+    netted-more e f g s1 s2 =
+        record {
+          upto = omega arith;
+          weighed = record {
+            long = s2 .long ∙ s1 .long ∙ h .weighed .long;
+            lack = row-kept (row-kept (h .weighed .lack) s1 (λ x y. omega arith)) s2 (λ x y. omega arith);
+            more = row-kept (row-kept (h .weighed .more) s1 (λ x y. omega arith)) s2 (λ x y. omega arith);
+            freshLack = row-kept (row-kept (h .weighed .freshLack) s1 (λ x y. omega arith)) s2 (λ x y. omega arith);
+            freshMore = row-kept (row-kept (h .weighed .freshMore) s1 (λ x y. omega arith)) s2 (λ x y. omega arith);
+          };
+          shortfall = row-kept (row-more (h .shortfall) (at-row lackRow s1) (f ∙ shortfall-is e)) s2 (λ x y. omega arith);
+          excess = row-more (row-kept (h .excess) s1 (λ x y. omega arith)) (at-row moreRow s2) (g ∙ excess-of);
+        }
+      where
+        at-row : (r : ℕ) {x : ℕ} {y z : List ℕ} → Stored (r + (16 + s)) x y z → Stored (r + 16 + s) x y z
+        at-row r t = let k : r + 16 + s ≡ r + (16 + s) = omega arith in rw k t
+
+-- both allotments may begin; u, e and the marks of the entries are still 0
+pub record Ready (F : Facts) (ev : ℕ) (w : List ℕ) : Type 0 where
+  pub lack : Abreast F (owed.lack F ev) (owed.shortfall F ev) lackRow 0 w
+  pub more : Abreast F (owed.more F ev) (owed.excess F ev) moreRow 0 w
+  pub fresh : Row w uRow 192 none
+
+pub netted-all : {F : Facts} {ev : ℕ} {w : List ℕ} → Netted F ev 16 w → Row w uRow 192 none → Ready F ev w
+netted-all h z =
+    record {
+      lack = abreast-first (h .weighed .lack) (h .shortfall) (h .weighed .freshLack);
+      more = abreast-first (h .weighed .more) (h .excess) (h .weighed .freshMore);
+      fresh = z;
+    }

@@ -1,0 +1,72 @@
+// Pass 2 over an event's entries: what each seller's entries lack and give more, and its shortfall and excess from these.
+ghost use Prim.Native.Nat.{_<_};
+ghost use Rattle.cells.specs.Layout.{Held};
+ghost use Rattle.looks.specs.Looks.{facts};
+ghost use Rattle.table.specs.Columns.{Columns};
+ghost use Rattle.table.specs.Places.{lackRow};
+ghost use Rattle.table.specs.Rows.{Aside, Row, none};
+ghost use Rattle.weighing.specs.Weighing.{Weighed, Netted, Ready};
+use cells::Cells;
+use table::Work;
+use units::Nominated;
+
+// What each seller's entries lack, and what they give more.
+fn sums(year: &Cells, work: &mut Work, ev: usize)
+    requires { ⌜ Held (now year) ⌝ }
+    requires { ⌜ ev < 16 ⌝ }
+    requires { ⌜ Columns (facts (now year)) (now work) ⌝ }
+    requires { ⌜ Row (now work) lackRow 128 none ⌝ }
+    ensures weighed { λ _. ⌜ Weighed (facts (now (year .entry))) ev (now (work .exit)) ⌝ }
+    ensures aside { λ _. ⌜ Aside lackRow 128 (now (work .entry)) (now (work .exit)) ⌝ }
+{
+    let mut i: usize = 0;
+    while i < 64 {
+        let x = looks::look(year, ev, i);
+        if x.listed {
+            let s = work[table::SELLER + i] as usize;
+            let committed = Nominated::new(work[table::COMMITTED + i]);
+            let reduction = x.reduction;
+            let lack = committed.less(reduction);
+            let more = reduction.less(committed);
+            table::add_at(work, table::LACK + s, lack.0);
+            table::add_at(work, table::MORE + s, more.0);
+        }
+        i += 1;
+    }
+}
+
+// Each seller's net, and from it its shortfall and its excess.
+fn nets(year: &Cells, work: &mut Work, ev: usize)
+    requires { ⌜ Held (now year) ⌝ }
+    requires { ⌜ ev < 16 ⌝ }
+    requires { ⌜ Weighed (facts (now year)) ev (now work) ⌝ }
+    ensures netted { λ _. ⌜ Netted (facts (now (year .entry))) ev 16 (now (work .exit)) ⌝ }
+    ensures aside { λ _. ⌜ Aside lackRow 128 (now (work .entry)) (now (work .exit)) ⌝ }
+{
+    let mut s: usize = 0;
+    while s < 16 {
+        let lack = Nominated::sum(work[table::LACK + s]);
+        let more = Nominated::sum(work[table::MORE + s]);
+        let net = lack.less(more);
+        let converted = looks::unforced(year, net);
+        let deficit = looks::deficit_of(year, ev, s);
+        let shortfall = converted.less(deficit);
+        let excess = more.less(lack);
+        table::put(work, table::LACK + (abreast::AMOUNT + s), shortfall.0);
+        table::put(work, table::MORE + (abreast::AMOUNT + s), excess.0);
+        s += 1;
+    }
+}
+
+// The shortfalls and the excesses, ready to be allotted; u, e and the marks of the event's entries are still to come.
+pub fn weigh(year: &Cells, work: &mut Work, ev: usize)
+    requires { ⌜ Held (now year) ⌝ }
+    requires { ⌜ ev < 16 ⌝ }
+    requires { ⌜ Columns (facts (now year)) (now work) ⌝ }
+    ensures ready { λ _. ⌜ Ready (facts (now (year .entry))) ev (now (work .exit)) ⌝ }
+    ensures aside { λ _. ⌜ Aside lackRow 320 (now (work .entry)) (now (work .exit)) ⌝ }
+{
+    table::clear(work, table::LACK, table::EVENT);
+    sums(year, work, ev);
+    nets(year, work, ev);
+}

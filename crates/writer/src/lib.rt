@@ -1,0 +1,101 @@
+// A writer by value: it writes fields one right after another from the first bit on, and holds back the bits of a byte that is not whole yet.
+ghost use mathlib.Core.Path.{_≡_};
+ghost use Prim.Native.Nat.{_+_, _*_, _^_, _≤_, _<_};
+ghost use lib.Dec.{T};
+ghost use lib.ListN.{length};
+ghost use Rattle.bits.specs.Table.{total, times, narrow, Valid};
+ghost use Rattle.writer.specs.Written.{writtenBits, joined, Ready, Wrote, Finished};
+
+// The next byte, and the bits held back for it: how many, and the number that they spell.
+pub struct Writer {
+    pub at: usize,
+    pub held: usize,
+    pub rest: u64,
+}
+
+impl Writer {
+    pub fn new() -> Writer
+        ensures { λ r. ⌜ (r .at ≡ 0) × (r .held ≡ 0) × (r .rest ≡ 0) ⌝ }
+    {
+        Writer {
+            at: 0,
+            held: 0,
+            rest: 0,
+        }
+    }
+
+    // The value in the next width bits: the bytes that are whole now go out.
+    pub fn put(self, bytes: &mut [u8], width: usize, value: u64) -> Writer
+        requires { ⌜ Ready self ⌝ }
+        requires { ⌜ width ≤ 42 ⌝ }
+        requires { ⌜ value < 2 ^ width ⌝ }
+        requires { ⌜ writtenBits self + width ≤ 8 * length (now bytes) ⌝ }
+        ensures { λ r. ⌜ Wrote (now (bytes .entry)) (now (bytes .exit)) self r width value ⌝ }
+    {
+        let word = (self.rest << width) | value;
+        let mut at = self.at;
+        let mut left = self.held + width;
+        while 8 <= left {
+            left -= 8;
+            bytes[at] = ((word >> left) & 255) as u8;
+            at += 1;
+        }
+        Writer {
+            at: at,
+            held: left,
+            rest: word & ((1u64 << left) - 1),
+        }
+    }
+
+    // The values in fields of these widths.
+    pub fn put_all(self, bytes: &mut [u8], widths: &[u8], values: &[u64]) -> Writer
+        requires { ⌜ Ready self ⌝ }
+        requires { ⌜ T (narrow (now widths)) ⌝ }
+        requires { ⌜ length (now values) ≡ length (now widths) ⌝ }
+        requires { ⌜ Valid (now widths) (now values) ⌝ }
+        requires { ⌜ writtenBits self + total (now widths) ≤ 8 * length (now bytes) ⌝ }
+        ensures { λ r. ⌜ Wrote (now (bytes .entry)) (now (bytes .exit)) self r (total (now (widths .entry))) (joined (now (widths .entry)) (now (values .entry))) ⌝ }
+    {
+        let mut p = self;
+        let mut i = 0;
+        while i < widths.len() {
+            let w = widths[i] as usize;
+            p = p.put(bytes, w, values[i]);
+            i += 1;
+        }
+        p
+    }
+
+    // The values in n items, each with fields of these widths.
+    pub fn put_items(self, bytes: &mut [u8], widths: &[u8], n: usize, values: &[u64]) -> Writer
+        requires { ⌜ Ready self ⌝ }
+        requires { ⌜ T (narrow (now widths)) ⌝ }
+        requires { ⌜ length (now values) ≡ length (times n (now widths)) ⌝ }
+        requires { ⌜ Valid (times n (now widths)) (now values) ⌝ }
+        requires { ⌜ writtenBits self + total (times n (now widths)) ≤ 8 * length (now bytes) ⌝ }
+        ensures { λ r. ⌜ Wrote (now (bytes .entry)) (now (bytes .exit)) self r (total (times n (now (widths .entry)))) (joined (times n (now (widths .entry))) (now (values .entry))) ⌝ }
+    {
+        let mut p = self;
+        let mut i = 0;
+        let mut k = 0;
+        while k < n {
+            let end = i + widths.len();
+            p = p.put_all(bytes, widths, &values[i..end]);
+            i = end;
+            k += 1;
+        }
+        p
+    }
+
+    // Zero bits up to the end of the byte; how many bytes are written.
+    pub fn finish(self, bytes: &mut [u8]) -> usize
+        requires { ⌜ Ready self ⌝ }
+        requires { ⌜ writtenBits self ≤ 8 * length (now bytes) ⌝ }
+        ensures { λ r. ⌜ Finished (now (bytes .entry)) (now (bytes .exit)) self r ⌝ }
+    {
+        if self.held == 0 {
+            return self.at;
+        }
+        self.put(bytes, 8 - self.held, 0).at
+    }
+}
