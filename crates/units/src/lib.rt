@@ -13,12 +13,16 @@ impl Nominated {
     // The most of one registration.
     pub const LIMIT: u64 = 100_000;
 
-    // The kilowatts of one registration.
+    // The kilowatts of one registration, never more than its limit.
     pub fn new(kw: u64) -> Nominated
         requires { ⌜ kw ≤ nominatedLimit ⌝ }
         ensures { λ r. ⌜ r .0 ≡ kw ⌝ }
     {
-        Nominated(kw)
+        if Nominated::LIMIT < kw {
+            Nominated(Nominated::LIMIT)
+        } else {
+            Nominated(kw)
+        }
     }
 
     // The kilowatts of a seller: a sum over its registrations.
@@ -53,12 +57,16 @@ impl Unforced {
     // The most of one registration.
     pub const LIMIT: u64 = 144_000;
 
-    // The kilowatts of a seller: a sum over its registrations, or its deficit.
+    // The kilowatts of a seller: a sum over its registrations, or its deficit, never more than 64 registrations' limit.
     pub fn sum(kw: u64) -> Unforced
         requires { ⌜ kw ≤ most * unforcedLimit ⌝ }
         ensures { λ r. ⌜ r .0 ≡ kw ⌝ }
     {
-        Unforced(kw)
+        if 64 * Unforced::LIMIT < kw {
+            Unforced(64 * Unforced::LIMIT)
+        } else {
+            Unforced(kw)
+        }
     }
 
     // What is left of these kilowatts, at least 0.
