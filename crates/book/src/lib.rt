@@ -67,9 +67,9 @@ fn close(year: &mut Cells, month: u64, buffer: &mut [u8]) -> usize
     let owed = settlement::amounts_of(year, month);
     let terms = snapshot::terms_of(year);
     let billed = snapshot::billed_of(year);
-    issue::write_statement(terms, month, owed, billed, buffer);
+    let written = issue::write_statement(terms, month, owed, billed, buffer);
     steps::close(year, owed);
-    statement::size_of(terms)
+    written
 }
 
 // Changes the year by an accepted record; a close leaves its statement in the buffer. Answers the statement's bytes.

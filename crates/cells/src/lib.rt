@@ -19,6 +19,12 @@ pub const HELD: usize = 2;
 
 pub const OPENED: usize = 3;
 
+pub const LEAP: usize = 4;
+
+pub const FACTOR: usize = 5;
+
+pub const REQUIREMENT: usize = 6;
+
 pub const REGISTRATIONS: usize = 7;
 
 pub const OBLIGATIONS: usize = 455;
@@ -39,6 +45,20 @@ pub const REGISTRATION: usize = 7;
 pub const EVENT: usize = 147;
 
 pub const TEST: usize = 18;
+
+// In an event's row: its month and period, and its listing's marks, reductions and deficits.
+pub const MONTH: usize = 1;
+
+pub const PERIOD: usize = 2;
+
+pub const LISTED: usize = 3;
+
+pub const REDUCTIONS: usize = 67;
+
+pub const DEFICITS: usize = 131;
+
+// In a test's row: its deficits.
+pub const TEST_DEFICITS: usize = 2;
 
 // Lays a row into the cells: the only loop that writes them.
 pub fn lay(year: &mut Cells, place: usize, row: &[u64])
@@ -119,7 +139,7 @@ pub fn listed_in(year: &Cells, e: usize, i: usize) -> bool
     ensures { λ r. ⌜ r ≡ listed (getD (yearIn (now (year .entry)) .events) e pastEvent .listing) i ⌝ }
 {
     let p = EVENTS + EVENT * e;
-    year[p + (3 + i)] != 0
+    year[p + (LISTED + i)] != 0
 }
 
 // Is the test of a place taken?

@@ -113,18 +113,25 @@ fn put_parties(
     put_lines(lines, bytes, lses, 1, &owed.lse, &billed.lse)
 }
 
-// The statement's bits, at the start of a buffer that has room for the largest.
-pub fn write_statement(terms: Terms, month: u64, owed: Amounts, billed: Amounts, bytes: &mut [u8])
+// The statement's bits, at the start of a buffer that has room for the largest; how many bytes they take.
+pub fn write_statement(
+    terms: Terms,
+    month: u64,
+    owed: Amounts,
+    billed: Amounts,
+    bytes: &mut [u8],
+) -> usize
     requires { ⌜ SoundTerms terms ⌝ }
     requires { ⌜ month ≤ 15 ⌝ }
     requires { ⌜ SoundAmounts owed ⌝ }
     requires { ⌜ SoundAmounts billed ⌝ }
     requires { ⌜ 354 ≤ length (now bytes) ⌝ }
-    ensures { λ r. ⌜ now (bytes .exit) ≡ (let s = statementOf terms month owed billed in s ++ drop (length s) (now (bytes .entry))) ⌝ }
+    ensures leaves { λ r. ⌜ now (bytes .exit) ≡ (let s = statementOf terms month owed billed in s ++ drop (length s) (now (bytes .entry))) ⌝ }
+    ensures writes { λ r. ⌜ r ≡ length (statementOf terms month owed billed) ⌝ }
 {
     let sellers = present(terms);
     let lses = obliged(terms);
     let front = [month, count(sellers), count(lses)];
     let w = Writer::new().put_all(bytes, &[4, 5, 5], &front);
-    put_parties(w, bytes, sellers, lses, owed, billed).finish(bytes);
+    put_parties(w, bytes, sellers, lses, owed, billed).finish(bytes)
 }

@@ -13,21 +13,6 @@ pub struct Entry {
     pub reduction: Nominated,
 }
 
-// Where the opening's numbers stand, and an event's in its row (cells/specs/Layout.antt).
-const LEAP: usize = 4;
-
-const FACTOR: usize = 5;
-
-const REQUIREMENT: usize = 6;
-
-const MONTH: usize = 1;
-
-const PERIOD: usize = 2;
-
-const REDUCTIONS: usize = 67;
-
-const DEFICITS: usize = 131;
-
 // One look at an entry: nothing else reads one.
 pub fn look(year: &Cells, ev: usize, i: usize) -> Entry
     requires { ⌜ ev < 16 ⌝ }
@@ -36,7 +21,7 @@ pub fn look(year: &Cells, ev: usize, i: usize) -> Entry
 {
     let listed = cells::listed_in(year, ev, i);
     let p = cells::EVENTS + cells::EVENT * ev;
-    let reduction = Nominated(year[p + (REDUCTIONS + i)]);
+    let reduction = Nominated(year[p + (cells::REDUCTIONS + i)]);
     Entry { listed, reduction }
 }
 
@@ -45,7 +30,7 @@ pub fn month_of(year: &Cells, ev: usize) -> u64
     ensures { λ r. ⌜ r ≡ facts (now (year .entry)) .month ev ⌝ }
 {
     let p = cells::EVENTS + cells::EVENT * ev;
-    year[p + MONTH]
+    year[p + cells::MONTH]
 }
 
 // Is an event of period 1 or 3?
@@ -54,7 +39,7 @@ pub fn one_or_three(year: &Cells, ev: usize) -> bool
     ensures { λ r. ⌜ r ≡ oneOrThree (facts (now (year .entry)) .period ev) ⌝ }
 {
     let p = cells::EVENTS + cells::EVENT * ev;
-    let period = year[p + PERIOD];
+    let period = year[p + cells::PERIOD];
     period == 1 || period == 3
 }
 
@@ -65,7 +50,7 @@ pub fn deficit_of(year: &Cells, ev: usize, s: usize) -> Unforced
     ensures { λ r. ⌜ r .0 ≡ facts (now (year .entry)) .deficit ev s ⌝ }
 {
     let p = cells::EVENTS + cells::EVENT * ev;
-    Unforced(year[p + (DEFICITS + s)])
+    Unforced(year[p + (cells::DEFICITS + s)])
 }
 
 // Converted by the year's factors: a registration's kilowatts, or a seller's sum.
@@ -74,7 +59,7 @@ pub fn unforced(year: &Cells, kw: Nominated) -> Unforced
     requires { ⌜ kw .0 ≤ 6400000 ⌝ }
     ensures { λ r. ⌜ r .0 ≡ unforced (facts (now (year .entry))) (kw .0) ⌝ }
 {
-    kw.unforced(year[FACTOR], year[REQUIREMENT])
+    kw.unforced(year[cells::FACTOR], year[cells::REQUIREMENT])
 }
 
 // Days from 1 June to the end of a month.
@@ -84,5 +69,5 @@ pub fn days_to(year: &Cells, k: u64) -> u64
     requires { ⌜ k ≤ 15 ⌝ }
     ensures { λ r. ⌜ r ≡ D (facts (now (year .entry))) k ⌝ }
 {
-    calendar::days(year[LEAP], k)
+    calendar::days(year[cells::LEAP], k)
 }

@@ -46,9 +46,9 @@ pub fn terms_of(year: &Cells) -> Terms
     let registrations = registrations_of(year);
     let obligations = numbers_at(year, OBLIGATIONS);
     Terms {
-        leap: year[4],
-        factor: year[5],
-        requirement: year[6],
+        leap: year[cells::LEAP],
+        factor: year[cells::FACTOR],
+        requirement: year[cells::REQUIREMENT],
         registrations: registrations,
         obligations: obligations,
     }

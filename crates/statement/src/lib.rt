@@ -1,11 +1,8 @@
-// The parties of a statement: which they are, how many, and the bytes that their lines take.
+// The parties of a statement: which they are, and how many.
 ghost use mathlib.Core.Path.{_≡_};
-ghost use Prim.Native.Nat.{ℕ};
-ghost use lib.ListN.{length};
 ghost use Rattle.ids.specs.Ids.{holds};
-ghost use Rattle.year.specs.declared.Amounts.{Amounts};
 ghost use Rattle.year.specs.Sound.{SoundTerms};
-ghost use Rattle.statement.specs.Statement.{countTo, hasRegistration, hasObligation, statementOf};
+ghost use Rattle.statement.specs.Statement.{countTo, hasRegistration, hasObligation};
 ghost use Rattle.statement.specs.Marks.{Marks};
 use year::Terms;
 
@@ -53,14 +50,4 @@ pub fn count(marks: [bool; 16]) -> u64
         i += 1;
     }
     n
-}
-
-// The bytes of a statement: its lines are by the terms alone.
-pub fn size_of(terms: Terms) -> usize
-    requires { ⌜ SoundTerms terms ⌝ }
-    ensures { λ r. ⌜ ((month : ℕ) (owed billed : Amounts) → r ≡ length (statementOf terms month owed billed)) ⌝ }
-{
-    let sellers = count(present(terms)) as usize;
-    let lses = count(obliged(terms)) as usize;
-    (14 + 130 * sellers + 46 * lses + 7) / 8
 }

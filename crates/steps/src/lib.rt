@@ -15,12 +15,14 @@ use cells::CLOSED;
 use cells::Cells;
 use cells::EVENT;
 use cells::EVENTS;
+use cells::LISTED;
 use cells::OBLIGATIONS;
 use cells::OPENED;
 use cells::REGISTRATION;
 use cells::REGISTRATIONS;
 use cells::STARTED;
 use cells::TEST;
+use cells::TEST_DEFICITS;
 use cells::TESTED;
 use cells::TESTS;
 use cells::lay;
@@ -75,7 +77,7 @@ pub fn call(year: &mut Cells, area: u64, month: u64, period: u64, listing: &[u64
 {
     let n = cells::held(year);
     lay(year, EVENTS + EVENT * n, &[area, month, period]);
-    lay(year, EVENTS + EVENT * n + 3, listing);
+    lay(year, EVENTS + EVENT * n + LISTED, listing);
     lay(year, STARTED, &[1, n as u64 + 1]);
 }
 
@@ -121,7 +123,11 @@ pub fn test(year: &mut Cells, place: usize, month: u64, listing: &[u64])
     let reductions = merge(year, TESTED + 64, listing, 64);
     lay(year, STARTED, &[1]);
     lay(year, TESTS + TEST * place, &[1, month]);
-    lay(year, TESTS + TEST * place + 2, &listing[128..144]);
+    lay(
+        year,
+        TESTS + TEST * place + TEST_DEFICITS,
+        &listing[128..144],
+    );
     lay(year, TESTED, &marks);
     lay(year, TESTED + 64, &reductions);
 }

@@ -19,9 +19,6 @@ use table::Work;
 use units::Nominated;
 use units::Unforced;
 
-// Where a test's deficits stand in its row (cells/specs/Layout.antt).
-const DEFICITS: usize = 2;
-
 // A seller's deficit in the test at a place, 0 where it is absent.
 fn deficit_of(year: &Cells, place: usize, s: usize) -> Unforced
     requires { ⌜ Held (now year) ⌝ }
@@ -29,7 +26,7 @@ fn deficit_of(year: &Cells, place: usize, s: usize) -> Unforced
     ensures { λ r. ⌜ r .0 ≡ facts (now (year .entry)) .testDeficit place s ⌝ }
 {
     let p = cells::TESTS + cells::TEST * place;
-    Unforced::sum(year[p + (DEFICITS + s)])
+    Unforced::sum(year[p + (cells::TEST_DEFICITS + s)])
 }
 
 // The rate of a test: the average by committed kilowatts, a fifth more and at least 2,000 more.

@@ -2,17 +2,13 @@
 use borrow.Author.Needs.{needs}
 use native.Mathlib.Omega.{arith}
 use Rattle.year.specs.Sound.{SoundTerms, SoundAmounts}
-use Rattle.owed.specs.Facts.{factsOf}
-use Rattle.owed.specs.Owed.{amounts}
 use Rattle.owed_laws.specs.Limits.{limits}
 use Rattle.owed_laws.specs.Totals.{sound-amounts}
-use Rattle.cells.specs.Layout.{yearIn}
 use Rattle.book.proofs.close.Statement.{statement}
 use Rattle.book.proofs.close.Tie as tie
 use Rattle.settlement.proofs.amounts_of.Reads as amounts-of-reads
 use Rattle.snapshot.proofs.terms_of.Reads as terms-of-reads
 use Rattle.snapshot.proofs.billed_of.Reads as billed-of-reads
-use Rattle.statement.proofs.size_of.Reads as size-of-reads
 use Rattle.issue.proofs.write_statement.Reads as write-statement-reads
 use Rattle.steps.proofs.close.Reads as close-reads
 
@@ -46,15 +42,12 @@ close-requires c κs =
 
 returns : tie.Need-returns
 returns c =
-    let b = c .before .before .before .before .before .before .before in
-    let start = b .before .before .before .before .before .before .before in
-    let y = yearIn (start .args .year .now) in
-    let month = start .args .month in
+    let b = c .before .before .before .before .before .before in
     let terms = b .before .before .terms-of .ensures in
     let owed = b .before .before .before .before .amounts-of .ensures in
-    let closed = c .before .close .ensures in
-    let written = c .before .before .before .before .before .write-statement .ensures in
-    (rw owed at (closed .0), (closed .1, (rw (owed, terms, b .billed-of .ensures) at written, rw terms at (c .size-of .ensures month (amounts (factsOf y) month) (y .billed)))))
+    let closed = c .close .ensures in
+    let written = c .before .before .before .before .write-statement .ensures in
+    (rw owed at (closed .0), (closed .1, (rw (owed, terms, b .billed-of .ensures) at (written .0), rw (owed, terms, b .billed-of .ensures) at (written .1))))
 
 pub close-spec : {M : Type 1} → statement M
 close-spec =
@@ -65,6 +58,5 @@ close-spec =
     (λ c κs. search needs)
     write-statement-requires
     close-requires
-    (λ c κs. at-hand (c .before .before .before .before .before .before) .terms)
     (λ c. search needs)
     returns)

@@ -1,4 +1,4 @@
--- `statement::write_statement` meets its contract: the front and the lines are the statement's fields, which fit, and zero bits are behind them.
+-- `issue::write_statement` meets its contract: the front and the lines are the statement's fields, which fit, and zero bits are behind them.
 use borrow.Author.Needs.{needs}
 use mathlib.Core.Path.{refl}
 use native.Mathlib.Omega.{arith}
@@ -67,8 +67,9 @@ returns c =
     let fs = statementFields (s .args .terms) month owed billed in
     let few = statement-bits (s .pre .0) month owed billed in
     let fits = statement-fits (s .pre .0) month owed billed (omega (arith, s .pre)) in
-    rw (statement-length (s .pre .0) month owed billed)
-    (written-encodes (widthsOf fs) (valuesOf fs) fits (same-length fs) (e .0) (e .1) (e .2) (laid p .wrote) (g .finish .ensures) (λ i. k .slice-known .given i .fits) (λ i. c .slice-known4 .given i .fits) (omega (arith, s .pre)))
+    let length-is = statement-length (s .pre .0) month owed billed in
+    let w = laid p .wrote in
+    (rw length-is (written-encodes (widthsOf fs) (valuesOf fs) fits (same-length fs) (e .0) (e .1) (e .2) w (g .finish .ensures) (λ i. k .slice-known .given i .fits) (λ i. c .slice-known4 .given i .fits) (omega (arith, s .pre))), omega (arith, g .finish .ensures .ends, w .ends, e, length-is))
 
 pub write-statement-spec : {M : Type 1} → statement M
 write-statement-spec =
