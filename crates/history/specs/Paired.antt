@@ -26,7 +26,7 @@ pub paired-refused : (s : ℕ) (y : Year) (c d : Call) → d .bytes ≡ c .bytes
 paired-refused s y c d b l =
     record { room = sym l; number = ap recordNumber (sym b); alike = rw b (alike-refl (y .terms) s (recordIn (c .bytes))) }
 
-pub paired-accepted : (s : ℕ) (y : Year) (c d : Call) → accepts y c ≡ true → (f : ℕ → ℕ) → ((e : ℕ) → f e ≤ 100000)
+pub paired-accepted : (s : ℕ) (y : Year) (c d : Call) → accepts y c ≡ true → (f : ℕ → ℕ) → ((j : ℕ) → f j ≤ 100000)
     → d .bytes ≡ bytesBy (replaced (y .terms) s f (numbersOf (c .bytes))) ++ drop (consumed (c .bytes)) (c .bytes)
     → length (d .buffer) ≡ length (c .buffer) → Paired s y c d
 unfolding valuesOf

@@ -1,20 +1,19 @@
 -- Lists of calls that take a record (document 01, 'The lists of demand 3'), and what happens along them.
-use Prim.Native.Nat.{ℕ, _+_, _-_, _*_, _/_, _%_, _≤_}
+use Prim.Native.Nat.{ℕ, _≤_}
 use mathlib.Core.Bool.{Bool, true, false, _&&_, cond}
 use mathlib.Core.List.{List, [], _∷_, _++_}
 use mathlib.Core.Path.{_≡_}
 use lib.ListN.{length, drop}
-use lib.Dec.{leb, ltb, eqb}
+use lib.Dec.{eqb}
 use lib.IntN.{ℤ, pos, _+ℤ_}
 use Rattle.ids.specs.Ids.{at, tabulate}
-use Rattle.layouts.specs.Layout.{head}
+use Rattle.layouts.specs.Reductions.{isReduction}
 use Rattle.layouts.specs.Questions.{numbersOf, consumed}
 use Rattle.records.specs.Calls.{bytesBy}
 use Rattle.year.specs.declared.Terms.{Terms}
 use Rattle.year.specs.declared.Year.{Year}
 use Rattle.year.specs.Year.{seller}
 use Rattle.heads.specs.Record.{Record, isClose}
-use Rattle.heads.specs.Pairs.{deficitsIn, entriesIn}
 use Rattle.book.specs.Outcome.{recordIn, postNumber, yearWith, yearAfter, bufferAfter}
 
 -- a call: any bytes, none too, and a lent buffer of any length and contents
@@ -64,19 +63,13 @@ unfoldable pub soFar : (List ℕ → ℤ) → List (List ℕ) → ℤ
 soFar f [] = pos 0
 soFar f (x ∷ xs) = f x +ℤ soFar f xs
 
--- G for H: in those entries of an accepted record whose registration is seller s's, entry e gets the reduction f e; all else as it was
-module _ (T : Terms) (s : ℕ) (f : ℕ → ℕ) (vs : List ℕ) where
-  -- where the entries begin among the numbers: a pair of registration and reduction each
-  abbrev pub entriesAt : ℕ
-  entriesAt = length (head (at vs 0)) + 2 * deficitsIn (at vs 0) vs
+-- is registration i seller s's
+abbrev pub isOwn : Terms → ℕ → ℕ → Bool
+isOwn T s i = eqb (seller T i) s
 
-  -- is number j the reduction of an entry of seller s's
-  abbrev pub isReduction : ℕ → Bool
-  isReduction j =
-      leb entriesAt j && eqb ((j - entriesAt) % 2) 1 && ltb ((j - entriesAt) / 2) (entriesIn (at vs 0) vs) && eqb (seller T (at vs (j - 1))) s
-
-  unfoldable pub replaced : List ℕ
-  replaced = tabulate (length vs) (λ j. cond (isReduction j) (f ((j - entriesAt) / 2)) (at vs j))
+-- G for H: in those entries of an accepted record whose registration is seller s's, each reduction, number j of the record, is f j; all else as it was
+unfoldable pub replaced : Terms → ℕ → (ℕ → ℕ) → List ℕ → List ℕ
+replaced T s f vs = tabulate (length vs) (λ j. cond (isReduction (isOwn T s) vs j) (f j) (at vs j))
 
 -- each new reduction is 0 to 100,000; the bytes after a record, the other records and the buffers' lengths are as in H
 pub data Variant (s : ℕ) : Year → List Call → List Call → Type 0 where
@@ -85,7 +78,7 @@ pub data Variant (s : ℕ) : Year → List Call → List Call → Type 0 where
       → d .bytes ≡ c .bytes → length (d .buffer) ≡ length (c .buffer)
       → Variant s (step y c) cs ds → Variant s y (c ∷ cs) (d ∷ ds)
   accepted : {y : Year} {c d : Call} {cs ds : List Call} → accepts y c ≡ true
-      → (f : ℕ → ℕ) → ((e : ℕ) → f e ≤ 100000)
+      → (f : ℕ → ℕ) → ((j : ℕ) → f j ≤ 100000)
       → d .bytes ≡ bytesBy (replaced (y .terms) s f (numbersOf (c .bytes))) ++ drop (consumed (c .bytes)) (c .bytes)
       → length (d .buffer) ≡ length (c .buffer)
       → Variant s (step y c) cs ds → Variant s y (c ∷ cs) (d ∷ ds)

@@ -101,6 +101,10 @@ rulesFor k vs = rulesTo k vs (length (lists k))
 abbrev pub placeOf : ℕ → List ℕ → ℕ → ℕ
 placeOf k vs i = length (rulesTo k vs i)
 
+-- where item m of list i begins among the numbers: there stands its id, and its other fields behind it
+abbrev pub itemAt : ℕ → List ℕ → ℕ → ℕ → ℕ
+itemAt k vs i m = placeOf k vs i + m * length (listAt k i .fields)
+
 abbrev pub widths : List Rule → List ℕ
 widths rs = map (λ r. r .width) rs
 
