@@ -26,7 +26,7 @@ use Rattle.questions.specs.Questions.{testPlace, inTime}
 use Rattle.questions.specs.Admitted.{Admitted, admitted, registration-fresh, event-held, test-group, test-free, not-finished, next-month}
 use Rattle.book.specs.Outcome.{recordIn, postNumber, registrationOf, eventOf, testOf, yearBy, yearAfter}
 use Rattle.book.specs.Numbers.{all-passed}
-use Rattle.book.specs.Made.{within, all-listed}
+use Rattle.book.specs.Made.{within, permits}
 
 -- what an accepted record makes is sound in the year
 unfoldable pub Suits : Year → Listing → Head → Type 0
@@ -78,5 +78,5 @@ module _ {y : Year} (s : Sound y) where
           let all = all-passed y bytes room (eqb-true (postNumber y bytes room) 0 e) in
           let r = recordIn bytes in
           sound-by (r .listing) (r .head)
-          (suits (sound-listed (all-listed bytes (all .0))) (r .head) (within bytes (all .0)) (admitted inTime y r room (all .1)))
+          (suits (sound-listed (permits bytes (all .0))) (r .head) (within bytes (all .0)) (admitted inTime y r room (all .1)))
       go false e = s

@@ -1,6 +1,6 @@
 -- A record with names, and laws of it.
 pub mod Record
-pub mod Pairs
-pub mod Listed
 pub mod Within
+pub mod RecordLaws
+pub mod Listed
 pub mod Spread

@@ -1,13 +1,14 @@
 -- A record with names (document 01, 'Record layouts'): its head by kind, and what it lists.
-use Prim.Native.Nat.{ℕ}
+use Prim.Native.Nat.{ℕ, zero, suc}
 use mathlib.Core.Bool.{Bool, true, false, cond}
-use mathlib.Core.List.{List}
+use mathlib.Core.List.{List, [], _∷_}
 use lib.ListN.{length}
 use lib.Dec.{eqb}
 use Rattle.ids.specs.Ids.{at}
-use Rattle.layouts.specs.Layout.{head, itemsIn}
+use Rattle.layouts.specs.Layout.{lists, listAt, itemsIn, itemIn}
 use Rattle.year.specs.declared.Listing.{Listing}
-use Rattle.year.specs.Listing.{listingOf}
+use Rattle.year.specs.Year.{noListing}
+use Rattle.year.specs.Listing.{withEntry, withDeficit}
 use Rattle.heads.specs.declared.OpeningHead.{OpeningHead}
 use Rattle.heads.specs.declared.RegistrationHead.{RegistrationHead}
 use Rattle.heads.specs.declared.LseHead.{LseHead}
@@ -33,11 +34,23 @@ headOf vs =
     (cond (eqb (v 0) 5) (Test (record { zone = v 1; product = v 2; month = v 3 }))
     (Close (record { month = v 1 }))))))
 
--- what it lists: behind the head the deficits, and the entries behind them
+-- a listing with one item more, its id first: an entry where it has reductions, of which the first is kept, else a deficit
+unfoldable pub withItem : List ℕ → (ℕ → ℕ) → Listing → Listing
+withItem [] item l = withDeficit l (item 0) (item 1)
+withItem (r ∷ rs) item l = withEntry l (item 0) (item r)
+
+-- with the first n items of list i of a record of kind k
+unfoldable pub withItems : ℕ → List ℕ → ℕ → Listing → ℕ → Listing
+withItems k vs i l zero = l
+withItems k vs i l (suc n) = withItem (listAt k i .reductions) (itemIn k vs i n) (withItems k vs i l n)
+
+-- what the first i lists of the record leave, and all of them
+unfoldable pub listingTo : ℕ → List ℕ → ℕ → Listing
+listingTo k vs zero = noListing
+listingTo k vs (suc i) = withItems k vs i (listingTo k vs i) (itemsIn k vs i)
+
 unfoldable pub listingIn : List ℕ → Listing
-listingIn vs =
-    let k = at vs 0 in
-    listingOf vs (length (head k)) (itemsIn k vs 0) (itemsIn k vs 1)
+listingIn vs = listingTo (at vs 0) vs (length (lists (at vs 0)))
 
 abbrev pub recordOf : List ℕ → Record
 recordOf vs = record { head = headOf vs; listing = listingIn vs }

@@ -1,56 +1,62 @@
 // What a record lists, as a row by id: 64 marks and 64 reductions by registration, then 16 deficits by seller.
 ghost use mathlib.Core.Path.{_≡_};
-ghost use Prim.Native.Nat.{_+_, _*_};
+ghost use Prim.Native.Nat.{_+_, _<_};
 ghost use lib.ListN.{length, replicate};
-ghost use Rattle.year.specs.Sound.{Pairs};
-ghost use Rattle.heads.specs.Listed.{Listed};
-ghost use Rattle.heads.specs.Spread.{Blank, Entered, Lacking, Spreads};
+ghost use Rattle.ids.specs.Ids.{at};
+ghost use Rattle.layouts.specs.Layout.{lists, placeOf, most};
+ghost use Rattle.heads.specs.Record.{listingTo, listingIn};
+ghost use Rattle.heads.specs.Listed.{Permitted};
+ghost use Rattle.heads.specs.Spread.{Spreads};
+use layouts::lists_of;
+use layouts::part_at;
+use layouts::shapes::head_of;
+use layouts::shapes::list_at;
 
-// The entries of n pairs from a place on.
-fn spread_entries(values: &[u64], at: usize, n: usize, row: &mut [u64; 144])
-    requires { ⌜ length (now values) ≡ 166 ⌝ }
-    requires { ⌜ Pairs 64 100000 (now values) at n ⌝ }
-    requires { ⌜ Blank 0 128 (now row) ⌝ }
-    ensures { λ _. ⌜ Entered (now (values .entry)) at n (now (row .entry)) (now (row .exit)) ⌝ }
+// List i of a record, which begins at a place: its items go into the row, as entries or as deficits. Answers where the next list begins.
+fn spread_list(values: &[u64], i: usize, from: usize, row: &mut [u64; 144]) -> usize
+    requires { ⌜ length (now values) ≡ most ⌝ }
+    requires { ⌜ Permitted (now values) ⌝ }
+    requires { ⌜ i < length (lists (at (now values) 0)) ⌝ }
+    requires { ⌜ from ≡ placeOf (at (now values) 0) (now values) i ⌝ }
+    requires { ⌜ Spreads (listingTo (at (now values) 0) (now values) i) (now row) ⌝ }
+    ensures { λ r. ⌜ (let vs = now (values .entry) in r ≡ placeOf (at vs 0) vs (i + 1)) ⌝ }
+    ensures { λ _. ⌜ (let vs = now (values .entry) in Spreads (listingTo (at vs 0) vs (i + 1)) (now (row .exit))) ⌝ }
 {
+    let kind = values[0] as usize;
+    let list = list_at(kind, i, values);
+    let part = part_at(kind, i + 1);
+    let reduction = part.reduction;
+    let fields = part.end - part.start;
+    let n = list.items;
+    let mut p = from;
     let mut k: usize = 0;
     while k < n {
-        let p = at + 2 * k;
         let id = values[p] as usize;
-        row[id] = 1;
-        row[64 + id] = values[p + 1];
+        if reduction == 0 {
+            row[128 + id] = values[p + 1];
+        } else {
+            row[id] = 1;
+            row[64 + id] = values[p + reduction];
+        }
+        p += fields;
         k += 1;
     }
+    p
 }
 
-// The deficits of n pairs from a place on.
-fn spread_deficits(values: &[u64], at: usize, n: usize, row: &mut [u64; 144])
-    requires { ⌜ length (now values) ≡ 166 ⌝ }
-    requires { ⌜ Pairs 16 1000000 (now values) at n ⌝ }
-    requires { ⌜ Blank 128 16 (now row) ⌝ }
-    ensures { λ _. ⌜ Lacking (now (values .entry)) at n (now (row .entry)) (now (row .exit)) ⌝ }
-{
-    let mut k: usize = 0;
-    while k < n {
-        let p = at + 2 * k;
-        let id = values[p] as usize;
-        row[128 + id] = values[p + 1];
-        k += 1;
-    }
-}
-
-// What a record lists goes into a row of zeros, which stays so for the kinds that have no lists.
+// What a record lists goes into a row of zeros, list by list.
 pub fn spread(values: &[u64], row: &mut [u64; 144])
-    requires { ⌜ length (now values) ≡ 166 ⌝ }
-    requires { ⌜ Listed (now values) ⌝ }
+    requires { ⌜ length (now values) ≡ most ⌝ }
+    requires { ⌜ Permitted (now values) ⌝ }
     requires { ⌜ now row ≡ replicate 144 0 ⌝ }
-    ensures { λ _. ⌜ Spreads (now (values .entry)) (now (row .exit)) ⌝ }
+    ensures { λ _. ⌜ Spreads (listingIn (now (values .entry))) (now (row .exit)) ⌝ }
 {
-    let kind = values[0];
-    if kind == 4 || kind == 5 {
-        let deficits = values[4] as usize;
-        let entries = values[5] as usize;
-        spread_entries(values, 6 + 2 * deficits, entries, row);
-        spread_deficits(values, 6, deficits, row);
+    let kind = values[0] as usize;
+    let n = lists_of(kind);
+    let mut p = head_of(kind);
+    let mut i = 0;
+    while i < n {
+        p = spread_list(values, i, p, row);
+        i += 1;
     }
 }

@@ -1,23 +1,24 @@
 -- Records that are alike but for one seller's reductions: what the questions and the year see of them.
-use Prim.Native.Nat.{ℕ, _+_, _*_, _<_}
-use mathlib.Core.Bool.{Bool, true, false}
+use Prim.Native.Nat.{ℕ, _+_, _<_}
 use mathlib.Core.List.{List}
 use mathlib.Core.Logic.{inl, inr}
 use mathlib.Core.Path.{_≡_, refl, sym, _∙_}
+use native.Mathlib.Nat.{add-zero}
 use native.Mathlib.Omega.{arith}
+use lib.ListN.{length, length-set}
 use Rattle.ids.specs.Ids.{at}
-use Rattle.heads.specs.Pairs.{deficitsIn, entriesIn}
-use Rattle.layouts.specs.Questions.{row}
-use Rattle.layouts.specs.QuestionLaws.{at-row}
+use Rattle.ids.specs.Sets.{same-set}
+use Rattle.layouts.specs.Layout.{lists, listAt, itemsIn, itemAt, itemIn}
+use Rattle.layouts.specs.QuestionLaws.{head-kind}
+use Rattle.year.specs.declared.Listing.{Listing}
 use Rattle.year.specs.declared.Terms.{Terms}
 use Rattle.year.specs.Year.{seller, listed, reduction, deficit}
-use Rattle.year.specs.Listing.{listingOf}
-use Rattle.year.specs.ListingLaws.{SameIds, same-paired, same-kilowatts-at, same-kilowatts}
-use Rattle.heads.specs.Pairs.{hasLists, lists-kind, lists-six, no-lists, deficits-are, entries-are, pair-at, pair-field, deficit-plain}
-use Rattle.heads.specs.Record.{Record, headOf, listingIn, recordOf}
+use Rattle.heads.specs.Record.{Record, withItem, recordOf}
+use Rattle.heads.specs.RecordLaws.{same-head, listing-keeps}
+use Rattle.heads.specs.Listed.{Permitted, item-as}
 use Rattle.history.specs.Runs.{replaced}
 use Rattle.history.specs.Same.{SameListing}
-use Rattle.history.specs.Replaced.{kept-head, kept-field, kept-other, kept-id, kept-all}
+use Rattle.history.specs.Replaced.{kept-head, kept-field, kept-other, kept-id}
 
 pub record Alike (T : Terms) (s : ℕ) (r q : Record) : Type 0 where
   pub heads : r .head ≡ q .head
@@ -38,80 +39,42 @@ alike-listing n a =
       reduction = λ i e. a .reductions i (λ q. n (sym e ∙ q));
     }
 
-module _ (T : Terms) (s : ℕ) (f : ℕ → ℕ) (vs : List ℕ) where
-  abbrev ws : List ℕ
-  ws = replaced T s f vs
+-- listings that are alike
+record AlikeListing (T : Terms) (s : ℕ) (l n : Listing) : Type 0 where
+  listed : l .listed ≡ n .listed
+  deficits : l .deficits ≡ n .deficits
+  long : length (l .reductions) ≡ length (n .reductions)
+  reductions : (i : ℕ) → (seller T i ≡ s → ⊥) → at (l .reductions) i ≡ at (n .reductions) i
 
-  abbrev d : ℕ
-  d = deficitsIn (at vs 0) vs
+module _ (T : Terms) (s : ℕ) (f : ℕ → ℕ) {vs : List ℕ} (p : Permitted vs) where
+  abbrev k : ℕ
+  k = at vs 0
 
-  abbrev n : ℕ
-  n = entriesIn (at vs 0) vs
+  abbrev new : List ℕ
+  new = replaced T s f vs
 
-  row-at : (j : ℕ) → at ws j ≡ at vs j → at (row vs) j ≡ at (row ws) j
-  row-at j e = at-row vs j ∙ sym e ∙ sym (at-row ws j)
+  -- an item and its variant keep them so
+  alike-item : (i m : ℕ) → i < length (lists k) → m < itemsIn k vs i → (l n : Listing) → AlikeListing T s l n
+      → AlikeListing T s (withItem (listAt k i .reductions) (itemIn k vs i m) l) (withItem (listAt k i .reductions) (λ g. at new (itemAt k vs i m + g)) n)
+  alike-item i m b h l n a = elim (item-as p i m b h) [
+    | inl e ↦
+        let kw : (seller T (at vs (itemAt k vs i m)) ≡ s → ⊥) → at new (itemAt k vs i m + at (listAt k i .reductions) 0) ≡ at vs (itemAt k vs i m + at (listAt k i .reductions) 0) = kept-other T s f vs (record { list = b; item = h; field = e .inside }) in
+        rw (e .keeps (itemIn k vs i m) l, e .keeps (λ g. at new (itemAt k vs i m + g)) n, add-zero, kept-id T s f vs b h)
+        (record {
+          listed = rw (a .listed);
+          deficits = a .deficits;
+          long = length-set (l .reductions) _ _ ∙ a .long ∙ sym (length-set (n .reductions) _ _);
+          reductions = λ j o. same-set 0 (l .reductions) (n .reductions) (at vs (itemAt k vs i m)) j (a .long) (a .reductions j o) (λ q. sym (kw (rw q o)));
+        })
+    | inr d ↦
+        let kw = kept-field T s f vs {i = i} {m = m} {g = 1} (record { list = b; item = h; field = d .inside }) (λ r c q. omega (arith, rw (d .none) at c)) in
+        rw (d .keeps (itemIn k vs i m) l, d .keeps (λ g. at new (itemAt k vs i m + g)) n, add-zero, kept-id T s f vs b h, kw)
+        (record { listed = a .listed; deficits = rw (a .deficits); long = a .long; reductions = a .reductions })
+  ]
 
-  -- a record with lists
-  module _ (lists : hasLists (at vs 0) ≡ true) where
-    head-kept : (j : ℕ) → j < 6 → at ws j ≡ at vs j
-    head-kept j l = kept-head T s f vs j (rw (lists-six (at vs 0) lists) l)
-
-    same-head : headOf (row vs) ≡ headOf (row ws)
-    unfolding headOf
-    same-head =
-        let e : (j : ℕ) → j < 6 → at (row vs) j ≡ at (row ws) j = λ j l. row-at j (head-kept j l) in
-        let kind = at-row ws 0 ∙ head-kept 0 (omega arith) in
-        elim (lists-kind (at vs 0) lists) [
-          | inl k ↦ rw (e 0 (omega arith), e 1 (omega arith), e 2 (omega arith), e 3 (omega arith), kind, k)
-          | inr k ↦ rw (e 0 (omega arith), e 1 (omega arith), e 2 (omega arith), e 3 (omega arith), kind, k)
-        ]
-
-    -- numbers with the same head list as much
-    listing-is : (us : List ℕ) → ((j : ℕ) → j < 6 → at us j ≡ at vs j) → listingIn us ≡ listingOf us 6 d n
-    unfolding listingIn
-    listing-is us h =
-        rw (
-          deficits-are (at us 0) us,
-          entries-are (at us 0) us,
-          deficits-are (at vs 0) vs,
-          entries-are (at vs 0) vs,
-          h 0 (omega arith),
-          h 4 (omega arith),
-          h 5 (omega arith),
-          lists-six (at vs 0) lists,
-        )
-
-    -- the ids and kilowatts that stay
-    deficit-id : (k : ℕ) → k < d → at ws (6 + 2 * k) ≡ at vs (6 + 2 * k)
-    deficit-id k l = rw (← pair-at (at vs 0) vs lists k .0) (kept-id T s f vs (pair-field (at vs 0) vs lists .0 k l .list) l)
-
-    deficit-kept : (k : ℕ) → k < d → at ws (6 + 2 * k + 1) ≡ at vs (6 + 2 * k + 1)
-    deficit-kept k l = rw (← pair-at (at vs 0) vs lists k .0) (kept-field T s f vs (pair-field (at vs 0) vs lists .0 k l) (λ r m e. omega (arith, rw (deficit-plain (at vs 0) lists) at m)))
-
-    entry-id : (k : ℕ) → k < n → at ws (6 + 2 * d + 2 * k) ≡ at vs (6 + 2 * d + 2 * k)
-    entry-id k l = rw (← pair-at (at vs 0) vs lists k .1) (kept-id T s f vs (pair-field (at vs 0) vs lists .1 k l .list) l)
-
-    entry-kept : (k : ℕ) → k < n → (seller T (at vs (6 + 2 * d + 2 * k)) ≡ s → ⊥) → at ws (6 + 2 * d + 2 * k + 1) ≡ at vs (6 + 2 * d + 2 * k + 1)
-    entry-kept k l = rw (← pair-at (at vs 0) vs lists k .1) (kept-other T s f vs (pair-field (at vs 0) vs lists .1 k l))
-
-    listings : Alike T s (recordOf (row vs)) (recordOf (row ws))
-    unfolding reduction
-    listings =
-        let ids : SameIds (row vs) (row ws) (6 + 2 * d) n = λ k l. row-at (6 + 2 * d + 2 * k) (entry-id k l) in
-        let v : listingIn (row vs) ≡ listingOf (row vs) 6 d n = listing-is (row vs) (λ j l. at-row vs j) in
-        let w : listingIn (row ws) ≡ listingOf (row ws) 6 d n = listing-is (row ws) (λ j l. at-row ws j ∙ head-kept j l) in
-        record {
-          heads = same-head;
-          listed = rw (v, w) (same-paired 64 (row vs) (row ws) (6 + 2 * d) n ids);
-          deficits = rw (v, w) (same-kilowatts 16 (row vs) (row ws) 6 d (λ k l. row-at (6 + 2 * k) (deficit-id k l)) (λ k l. row-at (6 + 2 * k + 1) (deficit-kept k l)));
-          reductions = λ i m. rw (v, w)
-              (same-kilowatts-at 64 (row vs) (row ws) (6 + 2 * d) n i ids (λ k l q.
-              row-at (6 + 2 * d + 2 * k + 1) (entry-kept k l (λ z. m (rw (← at-row vs (6 + 2 * d + 2 * k), q) at z)))));
-        }
-
-  pub alike-replaced : Alike T s (recordOf (row vs)) (recordOf (row ws))
-  alike-replaced = go (hasLists (at vs 0)) refl
-    where
-      go : (b : Bool) → hasLists (at vs 0) ≡ b → Alike T s (recordOf (row vs)) (recordOf (row ws))
-      go true q = listings q
-      go false q = rw (kept-all T s f vs (no-lists (at vs 0) q)) (alike-refl T s (recordOf (row vs)))
+  pub alike-replaced : Alike T s (recordOf vs) (recordOf new)
+  unfolding reduction
+  alike-replaced =
+      let first = kept-head T s f vs 0 (head-kind k (p .kind) .0) in
+      let a = listing-keeps (AlikeListing T s) vs new first (kept-head T s f vs) alike-item (record { listed = refl; deficits = refl; long = refl; reductions = λ i o. refl }) in
+      record { heads = sym (same-head vs new (p .kind) first (kept-head T s f vs)); listed = a .listed; deficits = a .deficits; reductions = a .reductions }

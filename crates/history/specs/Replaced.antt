@@ -6,19 +6,18 @@ use mathlib.Core.Path.{_≡_, refl, sym, _∙_}
 use native.Mathlib.Decide.{decLt}
 use native.Mathlib.Omega.{arith}
 use native.Mathlib.Nat.{le-refl, add-zero, mul-comm}
-use lib.Dec.{eqb}
 use lib.ListN.{length, getD, List·getD-eq-default}
-use lib.Seq.{ext-getD}
 use borrow.Author.Tests.{eqb-true}
 use Rattle.ids.specs.Ids.{at}
 use Rattle.ids.specs.Tables.{length-tabulate, getD-tabulate}
 use Rattle.ids.specs.Tests.{all-same, all-at}
 use Rattle.layouts.specs.Layout.{noRule, head, lists, listAt, itemsIn, rulesFor, placeOf, itemAt, sizeOf}
-use Rattle.layouts.specs.Questions.{rulesBy, isKind, permits, permitted, idsRise}
+use Rattle.layouts.specs.Questions.{rulesBy, permits, permitted, idsRise}
 use Rattle.layouts.specs.Reductions.{isReduction}
 use Rattle.layouts.specs.QuestionLaws.{permits-yes, rises-same, counts-same, fields-same, rules-same, head-kind}
 use Rattle.layouts.specs.ListLaws.{item-some, ids-rise}
 use Rattle.layouts.specs.ReductionLaws.{Field, same-field, reduction-rule, Reduction, reduction-at, behind-head, rule-reduction}
+use Rattle.heads.specs.Listed.{Permitted}
 use Rattle.records.specs.Calls.{writeNumber}
 use Rattle.records.specs.RoundTrip.{not-refused}
 use Rattle.year.specs.declared.Terms.{Terms}
@@ -81,17 +80,12 @@ module _ (T : Terms) (s : ℕ) (f : ℕ → ℕ) (vs : List ℕ) where
       let k = at vs 0 in
       rw add-zero at (kept-field {i = i} {m = m} {g = 0} (record { list = l; item = h; field = item-some k i l }) (λ r n e. omega (arith, reduction-rule k i r l n .behind)))
 
-  -- a record without lists stays
-  pub kept-all : length (lists (at vs 0)) ≡ 0 → new ≡ vs
-  kept-all q = ext-getD 0 new vs same-length (λ j l. kept-at j (λ r. omega (arith, r .there .list)))
-
   counts-kept : (i : ℕ) → itemsIn (at vs 0) new i ≡ itemsIn (at vs 0) vs i
   counts-kept = counts-same (at vs 0) new vs kept-head
 
-  module _ (small : (j : ℕ) → f j ≤ 100000) (long : length vs ≡ length (rulesBy vs)) (kind : isKind (at vs 0) ≡ true)
-      (fields : permitted (rulesBy vs) vs ≡ true) (rise : idsRise vs ≡ true) where
-    kept-kind : at new 0 ≡ at vs 0
-    kept-kind = kept-head 0 (head-kind (at vs 0) kind .0)
+  module _ (p : Permitted vs) (small : (j : ℕ) → f j ≤ 100000) (long : length vs ≡ length (rulesBy vs)) (rise : idsRise vs ≡ true) where
+    pub kept-kind : at new 0 ≡ at vs 0
+    kept-kind = kept-head 0 (head-kind (at vs 0) (p .kind) .0)
 
     rules-kept : rulesBy new ≡ rulesBy vs
     unfolding rulesBy
@@ -120,19 +114,19 @@ module _ (T : Terms) (s : ℕ) (f : ℕ → ℕ) (vs : List ℕ) where
       where
         go : (b : Bool) → isReduction own vs j ≡ b → permits (getD (rulesBy vs) j noRule) (at new j) ≡ true
         go true q = permits-new j q
-        go false q = rw (kept-not j q) (all-at (length (rulesBy vs)) (λ i. permits (getD (rulesBy vs) i noRule) (at vs i)) fields j l)
+        go false q = rw (kept-not j q) (all-at (length (rulesBy vs)) (λ i. permits (getD (rulesBy vs) i noRule) (at vs i)) (p .fields) j l)
 
     permitted-new : permitted (rulesBy vs) new ≡ true
     unfolding permitted
     permitted-new =
-        all-same (length (rulesBy vs)) (λ j l. permits-at j l ∙ sym (all-at (length (rulesBy vs)) (λ i. permits (getD (rulesBy vs) i noRule) (at vs i)) fields j l)) ∙ fields
+        all-same (length (rulesBy vs)) (λ j l. permits-at j l ∙ sym (all-at (length (rulesBy vs)) (λ i. permits (getD (rulesBy vs) i noRule) (at vs i)) (p .fields) j l)) ∙ p .fields
 
     -- writing accepts the numbers
     pub writes : writeNumber new (sizeOf (rulesBy new)) ≡ 0
     writes =
         not-refused new (sizeOf (rulesBy new))
         (record {
-          kind = rw kept-kind kind;
+          kind = rw kept-kind (p .kind);
           counted = rw rules-kept (same-length ∙ long);
           permits = rw rules-kept permitted-new;
           rise = rise-kept ∙ rise;

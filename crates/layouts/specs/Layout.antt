@@ -32,10 +32,10 @@ abbrev kind : ℕ → Rule
 kind k = field 4 k k
 
 -- a deficit: seller, kW; an entry: registration, reduction kW
-abbrev pub deficit : List Rule
+abbrev deficit : List Rule
 deficit = field 4 0 15 ∷ field 20 1 1000000 ∷ []
 
-abbrev pub entry : List Rule
+abbrev entry : List Rule
 entry = field 6 0 63 ∷ field 17 0 100000 ∷ []
 
 abbrev bare : List Rule → Layout
@@ -104,6 +104,10 @@ placeOf k vs i = length (rulesTo k vs i)
 -- where item m of list i begins among the numbers: there stands its id, and its other fields behind it
 abbrev pub itemAt : ℕ → List ℕ → ℕ → ℕ → ℕ
 itemAt k vs i m = placeOf k vs i + m * length (listAt k i .fields)
+
+-- its number f
+abbrev pub itemIn : ℕ → List ℕ → ℕ → ℕ → ℕ → ℕ
+itemIn k vs i m f = at vs (itemAt k vs i m + f)
 
 abbrev pub widths : List Rule → List ℕ
 widths rs = map (λ r. r .width) rs

@@ -7,6 +7,7 @@ use native.Mathlib.Numerals.{add-one}
 use native.Mathlib.Omega.{arith}
 use lib.ListN.{length, getD, drop, length-append, length-map, List·getD-append, List·getD-map}
 use lib.Seq.{take-at, drop-append-add, getD-append-add}
+use Rattle.ids.specs.Ids.{at}
 use Rattle.bits.specs.Table.{total}
 use Rattle.layouts.specs.Layout.{Rule, Items, noItems, noLayout, layouts, layoutOf, head, lists, widths}
 use Rattle.layouts.specs.Parts.{join, startOf, partsIn, partAt, kinds, parts, fieldsIn, rules, rowAt, Placed}
@@ -116,6 +117,7 @@ module _ (k : ℕ) (l : k < length layouts) where
           within = omega (arith, ends-in hs h fields-in, ap length fields-are);
           bits = ap (λ (x : Items). total (widths (x .fields))) part-is;
           count = ap (λ (x : Items). x .count) part-is;
+          reduction = ap (λ (x : Items). at (x .reductions) 0) part-is;
         }
 
 -- a table is as long as the fields are many

@@ -48,13 +48,14 @@ lows rs = map (λ r. r .low) rs
 abbrev pub highs : List Rule → List ℕ
 highs rs = map (λ r. r .high) rs
 
--- a part with these numbers, and part h: where its fields start and end, the bits that they take, and the place of its count
-abbrev pub rowOf : ℕ → ℕ → ℕ → ℕ → Part
-rowOf s e b c = record { start = s; end = e; bits = b; count = c }
+-- a part with these numbers, and part h: where its fields start and end, the bits that they take, the place of its count, and its first reduction
+abbrev pub rowOf : ℕ → ℕ → ℕ → ℕ → ℕ → Part
+rowOf s e b c r = record { start = s; end = e; bits = b; count = c; reduction = r }
 
 abbrev pub rowAt : ℕ → Part
 rowAt h =
-    rowOf (startOf (fieldsIn parts) h) (startOf (fieldsIn parts) (h + 1)) (total (widths (getD parts h noItems .fields))) (getD parts h noItems .count)
+    let part = getD parts h noItems in
+    rowOf (startOf (fieldsIn parts) h) (startOf (fieldsIn parts) (h + 1)) (total (widths (part .fields))) (part .count) (at (part .reductions) 0)
 
 -- p is where the tables have part i of kind k
 pub record Placed (k i : ℕ) (p : Part) : Type 0 where
@@ -63,6 +64,7 @@ pub record Placed (k i : ℕ) (p : Part) : Type 0 where
   pub within : p .end ≤ length rules
   pub bits : p .bits ≡ total (widths (partAt k i .fields))
   pub count : p .count ≡ partAt k i .count
+  pub reduction : p .reduction ≡ at (partAt k i .reductions) 0
 
 -- numbers that state a record of kind k which is no longer than the longest
 pub record Stated (k : ℕ) (vs : List ℕ) : Type 0 where

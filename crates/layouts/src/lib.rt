@@ -136,12 +136,13 @@ const HIGHS: [u32; 37] = [
     15, // month
 ];
 
-// Where the fields of a part stand in the tables, from start up to end; the bits that they take; and the place of the part's count among the numbers of its head, 0 for a head.
+// Where the fields of a part stand in the tables, from start up to end; the bits that they take; the place of the part's count among the numbers of its head, 0 for a head; and which of its fields is the first reduction, 0 where none is.
 pub struct Part {
     pub start: usize,
     pub end: usize,
     pub bits: usize,
     pub count: usize,
+    pub reduction: usize,
 }
 
 pub fn widths_of_parts() -> [u8; 37]
@@ -187,14 +188,15 @@ pub fn lists_of(kind: usize) -> usize
     first_of(kind + 1) - first_of(kind) - 1
 }
 
-fn row(start: usize, end: usize, bits: usize, count: usize) -> Part
-    ensures { λ r. ⌜ r ≡ rowOf start end bits count ⌝ }
+fn row(start: usize, end: usize, bits: usize, count: usize, reduction: usize) -> Part
+    ensures { λ r. ⌜ r ≡ rowOf start end bits count reduction ⌝ }
 {
     Part {
         start: start,
         end: end,
         bits: bits,
         count: count,
+        reduction: reduction,
     }
 }
 
@@ -204,17 +206,17 @@ fn row_at(part: usize) -> Part
     ensures { λ r. ⌜ r ≡ rowAt part ⌝ }
 {
     match part {
-        0 => row(0, 0, 0, 0), // no kind
-        1 => row(0, 4, 33, 0), // opening
-        2 => row(4, 12, 56, 0), // registration
-        3 => row(12, 15, 28, 0), // LSE
-        4 => row(15, 21, 25, 0), // event
-        5 => row(21, 23, 24, 4), // its deficits
-        6 => row(23, 25, 23, 5), // its entries
-        7 => row(25, 31, 25, 0), // test
-        8 => row(31, 33, 24, 4), // its deficits
-        9 => row(33, 35, 23, 5), // its entries
-        _ => row(35, 37, 8, 0), // close
+        0 => row(0, 0, 0, 0, 0), // no kind
+        1 => row(0, 4, 33, 0, 0), // opening
+        2 => row(4, 12, 56, 0, 0), // registration
+        3 => row(12, 15, 28, 0, 0), // LSE
+        4 => row(15, 21, 25, 0, 0), // event
+        5 => row(21, 23, 24, 4, 0), // its deficits
+        6 => row(23, 25, 23, 5, 1), // its entries
+        7 => row(25, 31, 25, 0, 0), // test
+        8 => row(31, 33, 24, 4, 0), // its deficits
+        9 => row(33, 35, 23, 5, 1), // its entries
+        _ => row(35, 37, 8, 0, 0), // close
     }
 }
 

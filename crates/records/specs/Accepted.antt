@@ -1,8 +1,7 @@
 -- What an accepted record has: each question answered yes, its numbers within their rules, and its length consumed.
-use Prim.Native.Nat.{ℕ, zero, suc, _+_, _*_, _≤_, _<_}
+use Prim.Native.Nat.{ℕ, zero, suc, _≤_, _<_}
 use mathlib.Core.Bool.{Bool, true, false, cond}
 use mathlib.Core.List.{List, [], _∷_, _++_}
-use mathlib.Core.Logic.{_⊎_, inl, inr}
 use mathlib.Core.Path.{_≡_, refl, sym, ap, _∙_}
 use native.Mathlib.Omega.{arith}
 use borrow.Author.Tests.{leb-true, eq-eqb, ne-eqb}
@@ -11,11 +10,10 @@ use lib.ListN.{length, getD}
 use Rattle.ids.specs.Ids.{at}
 use Rattle.ids.specs.Tests.{and-parts}
 use Rattle.bits.specs.TableLaws.{length-fields}
-use Rattle.layouts.specs.Layout.{Rule, noRule, Items, noItems, head, lists as listsOf, listAt, deficit, entry, itemsIn, placeOf, rulesTo, rulesFor, widths, sizeOf, most}
-use Rattle.layouts.specs.LayoutLaws.{every, length-widths, rules-long, rule-head, items-count}
+use Rattle.layouts.specs.Layout.{noRule, head, rulesFor, widths, sizeOf, most}
+use Rattle.layouts.specs.LayoutLaws.{every, length-widths, rules-long, rule-head}
 use Rattle.layouts.specs.Questions.{firstFailed, kindOf, rulesOf, numbersOf, rulesBy, isKind, isWhole, permitted, isFilled, idsRise, recordQuestions, recordNumber, numbersTaken, consumed, row}
 use Rattle.layouts.specs.QuestionLaws.{at-row, permitted-at, head-permitted, few-numbers, numbers-kind, rules-by}
-use Rattle.layouts.specs.ListLaws.{length-list, rules-upto, rule-item}
 
 -- questions 1 to 5, each answered yes
 pub record Accepted (bytes : List ℕ) : Type 0 where
@@ -124,16 +122,6 @@ pub record Test (vs : List ℕ) : Type 0 where
 pub record Close (vs : List ℕ) : Type 0 where
   pub month : (1 ≤ at vs 1) × (at vs 1 ≤ 15)
 
--- the lists of an event or a test: at vs 4 deficits from 6 on, and at vs 5 entries behind them
-pub record Lists (vs : List ℕ) : Type 0 where
-  pub deficits : at vs 4 ≤ 16
-  pub entries : (1 ≤ at vs 5) × (at vs 5 ≤ 64)
-  pub few : 6 + 2 * at vs 4 + 2 * at vs 5 ≤ most
-  pub seller : (k : ℕ) → k < at vs 4 → at vs (6 + 2 * k) < 16
-  pub kilowatts : (k : ℕ) → k < at vs 4 → (1 ≤ at vs (6 + 2 * k + 1)) × (at vs (6 + 2 * k + 1) ≤ 1000000)
-  pub registered : (k : ℕ) → k < at vs 5 → at vs (6 + 2 * at vs 4 + 2 * k) < 64
-  pub reduction : (k : ℕ) → k < at vs 5 → at vs (6 + 2 * at vs 4 + 2 * k + 1) ≤ 100000
-
 module _ (bytes : List ℕ) (a : Accepted bytes) where
   -- the kind and the counts, as the numbers say them
   abbrev vs : List ℕ
@@ -153,23 +141,14 @@ module _ (bytes : List ℕ) (a : Accepted bytes) where
       omega (arith, numbers-count bytes, ap length rules, few-numbers k vs yes-head)
 
   -- each number is within its rule
-  pub number-within : (j : ℕ) → j < length vs → ((getD (rulesOf bytes) j noRule) .low ≤ at (row vs) j) × (at (row vs) j ≤ (getD (rulesOf bytes) j noRule) .high)
+  number-within : (j : ℕ) → j < length vs → ((getD (rulesOf bytes) j noRule) .low ≤ at (row vs) j) × (at (row vs) j ≤ (getD (rulesOf bytes) j noRule) .high)
   number-within j l = rw (at-row vs j) (permitted-at (rulesOf bytes) vs (a .permits) j (omega (arith, numbers-count bytes)))
 
   -- in the head, by the kind's own rules
-  pub head-within : (j : ℕ) → j < length (head (kindOf bytes)) → ((getD (head (kindOf bytes)) j noRule) .low ≤ at (row vs) j) × (at (row vs) j ≤ (getD (head (kindOf bytes)) j noRule) .high)
+  head-within : (j : ℕ) → j < length (head (kindOf bytes)) → ((getD (head (kindOf bytes)) j noRule) .low ≤ at (row vs) j) × (at (row vs) j ≤ (getD (head (kindOf bytes)) j noRule) .high)
   head-within j l =
       let m : j < length vs = omega (arith, numbers-count bytes, ap length rules, rules-long (kindOf bytes) vs) in
       rw (← rules, rule-head (kindOf bytes) vs j l) at (number-within j m)
-
-  -- in list i, by the rules of an item
-  pub item-within : (i m f : ℕ) → (let k = kindOf bytes in let fs = listAt k i .fields in
-      i < length (listsOf k) → m < itemsIn k vs i → f < length fs
-      → ((getD fs f noRule) .low ≤ at (row vs) (placeOf k vs i + (m * length fs + f))) × (at (row vs) (placeOf k vs i + (m * length fs + f)) ≤ (getD fs f noRule) .high))
-  item-within i m f l h g =
-      let r = rule-item (kindOf bytes) vs i l m f h g in
-      let k = kindOf bytes in
-      rw (← rules, r .0) at (number-within (placeOf k vs i + (m * length (listAt k i .fields) + f)) (omega (arith, r .1, numbers-count bytes, ap length rules)))
 
   head-as : (k j : ℕ) → kindOf bytes ≡ k → j < length (head k) → ((getD (head k) j noRule) .low ≤ at (row vs) j) × (at (row vs) j ≤ (getD (head k) j noRule) .high)
   head-as k j e l = rw e at (head-within j (rw e l))
@@ -209,43 +188,3 @@ module _ (bytes : List ℕ) (a : Accepted bytes) where
 
   pub close : kindOf bytes ≡ 6 → Close (row vs)
   close e = record { month = head-as 6 1 e (omega arith) }
-
-  item-as : (i m f p : ℕ) (fs : List Rule) → listAt (kindOf bytes) i .fields ≡ fs → i < length (listsOf (kindOf bytes)) → m < itemsIn (kindOf bytes) vs i → f < length fs
-      → p ≡ placeOf (kindOf bytes) vs i + (m * length fs + f) → ((getD fs f noRule) .low ≤ at (row vs) p) × (at (row vs) p ≤ (getD fs f noRule) .high)
-  item-as i m f p fs e l h g q = rw q (rw e at (item-within i m f l h (rw e g)))
-
-  at-head : placeOf (kindOf bytes) vs 0 ≡ length (head (kindOf bytes))
-  unfolding rulesTo
-  at-head = refl
-
-  -- a list of deficits and one of entries, counted in numbers 4 and 5 of a head of six
-  pairs : length (head (kindOf bytes)) ≡ 6 → listsOf (kindOf bytes) ≡ listsOf 4 → at (row vs) 4 ≤ 16 → (1 ≤ at (row vs) 5) × (at (row vs) 5 ≤ 64) → Lists (row vs)
-  pairs six same few some =
-      let k = kindOf bytes in
-      let r = row vs in
-      let two : length (listsOf k) ≡ 2 = ap length same in
-      let first : listAt k 0 .fields ≡ deficit = ap (λ (xs : List Items). (getD xs 0 noItems) .fields) same in
-      let second : listAt k 1 .fields ≡ entry = ap (λ (xs : List Items). (getD xs 1 noItems) .fields) same in
-      let ds : itemsIn k vs 0 ≡ at r 4 = items-count k vs 0 (omega arith) ∙ ap (λ (xs : List Items). at vs ((getD xs 0 noItems) .count)) same ∙ sym (at-row vs 4) in
-      let ns : itemsIn k vs 1 ≡ at r 5 = items-count k vs 1 (omega arith) ∙ ap (λ (xs : List Items). at vs ((getD xs 1 noItems) .count)) same ∙ sym (at-row vs 5) in
-      let behind : placeOf k vs 1 ≡ 6 + 2 * at r 4 = omega (arith, rw (first, ds) at (length-list k vs 0), at-head) in
-      let all : length (rulesTo k vs 2) ≡ 6 + 2 * at r 4 + 2 * at r 5 = omega (arith, rw (second, ns) at (length-list k vs 1)) in
-      let deficit-at : (m f : ℕ) → m < at r 4 → f < 2 → ((getD deficit f noRule) .low ≤ at r (6 + 2 * m + f)) × (at r (6 + 2 * m + f) ≤ (getD deficit f noRule) .high) =
-      λ m f h g. item-as 0 m f (6 + 2 * m + f) deficit first (omega arith) (omega arith) g (omega (arith, at-head)) in
-      let entry-at : (m f : ℕ) → m < at r 5 → f < 2 → ((getD entry f noRule) .low ≤ at r (6 + 2 * at r 4 + 2 * m + f)) × (at r (6 + 2 * at r 4 + 2 * m + f) ≤ (getD entry f noRule) .high) =
-      λ m f h g. item-as 1 m f (6 + 2 * at r 4 + 2 * m + f) entry second (omega arith) (omega arith) g (omega arith) in
-      let id : (n : ℕ) → n + 0 ≡ n = λ n. omega arith in
-      record {
-        deficits = few;
-        entries = some;
-        few = omega (arith, numbers-few, numbers-count bytes, ap length rules, rules-upto k vs 2 (omega arith));
-        seller = λ m l. omega (arith, rw id at (deficit-at m 0 l (omega arith) .1));
-        kilowatts = λ m l. deficit-at m 1 l (omega arith);
-        registered = λ m l. omega (arith, rw id at (entry-at m 0 l (omega arith) .1));
-        reduction = λ m l. entry-at m 1 l (omega arith) .1;
-      }
-
-  -- the lists of an event or a test
-  pub lists : (kindOf bytes ≡ 4) ⊎ (kindOf bytes ≡ 5) → Lists (row vs)
-  lists (inl e) = pairs (rw e) (rw e) (head-as 4 4 e (omega arith) .1) (head-as 4 5 e (omega arith))
-  lists (inr e) = pairs (rw e) (rw e) (head-as 5 4 e (omega arith) .1) (head-as 5 5 e (omega arith))

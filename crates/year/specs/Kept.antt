@@ -18,7 +18,7 @@ use Rattle.year.specs.Steps.{withTerms, withOpening, withRegistration, w
 use Rattle.year.specs.Sound.{SoundRegistration, AtMost, SoundListing, SoundEvent, SoundTest, Factors, SoundTerms, Fits42, SoundAmounts, Sound}
 use Rattle.ids.specs.Sets.{kept-set}
 
-sound-no-listing : SoundListing noListing
+pub sound-no-listing : SoundListing noListing
 sound-no-listing =
     record { listed = length-replicate 64 false; reductions = each-replicate (AtMost 100000) 0 64 (lit≤ tt); deficits = each-replicate (AtMost 1000000) 0 16 (lit≤ tt); unlisted = λ i l e. getD-replicate 64 i 0 0 l }
 

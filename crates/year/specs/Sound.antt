@@ -2,7 +2,6 @@
 use Prim.Native.Nat.{ℕ, _+_, _*_, _≤_, _<_, _^_}
 use mathlib.Core.Path.{_≡_}
 use mathlib.Core.Bool.{true, false}
-use mathlib.Core.List.{List}
 use lib.ListN.{length, getD, replicate}
 use Rattle.ids.specs.Ids.{at, holds}
 use Rattle.ids.specs.Each.{Each}
@@ -73,9 +72,3 @@ pub record Sound (y : Year) : Type 0 where
   pub tests : (k : ℕ) → k < 24 → SoundTest (y .terms) k (getD (y .tests) k pastTest)
   pub billed : SoundAmounts (y .billed)
   pub fresh : y .started ≡ false → (y .held ≡ 0) × (y .closed ≡ 0) × (y .tests ≡ replicate 24 noTest)
-
--- n pairs from place p on, with ids below `size` and kilowatts up to `most`, within 166 numbers
-pub record Pairs (size most : ℕ) (vs : List ℕ) (p n : ℕ) : Type 0 where
-  pub within : p + 2 * n ≤ 166
-  pub ids : (k : ℕ) → k < n → at vs (p + 2 * k) < size
-  pub kilowatts : (k : ℕ) → k < n → at vs (p + 2 * k + 1) ≤ most

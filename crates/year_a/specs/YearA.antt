@@ -15,12 +15,11 @@ use Rattle.bits.specs.Pack.{bitsOf, spell, byteOf, bytesOf, pack, encode}
 use Rattle.layouts.specs.Layout.{itemsIn, rulesTo, rulesFor}
 use Rattle.layouts.specs.Questions.{recordQuestions, firstFailed, kindOf, headOf, rulesOf, numbersOf, isKind, isWhole, permits, permitted, isFilled, rises, idsRise, recordNumber, consumed, row}
 use Rattle.year.specs.Year.{newYear, listed, reduction, deficit, known, seller, area, zone, product, committed, rate, obligation}
-use Rattle.year.specs.Listing.{byId, pairedBy}
 use Rattle.owed.specs.Facts.{factsOf}
 use Rattle.owed.specs.Owed.{beforeCap, raised, unforced, ofSeller, shareOf, called, calls, shortfallOver, u, cap, daily, taken, charge, excess, e, creditShare, creditLimit, creditOf, B, testOf, compliance, test, credit, charges, credits, lse, amounts}
 use Rattle.statement.specs.Statement.{countTo, difference, hasRegistration, hasObligation, sellerColumns, lineFields, linesTo, statementFields, statementOf}
 use Rattle.statement.specs.Value42.{value42}
-use Rattle.heads.specs.Record.{headOf as namedHead, listingIn}
+use Rattle.heads.specs.Record.{headOf as namedHead, withItem, withItems, listingTo, listingIn}
 use Rattle.questions.specs.Questions.{inTime, q6, q7, q8, q9, q10, q11, q12, q13, q14, q15, q16, questions}
 use Rattle.entries.specs.Entries.{inArea, inGroup, everyListed, deficitsListed, listsExactly}
 use Rattle.book.specs.Outcome.{valuesOf, postNumber, yearBy, bufferWith, yearAfter, bufferAfter}
@@ -93,7 +92,7 @@ withEvents = parties ++ ((0x61 ∷ 0x62 ∷ 0x63 ∷ 0x64 ∷ []) ++ (juneEvent 
 
 -- what the bill program prints of a file. What computes it is named here, once for all figures.
 bill : List ℕ → List ℕ
-unfolding sumTo anyTo allTo tabulate convert days due callable testable share bitAt number bitsOf spell byteOf bytesOf pack encode itemsIn times rulesTo rulesFor recordQuestions firstFailed kindOf headOf rulesOf numbersOf isKind isWhole permits permitted isFilled rises idsRise row listed reduction deficit known seller area zone product committed rate obligation byId pairedBy beforeCap raised unforced ofSeller shareOf called calls shortfallOver u cap daily taken charge excess e creditShare creditLimit creditOf B testOf compliance test credit charges credits lse amounts countTo difference hasRegistration hasObligation sellerColumns lineFields linesTo statementFields statementOf value42 namedHead listingIn inArea inGroup everyListed deficitsListed listsExactly inTime q6 q7 q8 q9 q10 q11 q12 q13 q14 q15 q16 questions valuesOf postNumber yearBy bufferWith yearAfter bufferAfter digitsTo decimal cents refusalLine linesFrom monthLine partyLine statementLines answerLines bytes recordNumber consumed recordsTo accepts closes buffered step run statements callsOf numbers answerText textOf
+unfolding sumTo anyTo allTo tabulate convert days due callable testable share bitAt number bitsOf spell byteOf bytesOf pack encode itemsIn times rulesTo rulesFor recordQuestions firstFailed kindOf headOf rulesOf numbersOf isKind isWhole permits permitted isFilled rises idsRise row listed reduction deficit known seller area zone product committed rate obligation beforeCap raised unforced ofSeller shareOf called calls shortfallOver u cap daily taken charge excess e creditShare creditLimit creditOf B testOf compliance test credit charges credits lse amounts countTo difference hasRegistration hasObligation sellerColumns lineFields linesTo statementFields statementOf value42 namedHead withItem withItems listingTo listingIn inArea inGroup everyListed deficitsListed listsExactly inTime q6 q7 q8 q9 q10 q11 q12 q13 q14 q15 q16 questions valuesOf postNumber yearBy bufferWith yearAfter bufferAfter digitsTo decimal cents refusalLine linesFrom monthLine partyLine statementLines answerLines bytes recordNumber consumed recordsTo accepts closes buffered step run statements callsOf numbers answerText textOf
 bill file = billText file blank
 
 -- Year A: each record's number, the buffer that each is lent (as the one before left it; one record more shows what the last leaves), the

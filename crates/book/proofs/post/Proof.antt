@@ -4,6 +4,7 @@ use mathlib.Core.Path.{_≡_, refl, sym, _∙_}
 use native.Mathlib.Omega.{arith}
 use lib.ListN.{length}
 use Rattle.ids.specs.Ids.{at}
+use Rattle.layouts.specs.Layout.{most}
 use Rattle.layouts.specs.Questions.{recordNumber}
 use Rattle.records.specs.Accepted.{accepted}
 use Rattle.year.specs.Sound.{SoundListing}
@@ -14,7 +15,7 @@ use Rattle.questions.specs.Questions.{inTime}
 use Rattle.questions.specs.Admitted.{admitted}
 use Rattle.book.specs.Outcome.{valuesOf, postNumber}
 use Rattle.book.specs.Numbers.{record-refused, record-accepted}
-use Rattle.book.specs.Made.{values-long, within, all-listed}
+use Rattle.book.specs.Made.{values-long, within, permits}
 use Rattle.book.specs.Kept.{suits}
 use Rattle.book.specs.Posting.{refuses, accepts}
 use Rattle.book.proofs.post.Statement.{statement}
@@ -33,7 +34,7 @@ rows : (c : tie.Else1) → c .before .before .before .parse .last .1 .0 ≡ valu
 unfolding valuesOf
 rows c = c .before .before .before .parse .ensures .rows (quiet c)
 
-long : (c : tie.Else1) → length (c .before .before .before .parse .last .1 .0) ≡ 166
+long : (c : tie.Else1) → length (c .before .before .before .parse .last .1 .0) ≡ most
 long c = rw (rows c) (values-long (c .before .before .before .before .before .before .before .args .bytes .now) (accepted _ (quiet c)))
 
 -- the later questions are put to it
@@ -59,7 +60,7 @@ head-of-requires c κs = omega (arith, long (c .before))
 spread-requires : tie.Need-spread-requires
 spread-requires c κs =
     let one = c .before .before .before .before in
-    (long one, (rw (rows one) (all-listed (one .before .before .before .before .before .before .before .args .bytes .now) (accepted _ (quiet one))), refl))
+    (long one, (rw (rows one) (permits (one .before .before .before .before .before .before .before .args .bytes .now) (accepted _ (quiet one))), refl))
 
 number-of-requires : tie.Need-number-of-requires
 number-of-requires c κs =
@@ -85,7 +86,7 @@ take-requires c κs =
     let l = listingAt (at (c .before .before .before .before .before .before .before .spread .last .1 .0)) in
     let passes = admitted inTime (yearIn (start .args .year .now)) (record { head = named .result; listing = l }) (length (start .args .buffer .now)) (sym (c .before .before .before .before .number-of .ensures) ∙ c .before .before .before .if2 .left) in
     let limits : Within (named .result) = rw (named .ensures, rows one) (within bytes a) in
-    let listing : SoundListing l = rw (spread .lists, rows one) (sound-listed (all-listed bytes a)) in
+    let listing : SoundListing l = rw (spread .lists, rows one) (sound-listed (permits bytes a)) in
     (start .pre, (spread .long, (suits (start .pre .sound) listing (named .result) limits passes, passes .sixteen)))
 
 returns-3 : tie.Need-returns-3

@@ -1,70 +1,69 @@
--- `heads::rows::spread` meets its contract. Assumes nothing.
-use borrow.Author.Needs.{needs}
-use mathlib.Core.Path.{_≡_, _∙_}
-use mathlib.Core.Bool.{true}
-use mathlib.Core.Logic.{⊎-elim}
+-- `heads::rows::spread` meets its contract. The loop's invariant: the lists passed are in the row. Assumes nothing.
+use Prim.Native.Nat.{_-_, _≤_, _<_}
+use mathlib.Core.Path.{_≡_}
 use native.Mathlib.Omega.{arith}
-use borrow.Author.Tests.{eqb-true, eqb-false}
+use lib.ListN.{length}
 use Rattle.ids.specs.Ids.{at}
-use Rattle.heads.specs.Listed.{listed-pairs, lists-from}
-use Rattle.heads.specs.Pairs.{hasLists, other-kinds}
-use Rattle.heads.specs.Spread.{spread, blank-row, blank-deficits, no-row}
+use Rattle.layouts.specs.Layout.{lists, rulesTo, placeOf}
+use Rattle.layouts.specs.QuestionLaws.{kind-in}
+use Rattle.heads.specs.Record.{listingTo, listingIn}
+use Rattle.heads.specs.Spread.{Spreads, spread-none}
 use Rattle.heads.proofs.rows.spread.Statement.{statement}
 use Rattle.heads.proofs.rows.spread.Tie as tie
-use Rattle.heads.proofs.rows.spread_deficits.Reads as spread-deficits-reads
-use Rattle.heads.proofs.rows.spread_entries.Reads as spread-entries-reads
 
--- an event or a test
-has-lists : (c : tie.Joined1) → hasLists (at (c .before .before .before .args .values .now) 0) ≡ true
-unfolding hasLists
-has-lists c =
-    let kind = at (c .before .before .before .args .values .now) 0 in
-    ⊎-elim (λ w. rw (w .taken)) (λ w. rw (eqb-true kind 5 (w .1 .taken))) (c .if1 .came)
+abbrev Inv-loop : tie.InvT-loop
+Inv-loop values row₀ kind n p₀ i₀ row p i =
+    (i ≤ length (lists (at values 0))) × (p ≡ placeOf (at values 0) values i) × Spreads (listingTo (at values 0) values i) row
 
-mul-spread-entries : tie.Need-mul-spread-entries
-mul-spread-entries c =
-    let start = c .before .before .before .before .before in
-    omega (arith, listed-pairs (start .args .values .now) (has-lists (c .before .before)) (start .pre .1 .0) .0 .within)
+abbrev μ-loop : tie.MeasureT-loop
+μ-loop values row₀ kind n p₀ i₀ row p i = n - i
 
-add-spread-entries : tie.Need-add-spread-entries
-add-spread-entries c =
-    let start = c .before .before .before .before .before in
-    omega (arith, listed-pairs (start .args .values .now) (has-lists (c .before .before)) (start .pre .1 .0) .0 .within)
+shared-slice-read-kind : tie.Need-shared-slice-read-kind Inv-loop μ-loop
+shared-slice-read-kind c = omega (arith, c .before .before .pre .0)
 
-spread-entries-requires : tie.Need-spread-entries-requires
-spread-entries-requires c κs =
-    let start = c .before .before .before .before .before .before in
-    (start .pre .0, (listed-pairs (start .args .values .now) (has-lists (c .before .before .before)) (start .pre .1 .0) .1, rw (start .pre .1 .1) blank-row))
+lists-of-requires : tie.Need-lists-of-requires Inv-loop μ-loop
+lists-of-requires c κs = kind-in _ (c .before .before .pre .1 .0 .kind)
 
-spread-deficits-requires : tie.Need-spread-deficits-requires
-spread-deficits-requires c κs =
-    let start = c .before .before .before .before .before .before .before .before in
-    (start .pre .0, (listed-pairs (start .args .values .now) (has-lists (c .before .before .before .before .before)) (start .pre .1 .0) .0, blank-deficits (rw (start .pre .1 .1) at (c .before .spread-entries .ensures))))
+head-of-requires : tie.Need-head-of-requires Inv-loop μ-loop
+head-of-requires c κs = kind-in _ (c .before .before .before .pre .1 .0 .kind)
 
-returns : tie.Need-returns
+loop-holds : tie.Need-loop-holds Inv-loop μ-loop
+unfolding rulesTo listingTo
+loop-holds c =
+    (omega arith, c .head-of .ensures, rw (c .before .before .before .before .pre .1 .1) spread-none)
+
+-- the loop is at a list
+inside : (c : tie.In-loop Inv-loop μ-loop) → c .before .loop .i < length (lists (at (c .before .before .before .before .before .before .args .values .now) 0))
+inside c = omega (arith, c .before .before .before .lists-of .ensures, c .loop-test .taken)
+
+spread-list-requires : tie.Need-spread-list-requires Inv-loop μ-loop
+spread-list-requires c κs =
+    let s = c .before .before .before .before .before .before .before in
+    let l = c .before .before .loop in
+    (s .pre .0, (s .pre .1 .0, (inside (c .before), (l .inv .1, l .inv .2))))
+
+loop-again : tie.Need-loop-again Inv-loop μ-loop
+loop-again c = (omega (arith, inside (c .before .before)), c .spread-list .ensures .0, c .spread-list .ensures .1)
+
+returns : tie.Need-returns Inv-loop μ-loop
+unfolding listingIn
 returns c =
-    let start = c .before .before .before .before .before .before .before .before .before in
-    let vs = start .args .values .now in
-    let entered = c .before .before .spread-entries .ensures in
-    let lacking = c .spread-deficits .ensures in
-    record { long = lacking .long; lists = spread vs 6 (at vs 4) (at vs 5) entered lacking ∙ lists-from vs (has-lists (c .before .before .before .before .before .before)) }
-
-returns-2 : tie.Need-returns-2
-returns-2 c =
-    let start = c .before .before .before .before in
-    let vs = start .args .values .now in
-    rw (start .pre .1 .1) (no-row vs (other-kinds (at vs 0) (c .before .if1 .left) (eqb-false (at vs 0) 5 (c .if2 .left))))
+    let l = c .before .loop in
+    let all : l .i ≡ length (lists (at (c .before .before .before .before .before .before .args .values .now) 0)) = omega (arith, c .before .before .before .lists-of .ensures) in
+    rw all at (l .inv .2)
 
 pub spread-spec : {M : Type 1} → statement M
 spread-spec =
     tie.close
     (tie.spec
-    (λ c. search needs)
-    (λ c. search needs)
-    (λ c. search needs)
-    mul-spread-entries
-    add-spread-entries
-    spread-entries-requires
-    spread-deficits-requires
-    returns
-    returns-2)
+    Inv-loop
+    μ-loop
+    shared-slice-read-kind
+    lists-of-requires
+    head-of-requires
+    loop-holds
+    spread-list-requires
+    (λ c. omega (arith, inside (c .before .before)))
+    (λ c. omega (arith, inside (c .before .before)))
+    loop-again
+    returns)

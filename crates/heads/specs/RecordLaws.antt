@@ -1,0 +1,81 @@
+-- Laws of a record with names: its head is made of the head's numbers alone, and its listing item by item.
+use Prim.Native.Nat.{ℕ, zero, suc, _+_, _≤_, _<_}
+use mathlib.Core.Bool.{Bool, true, false, cond}
+use mathlib.Core.List.{List}
+use mathlib.Core.Path.{_≡_, refl, fun-ext}
+use native.Mathlib.Nat.{le-refl}
+use native.Mathlib.Numerals.{add-one}
+use native.Mathlib.Omega.{arith}
+use borrow.Author.Tests.{eqb-true, eqb-false}
+use lib.Dec.{eqb}
+use lib.ListN.{length}
+use Rattle.ids.specs.Ids.{at}
+use Rattle.layouts.specs.Layout.{head, lists, listAt, itemsIn, itemAt, itemIn}
+use Rattle.layouts.specs.Questions.{isKind, row}
+use Rattle.layouts.specs.QuestionLaws.{at-row, kind-in, kind-some, counts-same, fields-same}
+use Rattle.year.specs.declared.Listing.{Listing}
+use Rattle.year.specs.Year.{noListing}
+use Rattle.heads.specs.declared.Head.{Head}
+use Rattle.heads.specs.Record.{headOf, withItem, withItems, listingTo, listingIn, recordOf}
+
+-- a choice of heads that are the same
+either : (b : Bool) {x y z w : Head} → (b ≡ true → x ≡ y) → (b ≡ false → z ≡ w) → cond b x z ≡ cond b y w
+either true h g = h refl
+either false h g = g refl
+
+-- two lists of numbers of one kind with the same head
+module _ (vs ws : List ℕ) (kind : isKind (at vs 0) ≡ true) (first : at ws 0 ≡ at vs 0) (same : (j : ℕ) → j < length (head (at vs 0)) → at ws j ≡ at vs j) where
+  number : (k j : ℕ) → at vs 0 ≡ k → j < length (head k) → at ws j ≡ at vs j
+  number k j e l = same j (rw e l)
+
+  pub same-head : headOf ws ≡ headOf vs
+  unfolding headOf
+  same-head =
+      let k = at vs 0 in
+      rw first
+      (either (eqb k 1) (λ y. let e = eqb-true k 1 y in rw (number 1 1 e (omega arith), number 1 2 e (omega arith), number 1 3 e (omega arith)))
+      (λ n1. either (eqb k 2) (λ y. let e = eqb-true k 2 y in rw (number 2 1 e (omega arith), number 2 2 e (omega arith), number 2 3 e (omega arith), number 2 4 e (omega arith), number 2 5 e (omega arith), number 2 6 e (omega arith), number 2 7 e (omega arith)))
+      (λ n2. either (eqb k 3) (λ y. let e = eqb-true k 3 y in rw (number 3 1 e (omega arith), number 3 2 e (omega arith)))
+      (λ n3. either (eqb k 4) (λ y. let e = eqb-true k 4 y in rw (number 4 1 e (omega arith), number 4 2 e (omega arith), number 4 3 e (omega arith)))
+      (λ n4. either (eqb k 5) (λ y. let e = eqb-true k 5 y in rw (number 5 1 e (omega arith), number 5 2 e (omega arith), number 5 3 e (omega arith)))
+      (λ n5. rw (number 6 1 (omega (arith, kind-some k kind, kind-in k kind, eqb-false k 1 n1, eqb-false k 2 n2, eqb-false k 3 n3, eqb-false k 4 n4, eqb-false k 5 n5)) (omega arith))))))))
+
+-- one item more, and one list more, as a loop says it
+pub items-more : (k : ℕ) (vs : List ℕ) (i : ℕ) (l : Listing) (n : ℕ) → withItems k vs i l (n + 1) ≡ withItem (listAt k i .reductions) (itemIn k vs i n) (withItems k vs i l n)
+unfolding withItems
+items-more k vs i l n = rw (add-one n)
+
+pub listing-more : (k : ℕ) (vs : List ℕ) (i : ℕ) → listingTo k vs (i + 1) ≡ withItems k vs i (listingTo k vs i) (itemsIn k vs i)
+unfolding listingTo
+listing-more k vs i = rw (add-one i)
+
+-- what holds of two empty listings, and is kept by an item of each, holds of what two records with the same head list
+module _ (R : Listing → Listing → Type 0) (vs ws : List ℕ) (first : at ws 0 ≡ at vs 0) (same : (j : ℕ) → j < length (head (at vs 0)) → at ws j ≡ at vs j)
+    (step : (i m : ℕ) → i < length (lists (at vs 0)) → m < itemsIn (at vs 0) vs i → (l n : Listing) → R l n
+    → R (withItem (listAt (at vs 0) i .reductions) (itemIn (at vs 0) vs i m) l) (withItem (listAt (at vs 0) i .reductions) (λ f. at ws (itemAt (at vs 0) vs i m + f)) n)) where
+  items-keep : (i c : ℕ) → i < length (lists (at vs 0)) → c ≤ itemsIn (at vs 0) vs i → {l n : Listing} → R l n → R (withItems (at vs 0) vs i l c) (withItems (at vs 0) ws i n c)
+  unfolding withItems
+  items-keep i zero b h r = r
+  items-keep i (suc c) b h r =
+      let item : itemIn (at vs 0) ws i c ≡ (λ f. at ws (itemAt (at vs 0) vs i c + f)) = fun-ext (λ f. rw (fields-same (at vs 0) ws vs same i)) in
+      rw item (step i c b h _ _ (items-keep i c b (omega arith) r))
+
+  lists-keep : (i : ℕ) → i ≤ length (lists (at vs 0)) → R noListing noListing → R (listingTo (at vs 0) vs i) (listingTo (at vs 0) ws i)
+  unfolding listingTo
+  lists-keep zero b r = r
+  lists-keep (suc i) b r =
+      rw (counts-same (at vs 0) ws vs same i) (items-keep i (itemsIn (at vs 0) vs i) b (le-refl _) (lists-keep i (omega arith) r))
+
+  pub listing-keeps : R noListing noListing → R (listingIn vs) (listingIn ws)
+  unfolding listingIn
+  listing-keeps r = rw first (lists-keep (length (lists (at vs 0))) (le-refl _) r)
+
+-- a record's numbers in a row make the same record
+pub record-row : (vs : List ℕ) → isKind (at vs 0) ≡ true → recordOf (row vs) ≡ recordOf vs
+record-row vs kind =
+    let same : (j : ℕ) → at (row vs) j ≡ at vs j = at-row vs in
+    cc (
+      same-head vs (row vs) kind (same 0) (λ j l. same j),
+      listing-keeps (λ l n. n ≡ l) vs (row vs) (same 0) (λ j l. same j)
+          (λ i m l h a b e. rw (e, fun-ext (λ f. same (itemAt (at vs 0) vs i m + f)))) refl,
+    )
