@@ -123,20 +123,30 @@ mostTo limit size l (suc i) =
     let items = getD (l .lists) i noItems in
     mostTo limit size l i + limit (getD (l .head) (items .count) noRule) * size (items .fields)
 
--- the bits of a record by its counts as written, and its numbers by its counts as permitted, at most
-unfoldable pub bitsMost : Layout → ℕ
-bitsMost l = mostTo (λ r. 2 ^ r .width - 1) (λ rs. total (widths rs)) l (length (l .lists))
+-- the bits and the numbers of a record, at most, with counts up to these limits: as written, as permitted
+unfoldable pub bitsMost : (Rule → ℕ) → Layout → ℕ
+bitsMost limit l = mostTo limit (λ rs. total (widths rs)) l (length (l .lists))
 
-unfoldable pub numbersMost : Layout → ℕ
-numbersMost l = mostTo (λ r. r .high) length l (length (l .lists))
+unfoldable pub numbersMost : (Rule → ℕ) → Layout → ℕ
+numbersMost limit l = mostTo limit length l (length (l .lists))
+
+abbrev pub asWritten : Rule → ℕ
+asWritten r = 2 ^ r .width - 1
+
+abbrev pub asPermitted : Rule → ℕ
+asPermitted r = r .high
 
 unfoldable pub highest : (Layout → ℕ) → List Layout → ℕ
 highest f [] = 0
 highest f (l ∷ ls) = max (f l) (highest f ls)
 
--- the bytes of the longest record, and the most numbers that a record has: `longest-is` and `most-is` compute them from the table
+-- the bytes of the longest record, by counts as written, and of the longest that is permitted; the most numbers that a permitted record has:
+-- `longest-is`, `longest-permitted-is` and `most-is` compute them from the table
 abbrev pub longestRecord : ℕ
 longestRecord = 462
+
+abbrev pub longestPermitted : ℕ
+longestPermitted = 236
 
 abbrev pub most : ℕ
 most = 166

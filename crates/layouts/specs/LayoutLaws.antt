@@ -1,5 +1,5 @@
 -- Laws of the layouts: what every row of the table keeps, how a record's fields go on behind its head, and how many they are at most.
-use Prim.Native.Nat.{ℕ, zero, suc, _+_, _-_, _*_, _^_, _≤_, _<_}
+use Prim.Native.Nat.{ℕ, zero, suc, _+_, _*_, _^_, _≤_, _<_}
 use mathlib.Core.Bool.{Bool, true, _&&_}
 use mathlib.Core.List.{List, [], _∷_, _++_, append-assoc, append-nil}
 use mathlib.Core.Path.{_≡_, refl, sym, ap, _∙_}
@@ -14,7 +14,7 @@ use Rattle.ids.specs.Tests.{and-parts}
 use Rattle.bits.specs.Table.{total, times, narrow}
 use Rattle.bits.specs.TableLaws.{total-append}
 use Rattle.bits.specs.Pack.{bytesFor}
-use Rattle.layouts.specs.Layout.{Rule, noRule, Items, noItems, Layout, noLayout, layouts, layoutOf, head, lists, listAt, itemsIn, rulesTo, rulesFor, widths, mostTo, bitsMost, numbersMost, highest, longestRecord, most}
+use Rattle.layouts.specs.Layout.{Rule, noRule, Items, noItems, Layout, noLayout, layouts, layoutOf, head, lists, listAt, itemsIn, rulesTo, rulesFor, widths, mostTo, bitsMost, numbersMost, asWritten, asPermitted, highest, longestRecord, longestPermitted, most}
 
 -- does p hold of every element
 unfoldable pub every : {A : Type 0} → (A → Bool) → List A → Bool
@@ -180,31 +180,42 @@ highest-at f [] k e = omega arith
 highest-at f (l ∷ ls) zero e = le-max-left (f l) (highest f ls)
 highest-at f (l ∷ ls) (suc k) e = le-trans (highest-at f ls k e) (le-max-right (f l) (highest f ls))
 
--- the two constants, from the table
-longest-is : highest (λ l. bytesFor (bitsMost l)) layouts ≡ longestRecord
+-- the three constants, from the table
+longest-is : highest (λ l. bytesFor (bitsMost asWritten l)) layouts ≡ longestRecord
 unfolding highest bitsMost mostTo
 longest-is = refl
 
-most-is : highest numbersMost layouts ≡ most
+longest-permitted-is : highest (λ l. bytesFor (bitsMost asPermitted l)) layouts ≡ longestPermitted
+unfolding highest bitsMost mostTo
+longest-permitted-is = refl
+
+most-is : highest (numbersMost asPermitted) layouts ≡ most
 unfolding highest numbersMost mostTo
 most-is = refl
 
--- no record is longer, by counts as written, and none has more numbers, by counts as permitted
-pub bits-most : (k : ℕ) (vs : List ℕ) → ((i : ℕ) → i < length (lists k) → itemsIn k vs i ≤ 2 ^ (getD (head k) (listAt k i .count) noRule) .width - 1)
-    → total (widths (rulesFor k vs)) ≤ 8 * longestRecord
-unfolding rulesFor bitsMost mostTo
-bits-most k vs h =
-    let n = length (lists k) in
-    let adds : (rs ss : List Rule) → total (widths (rs ++ ss)) ≡ total (widths rs) + total (widths ss) = λ rs ss. ap total (widths-append rs ss) ∙ total-append (widths rs) (widths ss) in
-    let here = size-to (λ r. 2 ^ r .width - 1) (λ rs. total (widths rs)) refl adds k vs h n (omega arith) in
-    let all : bytesFor (bitsMost (layoutOf k)) ≤ longestRecord = rw longest-is at (highest-at (λ l. bytesFor (bitsMost l)) layouts k refl) in
-    omega (arith, here, all)
+-- no record is longer, by its counts
+module _ (limit : Rule → ℕ) {n : ℕ} (e : highest (λ l. bytesFor (bitsMost limit l)) layouts ≡ n) (k : ℕ) (vs : List ℕ)
+    (h : (i : ℕ) → i < length (lists k) → itemsIn k vs i ≤ limit (getD (head k) (listAt k i .count) noRule)) where
+  bits-within : total (widths (rulesFor k vs)) ≤ 8 * n
+  unfolding rulesFor bitsMost mostTo
+  bits-within =
+      let adds : (rs ss : List Rule) → total (widths (rs ++ ss)) ≡ total (widths rs) + total (widths ss) = λ rs ss. ap total (widths-append rs ss) ∙ total-append (widths rs) (widths ss) in
+      let here = size-to limit (λ rs. total (widths rs)) refl adds k vs h (length (lists k)) (omega arith) in
+      let all : bytesFor (bitsMost limit (layoutOf k)) ≤ n = rw e at (highest-at (λ l. bytesFor (bitsMost limit l)) layouts k refl) in
+      omega (arith, here, all)
 
-pub numbers-most : (k : ℕ) (vs : List ℕ) → ((i : ℕ) → i < length (lists k) → itemsIn k vs i ≤ (getD (head k) (listAt k i .count) noRule) .high)
-    → length (rulesFor k vs) ≤ most
-unfolding rulesFor numbersMost mostTo
-numbers-most k vs h =
-    let n = length (lists k) in
-    let here = size-to (λ r. r .high) length refl length-append k vs h n (omega arith) in
-    let all : numbersMost (layoutOf k) ≤ most = rw most-is at (highest-at numbersMost layouts k refl) in
-    le-trans here all
+pub bits-most : (k : ℕ) (vs : List ℕ) → ((i : ℕ) → i < length (lists k) → itemsIn k vs i ≤ asWritten (getD (head k) (listAt k i .count) noRule))
+    → total (widths (rulesFor k vs)) ≤ 8 * longestRecord
+bits-most = bits-within asWritten longest-is
+
+-- and none that is permitted is longer or has more numbers
+module _ (k : ℕ) (vs : List ℕ) (h : (i : ℕ) → i < length (lists k) → itemsIn k vs i ≤ asPermitted (getD (head k) (listAt k i .count) noRule)) where
+  pub permitted-most : total (widths (rulesFor k vs)) ≤ 8 * longestPermitted
+  permitted-most = bits-within asPermitted longest-permitted-is k vs h
+
+  pub numbers-most : length (rulesFor k vs) ≤ most
+  unfolding rulesFor numbersMost mostTo
+  numbers-most =
+      let here = size-to asPermitted length refl length-append k vs h (length (lists k)) (omega arith) in
+      let all : numbersMost asPermitted (layoutOf k) ≤ most = rw most-is at (highest-at (numbersMost asPermitted) layouts k refl) in
+      le-trans here all

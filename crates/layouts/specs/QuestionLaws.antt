@@ -16,8 +16,8 @@ use Rattle.ids.specs.Tests.{and-parts, all-same, all-at}
 use Rattle.bits.specs.BitLaws.{field-lt, field-past}
 use Rattle.bits.specs.Table.{total, fieldsAt, laid}
 use Rattle.bits.specs.TableLaws.{fields-append, fields-at, length-fields}
-use Rattle.layouts.specs.Layout.{Rule, noRule, Layout, noLayout, layouts, layoutOf, head, lists, listAt, itemsIn, rulesTo, rulesFor, placeOf, widths, sizeOf, longestRecord, most}
-use Rattle.layouts.specs.LayoutLaws.{every, every-at, every-in, sound, sound-heads, count-in, items-count, width-at, widths-append, length-widths, rules-front, rules-long, rule-head, bits-most, numbers-most}
+use Rattle.layouts.specs.Layout.{Rule, noRule, Layout, noLayout, layouts, layoutOf, head, lists, listAt, itemsIn, rulesTo, rulesFor, placeOf, widths, sizeOf, longestRecord, longestPermitted, most}
+use Rattle.layouts.specs.LayoutLaws.{every, every-at, count-in, items-count, width-at, widths-append, length-widths, rules-front, rules-long, rule-head, bits-most, permitted-most, numbers-most}
 use Rattle.layouts.specs.Questions.{kindOf, headOf, rulesOf, numbersOf, rulesBy, isKind, isWhole, permits, permitted, rises, idsRise, row, consumed}
 
 drop-zeros : (n m : ℕ) → _≡_ {A = List ℕ} (drop n (replicate m 0)) (replicate (m - n) 0)
@@ -145,14 +145,11 @@ pub few-bits : (bytes : List ℕ) → total (widths (rulesOf bytes)) ≤ 8 * lon
 unfolding rulesOf headOf
 few-bits bytes = bits-most (kindOf bytes) _ (counts-written bytes (kindOf bytes))
 
+pub permitted-bits : (k : ℕ) (vs : List ℕ) → permitted (head k) vs ≡ true → total (widths (rulesFor k vs)) ≤ 8 * longestPermitted
+permitted-bits k vs e = permitted-most k vs (counts-permitted k vs e)
+
 pub stated-bits : (k : ℕ) (vs : List ℕ) → permitted (head k) vs ≡ true → total (widths (rulesFor k vs)) ≤ 8 * longestRecord
-unfolding sound
-stated-bits k vs e =
-    bits-most k vs (λ i l.
-    let j = listAt k i .count in
-    let r = getD (head k) j noRule in
-    let high = and-parts (leb 1 (r .width) && leb (r .width) 42) (ltb (r .high) (2 ^ r .width)) (every-in sound (head k) noRule j (sound-heads k) (count-in k i l)) .1 in
-    omega (arith, counts-permitted k vs e i l, ltb-true (r .high) (2 ^ r .width) high))
+stated-bits k vs e = omega (arith, permitted-bits k vs e)
 
 pub few-numbers : (k : ℕ) (vs : List ℕ) → permitted (head k) vs ≡ true → length (rulesFor k vs) ≤ most
 few-numbers k vs e = numbers-most k vs (counts-permitted k vs e)

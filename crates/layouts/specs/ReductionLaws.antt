@@ -12,7 +12,7 @@ use lib.Dec.{leb, ltb, eqb}
 use lib.ListN.{length, getD}
 use Rattle.ids.specs.Ids.{at, anyTo}
 use Rattle.ids.specs.Tests.{and-parts, any-some}
-use Rattle.layouts.specs.Layout.{Rule, noRule, Items, noItems, noLayout, layouts, head, lists, listAt, itemsIn, rulesTo, rulesFor, placeOf, itemAt}
+use Rattle.layouts.specs.Layout.{noRule, Items, noItems, noLayout, layouts, head, lists, listAt, itemsIn, rulesTo, rulesFor, placeOf, itemAt}
 use Rattle.layouts.specs.LayoutLaws.{every, every-at, every-in}
 use Rattle.layouts.specs.ListLaws.{length-list, rule-item}
 use Rattle.layouts.specs.Reductions.{reducesIn, isReduction}

@@ -1,7 +1,8 @@
 // A record as a line of text, and a line of text as a record.
 ghost use mathlib.Core.Path.{_≡_};
-ghost use Prim.Native.Nat.{_+_, _-_, _≤_};
+ghost use Prim.Native.Nat.{_+_, _≤_};
 ghost use lib.ListN.{length};
+ghost use Rattle.layouts.specs.Layout.{longestPermitted};
 ghost use Rattle.layouts.specs.Questions.{recordNumber, consumed};
 ghost use Rattle.text.specs.Pasted.{Pasted};
 ghost use Rattle.report.specs.Text.{room};
@@ -10,9 +11,6 @@ ghost use Rattle.line.specs.Packs.{lineNumber, lineRecord};
 
 // The most numbers of a record and one more, so that writing refuses the count of a longer line.
 const NUMBERS: usize = records::NUMBERS + 1;
-
-// The bytes of the longest record that is written: 25 bits, 16 deficits of 24 and 64 entries of 23.
-pub const RECORD: usize = (25 + 16 * 24 + 64 * 23 + 7) / 8;
 
 // What printing one record leaves: its number, its bytes, and the place after its line.
 pub struct Printed {
@@ -56,9 +54,9 @@ pub struct Packed {
 
 // The record of a line. One of which the start is cut off is longer than any record's.
 pub fn pack(line: &[u8], cut: bool, out: &mut [u8], at: usize) -> Packed
-    requires { ⌜ at ≤ length (now out) ⌝ }
-    ensures { λ r. ⌜ r .number ≡ lineNumber cut (now (line .entry)) (length (now (out .entry)) - at) ⌝ }
-    ensures { λ r. ⌜ Pasted (now (out .entry)) (now (out .exit)) at (lineRecord cut (now (line .entry)) (length (now (out .entry)) - at)) (r .at) ⌝ }
+    requires { ⌜ at + longestPermitted ≤ length (now out) ⌝ }
+    ensures { λ r. ⌜ r .number ≡ lineNumber cut (now (line .entry)) ⌝ }
+    ensures { λ r. ⌜ Pasted (now (out .entry)) (now (out .exit)) at (lineRecord cut (now (line .entry))) (r .at) ⌝ }
 {
     if cut {
         return Packed { number: 3, at: at };

@@ -4,6 +4,7 @@ use libc::STDERR_FILENO;
 use libc::STDIN_FILENO;
 ghost use Prim.Native.Nat.{_≤_};
 ghost use lib.ListN.{length};
+ghost use Rattle.layouts.specs.Layout.{longestPermitted};
 
 // Tells the refusal of a line.
 fn refuse(position: u64, number: u64) -> bool {
@@ -16,7 +17,7 @@ fn refuse(position: u64, number: u64) -> bool {
 // A failed read or write ends it with nothing more written. No contract can name what is read or written:
 // what a line packs to is the contract of `line::pack`.
 fn pack(input: i32, buffer: &mut [u8], out: &mut [u8]) -> bool
-    requires { ⌜ 236 ≤ length (now out) ⌝ }
+    requires { ⌜ longestPermitted ≤ length (now out) ⌝ }
 {
     let mut window = stream::input::new_window();
     let mut at: usize = 0;
@@ -45,7 +46,7 @@ fn pack(input: i32, buffer: &mut [u8], out: &mut [u8]) -> bool
         if number != 0 && !refuse(position, number) {
             return false;
         }
-        let gathered = stream::output::with_room(out, packed.at, line::RECORD);
+        let gathered = stream::output::with_room(out, packed.at, records::PERMITTED);
         if gathered.failed {
             return false;
         }

@@ -35,7 +35,10 @@ pub use writing::write;
 // The bytes of the longest record, by its counts as written.
 pub const LONGEST: usize = 462;
 
-// The most numbers that a record has, by its counts as permitted.
+// The bytes of the longest record that is permitted, and so written.
+pub const PERMITTED: usize = 236;
+
+// The most numbers that a permitted record has.
 pub const NUMBERS: usize = 166;
 
 // The number of the question that failed, 0 where none did; how many numbers the record has; the bytes consumed.

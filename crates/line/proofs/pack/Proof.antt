@@ -30,7 +30,7 @@ returns : tie.Need-returns
 unfolding lineNumber
 returns c =
     let p = c .before .before .before in
-    rw (c .if1 .taken) (refl, cut-record (p .args .line .now) (p .args .out .now) (p .args .at) (p .pre))
+    rw (c .if1 .taken) (refl, cut-record (p .args .line .now) (p .args .out .now) (p .args .at) (omega arith))
 
 slice-aggregate-write : tie.Need-slice-aggregate-write
 slice-aggregate-write c =

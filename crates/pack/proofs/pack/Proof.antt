@@ -4,12 +4,13 @@ use Prim.Native.Nat.{_+_, _-_, _^_, _≤_}
 use native.Mathlib.Omega.{arith}
 use lib.ListN.{length}
 use borrow.Author.Needs.{needs}
+use Rattle.layouts.specs.Layout.{longestPermitted}
 use Rattle.pack.proofs.pack.Statement.{statement}
 use Rattle.pack.proofs.pack.Tie as tie
 
 abbrev Inv-loop : tie.InvT-loop
 Inv-loop input buffer₀ out₀ window₀ at₀ position₀ cut₀ counter₀ buffer out window at position cut counter =
-    ((length buffer ≡ length buffer₀) × (length out ≡ length out₀) × (window .start ≤ window .end) × (window .end ≤ length buffer) × (at + 236 ≤ length out))
+    ((length buffer ≡ length buffer₀) × (length out ≡ length out₀) × (window .start ≤ window .end) × (window .end ≤ length buffer) × (at + longestPermitted ≤ length out))
     × (position ≤ counter)
 
 abbrev μ-loop : tie.MeasureT-loop
