@@ -55,55 +55,34 @@ listingIn vs = listingTo (at vs 0) vs (length (lists (at vs 0)))
 abbrev pub recordOf : List ℕ → Record
 recordOf vs = record { head = headOf vs; listing = listingIn vs }
 
--- f of the head of one kind, and for the others what g says
+-- by its kind
 module _ {A : Type 0} where
+  abbrev pub byKind : (OpeningHead → A) → (RegistrationHead → A) → (LseHead → A) → (EventHead → A) → (TestHead → A) → (CloseHead → A) → Head → A
+  byKind o r l e t c (Opening h) = o h
+  byKind o r l e t c (Registration h) = r h
+  byKind o r l e t c (Lse h) = l h
+  byKind o r l e t c (Event h) = e h
+  byKind o r l e t c (Test h) = t h
+  byKind o r l e t c (Close h) = c h
+
+  -- f of the head of one kind, and for the others what g says
   abbrev pub forOpening : (OpeningHead → A) → (Head → A) → Head → A
-  forOpening f g (Opening o) = f o
-  forOpening f g (Registration r) = g (Registration r)
-  forOpening f g (Lse j) = g (Lse j)
-  forOpening f g (Event e) = g (Event e)
-  forOpening f g (Test t) = g (Test t)
-  forOpening f g (Close c) = g (Close c)
+  forOpening f g h = byKind f (λ _. g h) (λ _. g h) (λ _. g h) (λ _. g h) (λ _. g h) h
 
   abbrev pub forRegistration : (RegistrationHead → A) → (Head → A) → Head → A
-  forRegistration f g (Opening o) = g (Opening o)
-  forRegistration f g (Registration r) = f r
-  forRegistration f g (Lse j) = g (Lse j)
-  forRegistration f g (Event e) = g (Event e)
-  forRegistration f g (Test t) = g (Test t)
-  forRegistration f g (Close c) = g (Close c)
+  forRegistration f g h = byKind (λ _. g h) f (λ _. g h) (λ _. g h) (λ _. g h) (λ _. g h) h
 
   abbrev pub forLse : (LseHead → A) → (Head → A) → Head → A
-  forLse f g (Opening o) = g (Opening o)
-  forLse f g (Registration r) = g (Registration r)
-  forLse f g (Lse j) = f j
-  forLse f g (Event e) = g (Event e)
-  forLse f g (Test t) = g (Test t)
-  forLse f g (Close c) = g (Close c)
+  forLse f g h = byKind (λ _. g h) (λ _. g h) f (λ _. g h) (λ _. g h) (λ _. g h) h
 
   abbrev pub forEvent : (EventHead → A) → (Head → A) → Head → A
-  forEvent f g (Opening o) = g (Opening o)
-  forEvent f g (Registration r) = g (Registration r)
-  forEvent f g (Lse j) = g (Lse j)
-  forEvent f g (Event e) = f e
-  forEvent f g (Test t) = g (Test t)
-  forEvent f g (Close c) = g (Close c)
+  forEvent f g h = byKind (λ _. g h) (λ _. g h) (λ _. g h) f (λ _. g h) (λ _. g h) h
 
   abbrev pub forTest : (TestHead → A) → (Head → A) → Head → A
-  forTest f g (Opening o) = g (Opening o)
-  forTest f g (Registration r) = g (Registration r)
-  forTest f g (Lse j) = g (Lse j)
-  forTest f g (Event e) = g (Event e)
-  forTest f g (Test t) = f t
-  forTest f g (Close c) = g (Close c)
+  forTest f g h = byKind (λ _. g h) (λ _. g h) (λ _. g h) (λ _. g h) f (λ _. g h) h
 
   abbrev pub forClose : (CloseHead → A) → (Head → A) → Head → A
-  forClose f g (Opening o) = g (Opening o)
-  forClose f g (Registration r) = g (Registration r)
-  forClose f g (Lse j) = g (Lse j)
-  forClose f g (Event e) = g (Event e)
-  forClose f g (Test t) = g (Test t)
-  forClose f g (Close c) = f c
+  forClose f g h = byKind (λ _. g h) (λ _. g h) (λ _. g h) (λ _. g h) (λ _. g h) f h
 
 -- is it a close, and the month that it names, 0 where it names none
 abbrev pub isClose : Head → Bool
