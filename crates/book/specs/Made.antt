@@ -6,11 +6,11 @@ use mathlib.Core.Path.{_≡_, refl, sym, _∙_}
 use native.Mathlib.Omega.{arith}
 use lib.Dec.{eqb}
 use lib.ListN.{length}
-use borrow.Author.Tests.{eqb-true, eqb-false}
+use borrow.Author.Tests.{eqb-true}
 use Rattle.ids.specs.Ids.{at}
 use Rattle.layouts.specs.Layout.{most}
 use Rattle.layouts.specs.Questions.{kindOf, rulesOf, numbersOf, rulesBy, row}
-use Rattle.layouts.specs.QuestionLaws.{at-row, kind-in, kind-some, length-row, rules-same, rules-by, permitted-row}
+use Rattle.layouts.specs.QuestionLaws.{at-row, length-row, rules-same, rules-by, permitted-row}
 use Rattle.records.specs.Accepted.{Accepted, kind-number, numbers-few}
 use Rattle.records.specs.Accepted as records
 use Rattle.heads.specs.declared.Head.{Head}
@@ -40,13 +40,14 @@ module _ (bytes : List ℕ) (a : Accepted bytes) where
   within =
       let k = at vs 0 in
       either Within (eqb k 1) (λ e. let o = records.opening bytes a (kind-is 1 (eqb-true k 1 e)) in record { leap = o .leap; factor = o .factor .1; requirement = o .requirement .1 })
-      (λ n1. either Within (eqb k 2) (λ e.
+      (λ _. either Within (eqb k 2) (λ e.
       let r = records.registration bytes a (kind-is 2 (eqb-true k 2 e)) in
       record { id = r .id; seller = r .seller; area = r .area; zone = r .zone; product = omega (arith, r .product); committed = r .committed .1; rate = r .rate })
-      (λ n2. either Within (eqb k 3) (λ e. let j = records.lse bytes a (kind-is 3 (eqb-true k 3 e)) in record { id = j .id; obligation = j .obligation .1 })
-      (λ n3. either Within (eqb k 4) (λ e. records.event bytes a (kind-is 4 (eqb-true k 4 e)) .month .1)
-      (λ n4. either Within (eqb k 5) (λ e. let t = records.test bytes a (kind-is 5 (eqb-true k 5 e)) in record { zone = t .zone; product = omega (arith, t .product) })
-      (λ n5. records.close bytes a (kind-is 6 (omega (arith, kind-number bytes a, kind-some (kindOf bytes) (a .kind), kind-in (kindOf bytes) (a .kind), eqb-false k 1 n1, eqb-false k 2 n2, eqb-false k 3 n3, eqb-false k 4 n4, eqb-false k 5 n5))) .month .1)))))
+      (λ _. either Within (eqb k 3) (λ e. let j = records.lse bytes a (kind-is 3 (eqb-true k 3 e)) in record { id = j .id; obligation = j .obligation .1 })
+      (λ _. either Within (eqb k 4) (λ e. records.event bytes a (kind-is 4 (eqb-true k 4 e)) .month .1)
+      (λ _. either Within (eqb k 5) (λ e. let t = records.test bytes a (kind-is 5 (eqb-true k 5 e)) in record { zone = t .zone; product = omega (arith, t .product) })
+      (λ _. either Within (eqb k 6) (λ e. records.close bytes a (kind-is 6 (eqb-true k 6 e)) .month .1)
+      (λ _. omega arith))))))
 
   pub permits : Permitted vs
   unfolding valuesOf rulesBy

@@ -23,7 +23,7 @@ pub record Record : Type 0 where
   pub head : Head
   pub listing : Listing
 
--- the head of a record with these numbers, by its kind (question 1 lets no other number pass)
+-- the head of a record with these numbers, by its kind; a number that is none, which question 1 does not let pass, reads as a close of no month
 unfoldable pub headOf : List ℕ → Head
 headOf vs =
     let v = at vs in
@@ -32,7 +32,8 @@ headOf vs =
     (cond (eqb (v 0) 3) (Lse (record { id = v 1; obligation = v 2 }))
     (cond (eqb (v 0) 4) (Event (record { area = v 1; month = v 2; period = v 3 }))
     (cond (eqb (v 0) 5) (Test (record { zone = v 1; product = v 2; month = v 3 }))
-    (Close (record { month = v 1 }))))))
+    (cond (eqb (v 0) 6) (Close (record { month = v 1 }))
+    (Close (record { month = 0 })))))))
 
 -- a listing with one item more, its id first: an entry where it has reductions, of which the first is kept, else a deficit
 unfoldable pub withItem : List ℕ → (ℕ → ℕ) → Listing → Listing

@@ -6,13 +6,13 @@ use mathlib.Core.Path.{_≡_, refl, fun-ext}
 use native.Mathlib.Nat.{le-refl}
 use native.Mathlib.Numerals.{add-one}
 use native.Mathlib.Omega.{arith}
-use borrow.Author.Tests.{eqb-true, eqb-false}
+use borrow.Author.Tests.{eqb-true}
 use lib.Dec.{eqb}
 use lib.ListN.{length}
 use Rattle.ids.specs.Ids.{at}
 use Rattle.layouts.specs.Layout.{head, lists, listAt, itemsIn, itemAt, itemIn}
-use Rattle.layouts.specs.Questions.{isKind, row}
-use Rattle.layouts.specs.QuestionLaws.{at-row, kind-in, kind-some, counts-same, fields-same}
+use Rattle.layouts.specs.Questions.{row}
+use Rattle.layouts.specs.QuestionLaws.{at-row, counts-same, fields-same}
 use Rattle.year.specs.declared.Listing.{Listing}
 use Rattle.year.specs.Year.{noListing}
 use Rattle.heads.specs.declared.Head.{Head}
@@ -24,7 +24,7 @@ either true h g = h refl
 either false h g = g refl
 
 -- two lists of numbers of one kind with the same head
-module _ (vs ws : List ℕ) (kind : isKind (at vs 0) ≡ true) (first : at ws 0 ≡ at vs 0) (same : (j : ℕ) → j < length (head (at vs 0)) → at ws j ≡ at vs j) where
+module _ (vs ws : List ℕ) (first : at ws 0 ≡ at vs 0) (same : (j : ℕ) → j < length (head (at vs 0)) → at ws j ≡ at vs j) where
   number : (k j : ℕ) → at vs 0 ≡ k → j < length (head k) → at ws j ≡ at vs j
   number k j e l = same j (rw e l)
 
@@ -34,11 +34,12 @@ module _ (vs ws : List ℕ) (kind : isKind (at vs 0) ≡ true) (first : at ws 0 
       let k = at vs 0 in
       rw first
       (either (eqb k 1) (λ y. let e = eqb-true k 1 y in rw (number 1 1 e (omega arith), number 1 2 e (omega arith), number 1 3 e (omega arith)))
-      (λ n1. either (eqb k 2) (λ y. let e = eqb-true k 2 y in rw (number 2 1 e (omega arith), number 2 2 e (omega arith), number 2 3 e (omega arith), number 2 4 e (omega arith), number 2 5 e (omega arith), number 2 6 e (omega arith), number 2 7 e (omega arith)))
-      (λ n2. either (eqb k 3) (λ y. let e = eqb-true k 3 y in rw (number 3 1 e (omega arith), number 3 2 e (omega arith)))
-      (λ n3. either (eqb k 4) (λ y. let e = eqb-true k 4 y in rw (number 4 1 e (omega arith), number 4 2 e (omega arith), number 4 3 e (omega arith)))
-      (λ n4. either (eqb k 5) (λ y. let e = eqb-true k 5 y in rw (number 5 1 e (omega arith), number 5 2 e (omega arith), number 5 3 e (omega arith)))
-      (λ n5. rw (number 6 1 (omega (arith, kind-some k kind, kind-in k kind, eqb-false k 1 n1, eqb-false k 2 n2, eqb-false k 3 n3, eqb-false k 4 n4, eqb-false k 5 n5)) (omega arith))))))))
+      (λ _. either (eqb k 2) (λ y. let e = eqb-true k 2 y in rw (number 2 1 e (omega arith), number 2 2 e (omega arith), number 2 3 e (omega arith), number 2 4 e (omega arith), number 2 5 e (omega arith), number 2 6 e (omega arith), number 2 7 e (omega arith)))
+      (λ _. either (eqb k 3) (λ y. let e = eqb-true k 3 y in rw (number 3 1 e (omega arith), number 3 2 e (omega arith)))
+      (λ _. either (eqb k 4) (λ y. let e = eqb-true k 4 y in rw (number 4 1 e (omega arith), number 4 2 e (omega arith), number 4 3 e (omega arith)))
+      (λ _. either (eqb k 5) (λ y. let e = eqb-true k 5 y in rw (number 5 1 e (omega arith), number 5 2 e (omega arith), number 5 3 e (omega arith)))
+      (λ _. either (eqb k 6) (λ y. rw (number 6 1 (eqb-true k 6 y) (omega arith)))
+      (λ _. refl)))))))
 
 -- one item more, and one list more, as a loop says it
 pub items-more : (k : ℕ) (vs : List ℕ) (i : ℕ) (l : Listing) (n : ℕ) → withItems k vs i l (n + 1) ≡ withItem (listAt k i .reductions) (itemIn k vs i n) (withItems k vs i l n)
@@ -71,11 +72,11 @@ module _ (R : Listing → Listing → Type 0) (vs ws : List ℕ) (first : at ws 
   listing-keeps r = rw first (lists-keep (length (lists (at vs 0))) (le-refl _) r)
 
 -- a record's numbers in a row make the same record
-pub record-row : (vs : List ℕ) → isKind (at vs 0) ≡ true → recordOf (row vs) ≡ recordOf vs
-record-row vs kind =
+pub record-row : (vs : List ℕ) → recordOf (row vs) ≡ recordOf vs
+record-row vs =
     let same : (j : ℕ) → at (row vs) j ≡ at vs j = at-row vs in
     cc (
-      same-head vs (row vs) kind (same 0) (λ j l. same j),
+      same-head vs (row vs) (same 0) (λ j l. same j),
       listing-keeps (λ l n. n ≡ l) vs (row vs) (same 0) (λ j l. same j)
           (λ i m l h a b e. rw (e, fun-ext (λ f. same (itemAt (at vs 0) vs i m + f)))) refl,
     )

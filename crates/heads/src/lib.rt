@@ -98,5 +98,8 @@ pub fn head_of(values: &[u64]) -> Head
             month: values[3],
         });
     }
-    Head::Close(CloseHead { month: values[1] })
+    if kind == 6 {
+        return Head::Close(CloseHead { month: values[1] });
+    }
+    Head::Close(CloseHead { month: 0 }) // no kind
 }

@@ -77,4 +77,4 @@ module _ (T : Terms) (s : ℕ) (f : ℕ → ℕ) {vs : List ℕ} (p : Permitted 
   alike-replaced =
       let first = kept-head T s f vs 0 (head-kind k (p .kind) .0) in
       let a = listing-keeps (AlikeListing T s) vs new first (kept-head T s f vs) alike-item (record { listed = refl; deficits = refl; long = refl; reductions = λ i o. refl }) in
-      record { heads = sym (same-head vs new (p .kind) first (kept-head T s f vs)); listed = a .listed; deficits = a .deficits; reductions = a .reductions }
+      record { heads = sym (same-head vs new first (kept-head T s f vs)); listed = a .listed; deficits = a .deficits; reductions = a .reductions }

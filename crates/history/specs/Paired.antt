@@ -16,7 +16,7 @@ use Rattle.heads.specs.RecordLaws.{record-row}
 use Rattle.heads.specs.Listed.{Permitted}
 use Rattle.history.specs.Runs.{Call, accepts, replaced}
 use Rattle.history.specs.Admitted.{accepted-record}
-use Rattle.history.specs.Replaced.{kept-kind, writes}
+use Rattle.history.specs.Replaced.{writes}
 use Rattle.history.specs.Alike.{Alike, alike-refl, alike-replaced}
 
 pub record Paired (s : ℕ) (y : Year) (c d : Call) : Type 0 where
@@ -40,11 +40,10 @@ paired-accepted s y c d a f small b l =
     let p : Permitted (numbersOf (c .bytes)) = record { kind = rw (numbers-kind (c .bytes) (w .kind)) (w .kind); fields = rw r (w .permits) } in
     let ok = writes (y .terms) s f (numbersOf (c .bytes)) p small (numbers-count (c .bytes) ∙ ap length (sym r)) (w .rise) in
     let back = write-reads ws (sizeOf (rulesBy ws)) ok rest in
-    let kind = kept-kind (y .terms) s f (numbersOf (c .bytes)) p small (numbers-count (c .bytes) ∙ ap length (sym r)) (w .rise) in
     record {
       room = sym l;
       number = not-failed (c .bytes) w ∙ sym (ap recordNumber b ∙ back .accepts);
       alike =
-          rw (b, back .numbers, record-row (numbersOf (c .bytes)) (p .kind), record-row ws (rw kind (p .kind)))
+          rw (b, back .numbers, record-row (numbersOf (c .bytes)), record-row ws)
           (alike-replaced (y .terms) s f p);
     }

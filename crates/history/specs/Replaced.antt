@@ -84,7 +84,7 @@ module _ (T : Terms) (s : ℕ) (f : ℕ → ℕ) (vs : List ℕ) where
   counts-kept = counts-same (at vs 0) new vs kept-head
 
   module _ (p : Permitted vs) (small : (j : ℕ) → f j ≤ 100000) (long : length vs ≡ length (rulesBy vs)) (rise : idsRise vs ≡ true) where
-    pub kept-kind : at new 0 ≡ at vs 0
+    kept-kind : at new 0 ≡ at vs 0
     kept-kind = kept-head 0 (head-kind (at vs 0) (p .kind) .0)
 
     rules-kept : rulesBy new ≡ rulesBy vs

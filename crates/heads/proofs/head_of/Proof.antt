@@ -27,14 +27,18 @@ returns-5 c = rw (c .before .before .before .if5 .taken)
 
 returns-6 : tie.Need-returns-6
 unfolding headOf
-returns-6 c =
-    let other = c .before in
+returns-6 c = rw (c .before .if6 .taken)
+
+returns-7 : tie.Need-returns-7
+unfolding headOf
+returns-7 c =
     rw (
-      ne-eqb _ 1 (other .before .before .before .before .if1 .left),
-      ne-eqb _ 2 (other .before .before .before .if2 .left),
-      ne-eqb _ 3 (other .before .before .if3 .left),
-      ne-eqb _ 4 (other .before .if4 .left),
-      ne-eqb _ 5 (other .if5 .left),
+      ne-eqb _ 1 (c .before .before .before .before .before .if1 .left),
+      ne-eqb _ 2 (c .before .before .before .before .if2 .left),
+      ne-eqb _ 3 (c .before .before .before .if3 .left),
+      ne-eqb _ 4 (c .before .before .if4 .left),
+      ne-eqb _ 5 (c .before .if5 .left),
+      ne-eqb _ 6 (c .if6 .left),
     )
 
 pub head-of-spec : {M : Type 1} → statement M
@@ -66,4 +70,5 @@ head-of-spec =
     (λ c. search needs)
     returns-5
     (λ c. search needs)
-    returns-6)
+    returns-6
+    returns-7)
