@@ -85,7 +85,7 @@ module _ {vs : List ℕ} (p : Permitted vs) where
   unfolding rulesBy
   yes-head = head-permitted (at vs 0) vs vs (p .fields)
 
-  pub numbers-few : length (rulesFor (at vs 0) vs) ≤ most
+  numbers-few : length (rulesFor (at vs 0) vs) ≤ most
   numbers-few = few-numbers (at vs 0) vs yes-head
 
   pub stated : length vs ≡ most → Stated (at vs 0) vs

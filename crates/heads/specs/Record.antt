@@ -58,7 +58,7 @@ recordOf vs = record { head = headOf vs; listing = listingIn vs }
 
 -- by its kind
 module _ {A : Type 0} where
-  abbrev pub byKind : (OpeningHead → A) → (RegistrationHead → A) → (LseHead → A) → (EventHead → A) → (TestHead → A) → (CloseHead → A) → Head → A
+  abbrev byKind : (OpeningHead → A) → (RegistrationHead → A) → (LseHead → A) → (EventHead → A) → (TestHead → A) → (CloseHead → A) → Head → A
   byKind o r l e t c (Opening h) = o h
   byKind o r l e t c (Registration h) = r h
   byKind o r l e t c (Lse h) = l h

@@ -181,11 +181,6 @@ kind-in k e = elim (decLt k (length layouts)) [
   | no l ↦ absurd (let z : _≡_ {A = ℕ} 0 1 = cc (not-kind k (omega arith)) in omega arith)
 ]
 
-pub kind-some : (k : ℕ) → isKind k ≡ true → 1 ≤ k
-unfolding isKind
-kind-some zero e = absurd (let z : _≡_ {A = ℕ} 0 1 = cc in omega arith)
-kind-some (suc k) e = omega arith
-
 pub head-kind : (k : ℕ) → isKind k ≡ true → (1 ≤ length (head k)) × (getD (widths (head k)) 0 0 ≡ 4)
 unfolding isKind every
 head-kind k e =

@@ -35,7 +35,7 @@ module _ (k : ℕ) (vs : List ℕ) where
       rw add-suc (omega (arith, more, places-rise i j))
 
   -- a list's items stand before the next list
-  pub before-list : {i m f : ℕ} → Field k vs i m f → (j : ℕ) → i < j → itemAt k vs i m + f < placeOf k vs j
+  before-list : {i m f : ℕ} → Field k vs i m f → (j : ℕ) → i < j → itemAt k vs i m + f < placeOf k vs j
   before-list {i} {m} {f} t j l =
       let e : i + 1 + (j - (i + 1)) ≡ j = omega arith in
       omega (arith, item-before (length (listAt k i .fields)) m (itemsIn k vs i) f (t .item) (t .field), length-list k vs i, rw e at (places-rise (i + 1) (j - (i + 1))))
