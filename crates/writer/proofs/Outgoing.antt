@@ -11,14 +11,14 @@ use Rattle.bits.specs.Bits.{bitAt, fieldAt}
 use Rattle.bits.specs.BitLaws.{field-split, field-cong, byte-field}
 
 -- all but the lowest left of the n bits of a word have gone out, into the bytes from start up to at
-pub record Out (old new : List ℕ) (start at word n left : ℕ) : Type 0 where
+pub record Going (old new : List ℕ) (start at word n left : ℕ) : Type 0 where
   pub long : length new ≡ length old
   pub from : start ≤ at
   pub place : 8 * at + left ≡ 8 * start + n
   pub spells : fieldAt new 0 (8 * at) * 2 ^ left + word % 2 ^ left ≡ fieldAt old 0 (8 * start) * 2 ^ n + word
   pub after : (i : ℕ) → at ≤ i → getD new i 0 ≡ getD old i 0
 
-pub out-none : (xs : List ℕ) (at word n : ℕ) → word < 2 ^ n → Out xs xs at at word n n
+pub out-none : (xs : List ℕ) (at word n : ℕ) → word < 2 ^ n → Going xs xs at at word n n
 out-none xs at word n h =
     record { long = refl; from = omega arith; place = refl; spells = rw (mod-eq-of-lt h); after = λ i l. refl }
 
@@ -26,8 +26,8 @@ out-none xs at word n h =
 same-number : (f b m K r : ℕ) → f * (2 ^ 8 * K) + (b * K + m) ≡ r → (f * 2 ^ 8 + b) * K + m ≡ r
 same-number f b m K r e = omega arith
 
-pub out-more : {old cur : List ℕ} {start at word n left : ℕ} (k : ℕ) → left ≡ 8 + k → at < length cur → Out old cur start at word n left
-    → Out old (set cur at (word / 2 ^ k % 2 ^ 8)) start (at + 1) word n k
+pub out-more : {old cur : List ℕ} {start at word n left : ℕ} (k : ℕ) → left ≡ 8 + k → at < length cur → Going old cur start at word n left
+    → Going old (set cur at (word / 2 ^ k % 2 ^ 8)) start (at + 1) word n k
 unfolding bitAt
 out-more {old} {cur} {start} {at} {word} {n} {left} k e h f =
     let b = word / 2 ^ k % 2 ^ 8 in

@@ -1,4 +1,4 @@
--- What a writer writes: a number bit by bit, its whole bytes to a list of bytes, and the bits behind them held back.
+-- What a writer writes: a number bit by bit, its whole words to a list of bytes, and the bits behind them held back.
 use mathlib.Core.Path.{_≡_}
 use mathlib.Core.List.{List, [], _∷_}
 use Prim.Native.Nat.{ℕ, _+_, _-_, _*_, _^_, _≤_, _<_}
@@ -21,14 +21,21 @@ writtenBits p = 8 * p .at + p .held
 abbrev pub written : List ℕ → Writer → ℕ
 written xs p = fieldAt xs 0 (8 * p .at) * 2 ^ p .held + p .rest
 
--- less than a byte is held back
+-- n bytes from a place on are a number's, and those behind them are as they were
+pub record Out (old new : List ℕ) (at n v : ℕ) : Type 0 where
+  pub long : length new ≡ length old
+  pub spells : fieldAt new 0 (8 * (at + n)) ≡ fieldAt old 0 (8 * at) * 2 ^ (8 * n) + v
+  pub after : (i : ℕ) → at + n ≤ i → getD new i 0 ≡ getD old i 0
+
+-- less than a word of eight bytes is held back
 pub record Ready (p : Writer) : Type 0 where
-  pub part : p .held < 8
+  pub part : p .held < 64
   pub small : p .rest < 2 ^ p .held
 
 -- the writer p has gone on to q, by the w bits of v; the bytes from its next one on are as they were
 pub record Wrote (old new : List ℕ) (p q : Writer) (w v : ℕ) : Type 0 where
   pub long : length new ≡ length old
+  pub onward : p .at ≤ q .at
   pub ready : Ready q
   pub ends : writtenBits q ≡ writtenBits p + w
   pub spells : written new q ≡ written old p * 2 ^ w + v

@@ -83,17 +83,18 @@ joined-fields xs p (w ∷ ws) (v ∷ vs) a e f =
     rw (first, joined-fields xs (p + w) ws vs (a .1) (omega arith) rest)
 
 pub written-none : (xs : List ℕ) (p : Writer) → Ready p → Wrote xs xs p p 0 0
-written-none xs p r = record { long = refl; ready = r; ends = omega arith; spells = omega arith; after = λ i l. refl }
+written-none xs p r = record { long = refl; onward = omega arith; ready = r; ends = omega arith; spells = omega arith; after = λ i l. refl }
 
 -- one number after another
 pub written-join : {old cur new : List ℕ} {p q r : Writer} {a u b v : ℕ} → Wrote old cur p q a u → Wrote cur new q r b v → Wrote old new p r (a + b) (u * 2 ^ b + v)
 written-join {old} {cur} {new} {p} {q} {r} {a} {u} {b} {v} f g =
     record {
       long = g .long ∙ f .long;
+      onward = omega (arith, f .onward, g .onward);
       ready = g .ready;
       ends = omega (arith, f .ends, g .ends);
       spells = g .spells ∙ ap (λ (x : ℕ). x * 2 ^ b + v) (f .spells) ∙ rw (pow-add 2 a b) (omega arith);
-      after = λ i l. g .after i l ∙ f .after i (omega (arith, g .ends, g .ready .part));
+      after = λ i l. g .after i l ∙ f .after i (omega (arith, g .onward));
     }
 
 -- a table written from the first bit on, and then zero bits, make the encoding

@@ -1,16 +1,30 @@
-// A writer by value: it writes fields one right after another from the first bit on, and holds back the bits of a byte that is not whole yet.
+// A writer by value: it writes fields one right after another from the first bit on, and holds back the bits of a word that is not whole yet.
 ghost use mathlib.Core.Path.{_≡_};
 ghost use Prim.Native.Nat.{_+_, _*_, _^_, _≤_, _<_};
 ghost use lib.Dec.{T};
 ghost use lib.ListN.{length};
 ghost use Rattle.bits.specs.Table.{total, times, narrow, Valid};
-ghost use Rattle.writer.specs.Written.{writtenBits, joined, Ready, Wrote, Finished};
+ghost use Rattle.writer.specs.Written.{writtenBits, joined, Out, Ready, Wrote, Finished};
 
-// The next byte, and the bits held back for it: how many, and the number that they spell.
+// The next byte, and the bits held back from it on: how many, and the number that they spell.
 pub struct Writer {
     pub at: usize,
     pub held: usize,
     pub rest: u64,
+}
+
+// The last n bytes of a word over the bytes from a place on, the most significant first.
+fn out(bytes: &mut [u8], at: usize, n: usize, word: u64)
+    requires { ⌜ n ≤ 8 ⌝ }
+    requires { ⌜ word < 2 ^ (8 * n) ⌝ }
+    requires { ⌜ at + n ≤ length (now bytes) ⌝ }
+    ensures { λ r. ⌜ Out (now (bytes .entry)) (now (bytes .exit)) at n word ⌝ }
+{
+    let mut i = 0;
+    while i < n {
+        bytes[at + i] = ((word >> (8 * (n - 1 - i))) & 255) as u8;
+        i += 1;
+    }
 }
 
 impl Writer {
@@ -24,7 +38,7 @@ impl Writer {
         }
     }
 
-    // The value in the next width bits: the bytes that are whole now go out.
+    // The value in the next width bits: a word of eight bytes that is whole now goes out.
     pub fn put(self, bytes: &mut [u8], width: usize, value: u64) -> Writer
         requires { ⌜ Ready self ⌝ }
         requires { ⌜ width ≤ 42 ⌝ }
@@ -32,18 +46,25 @@ impl Writer {
         requires { ⌜ writtenBits self + width ≤ 8 * length (now bytes) ⌝ }
         ensures { λ r. ⌜ Wrote (now (bytes .entry)) (now (bytes .exit)) self r width value ⌝ }
     {
-        let word = (self.rest << width) | value;
-        let mut at = self.at;
-        let mut left = self.held + width;
-        while 8 <= left {
-            left -= 8;
-            bytes[at] = ((word >> left) & 255) as u8;
-            at += 1;
+        let bits = self.held + width;
+        if bits < 64 {
+            return Writer {
+                at: self.at,
+                held: bits,
+                rest: (self.rest << width) | value,
+            };
         }
+        let over = bits - 64;
+        out(
+            bytes,
+            self.at,
+            8,
+            (self.rest << (width - over)) | (value >> over),
+        );
         Writer {
-            at: at,
-            held: left,
-            rest: word & ((1u64 << left) - 1),
+            at: self.at + 8,
+            held: over,
+            rest: value & ((1u64 << over) - 1),
         }
     }
 
@@ -93,9 +114,8 @@ impl Writer {
         requires { ⌜ writtenBits self ≤ 8 * length (now bytes) ⌝ }
         ensures { λ r. ⌜ Finished (now (bytes .entry)) (now (bytes .exit)) self r ⌝ }
     {
-        if self.held == 0 {
-            return self.at;
-        }
-        self.put(bytes, 8 - self.held, 0).at
+        let size = (self.held + 7) / 8;
+        out(bytes, self.at, size, self.rest << (8 * size - self.held));
+        self.at + size
     }
 }

@@ -1,36 +1,56 @@
--- Where no bit is held the bytes are whole; else zero bits make the last one whole.
+-- Zero bits behind those held make the last byte whole.
 use mathlib.Core.Path.{_≡_, refl}
-use Prim.Native.Nat.{_-_, _*_}
+use Prim.Native.Nat.{ℕ, _+_, _-_, _*_, _/_, _%_, _^_, _≤_, _<_}
 use borrow.Author.Needs.{needs}
 use native.Mathlib.Omega.{arith}
-use lib.Pow.{pow-pos}
-use Rattle.writer.specs.Written.{writtenBits}
+use lib.Pow.{pow-add, shl-exact, shl-lt}
+use Rattle.bits.specs.Bits.{fieldAt}
+use Rattle.writer.specs.declared.Writer.{Writer}
+use Rattle.writer.specs.Written.{writtenBits, Ready}
 use Rattle.writer.proofs.Writer.finish.Statement.{statement}
 use Rattle.writer.proofs.Writer.finish.Tie as tie
 
+-- the bits held, and n zero bits behind them
+module _ (p : Writer) (n m : ℕ) (r : Ready p) (e : p .held + n ≡ m) (l : m ≤ 64) where
+  filled : (p .rest * 2 ^ n) % 2 ^ 64 ≡ p .rest * 2 ^ n
+  filled = shl-exact {a = p .rest} (p .held) n 64 (r .small) (omega arith)
+
+  filled-lt : (p .rest * 2 ^ n) % 2 ^ 64 < 2 ^ m
+  filled-lt = rw (filled, ← e) (shl-lt {a = p .rest} (p .held) n (r .small))
+
+  spells : (f : ℕ) → f * 2 ^ m + (p .rest * 2 ^ n) % 2 ^ 64 ≡ (f * 2 ^ p .held + p .rest) * 2 ^ n
+  spells f = rw (filled, ← e, pow-add 2 (p .held) n) (omega arith)
+
+out-requires : tie.Need-out-requires
+out-requires c κs =
+    let s = c .before .before .before .before .before in
+    let p = s .args .self in
+    let size = (p .held + 7) / 8 in
+    (omega (arith, s .pre .0 .part), (filled-lt p (8 * size - p .held) (8 * size) (s .pre .0) (omega arith) (omega (arith, s .pre .0 .part)), omega arith))
+
 returns : tie.Need-returns
 returns c =
-    let s = c .before .before .before in
+    let s = c .before .before .before .before .before .before .before .before .before in
     let p = s .args .self in
-    let held : p .held ≡ 0 = omega arith in
-    let rest : p .rest ≡ 0 = omega (arith, rw held at (s .pre .0 .small)) in
-    let fill : 8 * p .at - writtenBits p ≡ 0 = omega arith in
-    record { long = refl; ends = omega arith; spells = rw (fill, rest, held) (omega arith); after = λ i l. refl }
-
-put-requires : tie.Need-put-requires
-put-requires c κs = (search needs, (search needs, (pow-pos _, search needs)))
-
-returns-2 : tie.Need-returns-2
-returns-2 c =
-    let s = c .before .before .before .before .before .before .before .before in
-    let p = s .args .self in
-    let f = c .before .before .put .ensures in
-    let q = c .before .before .put .result in
-    let held : q .held ≡ 0 = omega (arith, f .ends, f .ready .part) in
-    let rest : q .rest ≡ 0 = omega (arith, rw held at (f .ready .small)) in
-    let fill : 8 * q .at - writtenBits p ≡ 8 - p .held = omega (arith, f .ends) in
-    let all = rw (held, rest) at (f .spells) in
-    record { long = f .long; ends = omega (arith, f .ends); spells = rw fill (omega (arith, all)); after = f .after }
+    let size = (p .held + 7) / 8 in
+    let g = c .before .before .before .out .ensures in
+    let fill : 8 * (p .at + size) - writtenBits p ≡ 8 * size - p .held = omega arith in
+    record {
+      long = g .long;
+      ends = omega arith;
+      spells = rw (g .spells, fill) (spells p (8 * size - p .held) (8 * size) (s .pre .0) (omega arith) (omega (arith, s .pre .0 .part)) (fieldAt (s .args .bytes .now) 0 (8 * p .at)));
+      after = g .after;
+    }
 
 pub finish-spec : {M : Type 1} → statement M
-finish-spec = tie.close (tie.spec returns (λ c. search needs) put-requires (λ c. search needs) returns-2)
+finish-spec =
+    tie.close
+    (tie.spec
+    (λ c. search needs)
+    (λ c. search needs)
+    (λ c. search needs)
+    (λ c. search needs)
+    out-requires
+    (λ c. search needs)
+    (λ c. search needs)
+    returns)

@@ -1,86 +1,111 @@
--- The held bits and the value make a word, which goes out byte by byte; what is left of it is held.
-use mathlib.Core.Path.{_≡_, _∙_}
+-- The held bits and the value make a number; where it is a word or more, the word goes out and the bits over are held.
+use mathlib.Core.Path.{_≡_, refl, sym, ap, _∙_}
 use Prim.Native.Nat.{ℕ, _+_, _-_, _*_, _/_, _%_, _^_, _≤_, _<_}
+use borrow.Author.Needs.{needs}
 use native.Mathlib.Nat.{mod-lt}
 use native.Mathlib.Omega.{arith}
 use lib.Arith.{digits-lt}
-use lib.Bits.{bitAnd, bitOr, and-mask, mask-lt}
-use lib.Pow.{pow-pos, pow-add}
+use lib.Bits.{bitOr}
+use lib.Pow.{pow-pos, pow-add, shr-lt, split}
 use Rattle.writer.specs.declared.Writer.{Writer}
 use Rattle.writer.specs.Written.{Ready}
+use Rattle.bits.specs.Bits.{fieldAt}
 use Rattle.bits.proofs.Shifts.{one-shl, masked, behind}
-use Rattle.writer.proofs.Outgoing.{Out, out-none, out-more}
 use Rattle.writer.proofs.Writer.put.Statement.{statement}
 use Rattle.writer.proofs.Writer.put.Tie as tie
 
-abbrev Inv-loop : tie.InvT-loop
-Inv-loop bytes₀ width value word at₀ left₀ bytes at left = Out bytes₀ bytes at₀ at word left₀ left
+-- u of a bits and v of b bits behind it, as the code computes their number
+abbrev both : ℕ → ℕ → ℕ → ℕ
+both u b v = bitOr ((u * 2 ^ b) % 2 ^ 64) v
 
-abbrev μ-loop : tie.MeasureT-loop
-μ-loop bytes₀ width value word at₀ left₀ bytes at left = left
+module _ (p : Writer) (b v : ℕ) (r : Ready p) (h : p .held + b ≤ 64) (l : v < 2 ^ b) where
+  both-is : both (p .rest) b v ≡ p .rest * 2 ^ b + v
+  both-is = behind (p .rest) v (p .held) b h (r .small) l
 
--- the word, as the code computes it
-abbrev word : Writer → ℕ → ℕ → ℕ
-word p w v = bitOr ((p .rest * 2 ^ w) % 2 ^ 64) v
+  both-lt : both (p .rest) b v < 2 ^ (p .held + b)
+  both-lt = rw (both-is, pow-add 2 (p .held) b) (digits-lt (r .small) l)
 
-module _ (p : Writer) (w v : ℕ) (r : Ready p) (h : w ≤ 42) (l : v < 2 ^ w) where
-  word-is : word p w v ≡ p .rest * 2 ^ w + v
-  word-is = behind (p .rest) v (p .held) w (omega (arith, r .part)) (r .small) l
-
-  word-lt : word p w v < 2 ^ (p .held + w)
-  word-lt = rw (word-is, pow-add 2 (p .held) w) (digits-lt (r .small) l)
-
-loop-holds : tie.Need-loop-holds Inv-loop μ-loop
-loop-holds c =
-    let s = c .before .before in
-    out-none _ _ _ _ (word-lt (s .args .self) (s .args .width) (s .args .value) (s .pre .0) (s .pre .1 .0) (s .pre .1 .1 .0))
-
-cast-bytes : tie.Need-cast-bytes Inv-loop μ-loop
-cast-bytes c =
-    let a = c .before .before .before .before .args in
-    record { fits = mask-lt (word (a .self) (a .width) (a .value) / 2 ^ (c .before .loop .left - 8)) 8 }
-
-loop-again : tie.Need-loop-again Inv-loop μ-loop
-loop-again c =
-    let a = c .before .before .before .before .args in
-    let l = c .before .loop in
-    let k = l .left - 8 in
-    let byte : bitAnd (word (a .self) (a .width) (a .value) / 2 ^ k) 255 ≡ word (a .self) (a .width) (a .value) / 2 ^ k % 2 ^ 8 = and-mask _ 8 in
-    rw byte (out-more k (omega arith) (omega arith) (l .inv))
-
-sub-t16 : tie.Need-sub-t16 Inv-loop μ-loop
-sub-t16 c = rw (one-shl (c .before .loop .left) (omega arith)) (pow-pos (c .before .loop .left))
-
-returns : tie.Need-returns Inv-loop μ-loop
+returns : tie.Need-returns
 returns c =
     let s = c .before .before .before .before in
-    let a = s .args in
-    let l = c .before .loop in
-    let rest = masked (word (a .self) (a .width) (a .value)) (l .left) (omega arith) in
+    let p = s .args .self in
+    let w = s .args .width in
+    let v = s .args .value in
+    let n = both-is p w v (s .pre .0) (omega arith) (s .pre .1 .1 .0) in
     record {
-      long = l .inv .long;
-      ready = record { part = omega arith; small = rw rest (mod-lt _ (pow-pos (l .left))) };
-      ends = omega (arith, l .inv .place);
-      spells = rw rest (l .inv .spells ∙ rw (word-is (a .self) (a .width) (a .value) (s .pre .0) (s .pre .1 .0) (s .pre .1 .1 .0), pow-add 2 (a .self .held) (a .width)) (omega arith));
-      after = l .inv .after;
+      long = refl;
+      onward = omega arith;
+      ready = record { part = omega arith; small = both-lt p w v (s .pre .0) (omega arith) (s .pre .1 .1 .0) };
+      ends = omega arith;
+      spells = rw (n, pow-add 2 (p .held) w) (omega arith);
+      after = λ i h. refl;
+    }
+
+-- the word that goes out has the first d bits of the value, and the last o are over
+module _ (p : Writer) (d o v : ℕ) (r : Ready p) (e : p .held + d ≡ 64) (l : v < 2 ^ (d + o)) where
+  high-lt : v / 2 ^ o < 2 ^ d
+  high-lt = shr-lt d o l
+
+  word-is : both (p .rest) d (v / 2 ^ o) ≡ p .rest * 2 ^ d + v / 2 ^ o
+  word-is = both-is p d (v / 2 ^ o) r (omega arith) high-lt
+
+  word-lt : both (p .rest) d (v / 2 ^ o) < 2 ^ 64
+  word-lt = rw e at (both-lt p d (v / 2 ^ o) r (omega arith) high-lt)
+
+  spells : (f : ℕ) → (f * 2 ^ 64 + both (p .rest) d (v / 2 ^ o)) * 2 ^ o + v % 2 ^ o ≡ (f * 2 ^ p .held + p .rest) * 2 ^ (d + o) + v
+  spells f =
+      let whole : 2 ^ 64 ≡ 2 ^ p .held * 2 ^ d = ap (λ (n : ℕ). 2 ^ n) (sym e) ∙ pow-add 2 (p .held) d in
+      rw (word-is, whole, pow-add 2 d o) (apart f (p .rest) (v / 2 ^ o) (v % 2 ^ o) (2 ^ p .held) (2 ^ d) (2 ^ o) ∙ ap (λ (x : ℕ). (f * 2 ^ p .held + p .rest) * (2 ^ d * 2 ^ o) + x) (split v o))
+    where
+      apart : (f u q m H D O : ℕ) → (f * (H * D) + (u * D + q)) * O + m ≡ (f * H + u) * (D * O) + (q * O + m)
+      apart f u q m H D O = omega arith
+
+out-requires : tie.Need-out-requires
+out-requires c κs =
+    let s = c .before .before .before .before .before in
+    let p = s .args .self in
+    let w = s .args .width in
+    let o = p .held + w - 64 in
+    let all : w - o + o ≡ w = omega (arith, s .pre .0 .part) in
+    (omega arith, (word-lt p (w - o) o (s .args .value) (s .pre .0) (omega (arith, s .pre .0 .part)) (rw all (s .pre .1 .1 .0)), omega arith))
+
+sub-t17 : tie.Need-sub-t17
+sub-t17 c =
+    let a = c .before .before .before .before .before .before .before .before .before .args in
+    rw (one-shl (a .self .held + a .width - 64) (omega arith)) (pow-pos (a .self .held + a .width - 64))
+
+returns-2 : tie.Need-returns-2
+returns-2 c =
+    let s = c .before .before .before .before .before .before .before .before .before in
+    let p = s .args .self in
+    let w = s .args .width in
+    let v = s .args .value in
+    let o = p .held + w - 64 in
+    let g = c .before .before .before .out .ensures in
+    let rest = masked v o (omega arith) in
+    let all : w - o + o ≡ w = omega (arith, s .pre .0 .part) in
+    record {
+      long = g .long;
+      onward = omega arith;
+      ready = record { part = omega arith; small = rw rest (mod-lt v (pow-pos o)) };
+      ends = omega arith;
+      spells = rw (rest, g .spells) (rw all at (spells p (w - o) o v (s .pre .0) (omega (arith, s .pre .0 .part)) (rw all (s .pre .1 .1 .0)) (fieldAt (s .args .bytes .now) 0 (8 * p .at))));
+      after = g .after;
     }
 
 pub put-spec : {M : Type 1} → statement M
 put-spec =
     tie.close
     (tie.spec
-    Inv-loop
-    μ-loop
-    (λ c. omega arith)
-    (λ c. omega arith)
-    loop-holds
-    (λ c. omega arith)
-    cast-bytes
-    (λ c. omega arith)
-    (λ c. omega arith)
-    (λ c. omega arith)
-    loop-again
-    (λ c. omega arith)
-    sub-t16
-    (λ c. omega arith)
-    returns)
+    (λ c. search needs)
+    (λ c. search needs)
+    returns
+    (λ c. search needs)
+    (λ c. search needs)
+    (λ c. search needs)
+    out-requires
+    (λ c. search needs)
+    (λ c. search needs)
+    sub-t17
+    (λ c. search needs)
+    returns-2)
