@@ -5,7 +5,7 @@ use Prim.Native.Nat.{ℕ, _+_, _-_, _*_, _/_, _%_, _^_, _≤_, _<_}
 use native.Mathlib.Nat.{one-mul}
 use native.Mathlib.Omega.{arith}
 use lib.ListN.{getD}
-use lib.Pow.{shl-exact, shl-shr, shr-shr, field}
+use lib.Pow.{pow-add, shl-exact, shl-lt, shl-shr, shr-shr, low, field}
 use lib.Bits.{bitAnd, bitOr, and-mask, or-shifted}
 use Rattle.bits.specs.Bits.{number, fieldAt}
 use Rattle.bits.specs.BitLaws.{field-lt, field-split, field-mid, byte-field}
@@ -69,10 +69,25 @@ shifted word a w l =
     let cut : word * 2 ^ a / 2 ^ (64 - w) ≡ word / 2 ^ d = rw (rest, ← shr-shr (word * 2 ^ a) a d, shl-shr word a) in
     ap (λ (n : ℕ). (word * 2 ^ a) % 2 ^ n / 2 ^ (64 - w)) all ∙ field (word * 2 ^ a) w (64 - w) ∙ ap (λ (x : ℕ). x % 2 ^ w) cut
 
--- the w bits from p on, out of the word of the eight bytes from bit base on
-pub middle : (xs : List ℕ) (base p w word : ℕ) → base ≤ p → p - base + w ≤ 64 → word ≡ fieldAt xs base 64 → word / 2 ^ (64 - (p - base + w)) % 2 ^ w ≡ fieldAt xs p w
-middle xs base p w word l m f =
-    let d = 64 - (p - base + w) in
-    let at : base + (p - base) ≡ p = omega arith in
-    let whole : p - base + w + d ≡ 64 = omega arith in
-    rw f (rw (whole, at) at (field-mid xs base (p - base) w d))
+-- the w bits from bit p on of the word of the eight bytes from bit base on
+pub middle : (xs : List ℕ) (base p w word : ℕ) → p + w ≤ 64 → word ≡ fieldAt xs base 64 → word / 2 ^ (64 - (p + w)) % 2 ^ w ≡ fieldAt xs (base + p) w
+middle xs base p w word l f =
+    let d = 64 - (p + w) in
+    let whole : p + w + d ≡ 64 = omega arith in
+    rw f (rw whole at (field-mid xs base p w d))
+
+-- a word of fields shifted left has lost its first a bits
+pub behind-first : (xs : List ℕ) (p a : ℕ) → a ≤ 64 → (fieldAt xs p 64 * 2 ^ a) % 2 ^ 64 ≡ fieldAt xs (p + a) (64 - a) * 2 ^ a
+behind-first xs p a l =
+    let b = 64 - a in
+    let x = fieldAt xs p a in
+    let y = fieldAt xs (p + a) b in
+    let all : 64 ≡ a + b = omega arith in
+    let back : b + a ≡ 64 = omega arith in
+    let word : fieldAt xs p 64 ≡ x * 2 ^ b + y = ap (λ (w : ℕ). fieldAt xs p w) all ∙ field-split xs p a b in
+    let power : 2 ^ 64 ≡ 2 ^ b * 2 ^ a = ap (λ (w : ℕ). 2 ^ w) (sym back) ∙ pow-add 2 b a in
+    let small : y * 2 ^ a < 2 ^ 64 = rw back at (shl-lt {a = y} b a (field-lt xs (p + a) b)) in
+    rw (word, apart x y (2 ^ b) (2 ^ a), ← power) (low x 64 small)
+  where
+    apart : (x y B A : ℕ) → (x * B + y) * A ≡ x * (B * A) + y * A
+    apart x y B A = omega arith

@@ -83,6 +83,18 @@ total-in [] i h = absurd (omega arith)
 total-in (w ∷ ws) zero h = omega arith
 total-in (w ∷ ws) (suc i) h = omega (arith, total-in ws i (omega arith))
 
+-- a table of which some bits are left has a field left, and one of which none are has none
+pub fields-left : (ws : List ℕ) (i : ℕ) → i ≤ length ws → (total (take i ws) ≡ total ws → ⊥) → i < length ws
+fields-left [] zero l h = absurd (h refl)
+fields-left [] (suc i) l h = absurd (omega arith)
+fields-left (w ∷ ws) zero l h = omega arith
+fields-left (w ∷ ws) (suc i) l h = omega (arith, fields-left ws i (omega arith) (λ e. h (rw e)))
+
+pub no-field-left : (ws : List ℕ) (i : ℕ) → T (narrow ws) → i ≤ length ws → total (take i ws) ≡ total ws → i ≡ length ws
+no-field-left [] i t l e = omega arith
+no-field-left (w ∷ ws) zero t l e = absurd (omega (arith, width-in (w ∷ ws) zero t (omega arith)))
+no-field-left (w ∷ ws) (suc i) t l e = ap suc (no-field-left ws i (and-yes (leb 1 w && leb w 42) (narrow ws) t .1) (omega arith) (omega arith))
+
 -- one more width
 pub total-more : (ws : List ℕ) (i : ℕ) → i < length ws → total (take (i + 1) ws) ≡ total (take i ws) + getD ws i 0
 total-more ws i h = rw (add-one, take-suc ws i 0, total-append) (omega arith)

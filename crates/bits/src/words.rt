@@ -71,8 +71,11 @@ pub fn ahead(bytes: &[u8], first: usize) -> u64
     ensures { λ r. ⌜ r ≡ fieldAt (now (bytes .entry)) (8 * first) 64 ⌝ }
 {
     let n = bytes.len();
-    if 8 <= n - first {
+    if first + 8 <= n {
         return eight(bytes, first);
+    }
+    if 8 <= n {
+        return eight(bytes, n - 8) << (8 * (first + 8 - n));
     }
     top(bytes, first, n)
 }

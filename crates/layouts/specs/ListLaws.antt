@@ -6,19 +6,19 @@ use mathlib.Core.Path.{_≡_, refl, sym, ap, _∙_}
 use native.Mathlib.Nat.{add-zero, add-suc, le-trans}
 use native.Mathlib.Numerals.{add-one}
 use native.Mathlib.Omega.{arith}
-use borrow.Author.Tests.{leb-true}
-use lib.Dec.{leb, ltb}
+use borrow.Author.Tests.{leb-true, eqb-true, le-leb}
+use lib.Dec.{leb, ltb, eqb}
 use lib.ListN.{length, getD, drop, length-append, length-map, List·getD-append, List·getD-map}
 use lib.Seq.{getD-append-add, getD-drop, drop-drop}
 use Rattle.ids.specs.Ids.{at, allTo}
 use Rattle.ids.specs.Tests.{and-parts, all-same, all-append}
-use Rattle.bits.specs.Table.{total, times}
-use Rattle.bits.specs.TableLaws.{total-append}
+use Rattle.bits.specs.Table.{total, times, Valid}
+use Rattle.bits.specs.TableLaws.{total-append, valid-in}
 use Rattle.bits.specs.ItemLaws.{length-times, total-times, times-more, times-split}
 use Rattle.layouts.specs.Layout.{Rule, noRule, lists, listAt, itemsIn, rulesTo, rulesFor, placeOf, widths, longestRecord}
-use Rattle.layouts.specs.LayoutLaws.{every, sound, sound-rules, item-small, widths-append, widths-times, rules-more}
+use Rattle.layouts.specs.LayoutLaws.{every, sound, sound-rules, item-small, width-at, length-widths, widths-append, widths-times, rules-more}
 use Rattle.layouts.specs.Questions.{permits, permitted, rises, idsRise}
-use Rattle.layouts.specs.Parts.{Stated, lows, highs, between, within, columnWithin, itemsWithin}
+use Rattle.layouts.specs.Parts.{Stated, lows, highs, between, within, columnWithin, itemsWithin, holdAll, ColumnFits, ItemsFit}
 
 module _ (k : ℕ) (vs : List ℕ) (i : ℕ) where
   fields-behind : (j : ℕ) → (rest : List Rule) × (rulesTo k vs (i + j) ≡ rulesTo k vs i ++ rest)
@@ -112,6 +112,19 @@ rule-item k vs i l m f h g =
       omega (arith, within, ap length all, length-append (before ++ times n fs) (r .0)),
     )
 
+-- numbers that have no more bits than their widths: those of list i
+pub items-fit : (k : ℕ) (vs : List ℕ) (i : ℕ) → i < length (lists k) → length (rulesFor k vs) ≤ length vs → Valid (widths (rulesFor k vs)) vs
+    → ItemsFit (widths (listAt k i .fields)) vs (length (rulesTo k vs i)) (itemsIn k vs i)
+items-fit k vs i l n v j g m h =
+    let fs = listAt k i .fields in
+    let rs = rulesFor k vs in
+    let long = length-widths fs in
+    let q = placeOf k vs i + (m * length fs + j) in
+    let r = rule-item k vs i l m j h (omega (arith, long)) in
+    let place : placeOf k vs i + j + m * length (widths fs) ≡ q = rw long (omega arith) in
+    let width : getD (widths rs) q 0 ≡ getD (widths fs) j 0 = width-at rs q ∙ ap (λ (x : Rule). x .width) (r .0) ∙ sym (width-at fs j) in
+    rw (place, ← width) (valid-in (widths rs) vs q v (omega (arith, length-widths rs, r .1)) (omega (arith, n, r .1)))
+
 -- question 3 of fields in a row
 pub permitted-append : (rs ss : List Rule) (vs : List ℕ) → permitted (rs ++ ss) vs ≡ (permitted rs vs && permitted ss (drop (length rs) vs))
 unfolding permitted
@@ -150,6 +163,15 @@ all-both (suc m) p q = rw (all-both m p q) (swap (allTo m p) (allTo m q) (p m) (
     swap true true false d = refl
     swap true false false d = refl
     swap false b c d = refl
+
+-- limits that hold all numbers of as many bits as a column's have hold the column
+pub column-held : (l h b : ℕ) (vs : List ℕ) (p w n : ℕ) → holdAll l h b ≡ true → ColumnFits b vs p w n → columnWithin l h vs p w n ≡ true
+unfolding holdAll columnWithin
+column-held l h b vs p w n e f =
+    let a = and-parts (eqb l 0) (leb (2 ^ b - 1) h) e in
+    let low : l ≡ 0 = eqb-true l 0 (a .0) in
+    let high = leb-true (2 ^ b - 1) h (a .1) in
+    all-same n {q = λ k. true} (λ k m. rw (le-leb l (at vs (p + k * w)) (omega (arith, low)), le-leb (at vs (p + k * w)) h (omega (arith, high, f k m)))) ∙ all-none n
 
 -- field by field as item by item
 items-within : (rs : List Rule) (vs : List ℕ) (p n : ℕ) → permitted (times n rs) (drop p vs) ≡ itemsWithin (lows rs) (highs rs) vs p n

@@ -1,9 +1,9 @@
 -- The code's tables, as the layouts say them: the fields of every part of every kind one after another, a part being a head or an item of a list.
-use Prim.Native.Nat.{ℕ, zero, suc, _+_, _-_, _*_, _≤_, _<_}
+use Prim.Native.Nat.{ℕ, zero, suc, _+_, _-_, _*_, _^_, _≤_, _<_}
 use mathlib.Core.Bool.{Bool, _&&_}
 use mathlib.Core.List.{List, [], _∷_, _++_, map}
 use mathlib.Core.Path.{_≡_}
-use lib.Dec.{leb}
+use lib.Dec.{leb, eqb}
 use lib.ListN.{length, getD, take, drop}
 use Rattle.ids.specs.Ids.{at, allTo}
 use Rattle.bits.specs.Table.{total}
@@ -98,3 +98,14 @@ columnWithin l h vs p w n = allTo n (λ k. between l h (at vs (p + k * w)))
 
 unfoldable pub itemsWithin : List ℕ → List ℕ → List ℕ → ℕ → ℕ → Bool
 itemsWithin ls hs vs p n = allTo (length ls) (λ j. columnWithin (at ls j) (at hs j) vs (p + j) (length ls) n)
+
+-- the limits hold all numbers of w bits
+unfoldable pub holdAll : ℕ → ℕ → ℕ → Bool
+holdAll l h w = eqb l 0 && leb (2 ^ w - 1) h
+
+-- n numbers that stand w apart from place p on have at most b bits; and so has each number of n items in a row by its width
+abbrev pub ColumnFits : ℕ → List ℕ → ℕ → ℕ → ℕ → Type 0
+ColumnFits b vs p w n = (k : ℕ) → k < n → at vs (p + k * w) < 2 ^ b
+
+abbrev pub ItemsFit : List ℕ → List ℕ → ℕ → ℕ → Type 0
+ItemsFit ws vs p n = (j : ℕ) → j < length ws → ColumnFits (at ws j) vs (p + j) (length ws) n

@@ -3,14 +3,15 @@ use bits::Cursor;
 ghost use mathlib.Core.Path.{_≡_};
 ghost use mathlib.Core.Bool.{true};
 ghost use Prim.Native.Nat.{_+_, _-_, _*_, _^_, _≤_, _<_};
-ghost use lib.Dec.{eqb};
+ghost use lib.Dec.{T, eqb};
 ghost use lib.ListN.{length, drop};
 ghost use Rattle.ids.specs.Ids.{at};
 ghost use Rattle.bits.specs.Bits.{fieldAt};
 ghost use Rattle.bits.specs.Pack.{bytesFor};
-ghost use Rattle.layouts.specs.Layout.{layouts, head, rulesFor};
+ghost use Rattle.bits.specs.Table.{narrow, Valid};
+ghost use Rattle.layouts.specs.Layout.{layouts, head, rulesFor, widths};
 ghost use Rattle.layouts.specs.Questions.{isKind, permitted, rises, idsRise};
-ghost use Rattle.layouts.specs.Parts.{rules, lows as lowest, highs as highest, within, columnWithin, itemsWithin, Stated};
+ghost use Rattle.layouts.specs.Parts.{rules, lows as lowest, highs as highest, within, columnWithin, itemsWithin, holdAll, ColumnFits, ItemsFit, Stated};
 use crate::lists_of;
 use crate::part_at;
 use crate::shapes::head_of;
@@ -52,12 +53,34 @@ fn are_within(lows: &[u32], highs: &[u32], values: &[u64], from: usize) -> bool
     true
 }
 
-// Is each of n numbers, so far apart from a place on, within these limits?
-fn column_within(low: u64, high: u64, values: &[u64], from: usize, apart: usize, n: usize) -> bool
+// Do these limits hold all numbers of so many bits?
+fn hold_all(low: u64, high: u64, width: u8) -> bool
+    requires { ⌜ width ≤ 42 ⌝ }
+    ensures { λ r. ⌜ r ≡ holdAll low high width ⌝ }
+{
+    low == 0 && (1u64 << width) - 1 <= high
+}
+
+// Is each of n numbers, so far apart from a place on, within these limits? Where they were read from fields of so many bits, limits that hold all of these need no test.
+fn column_within(
+    read: bool,
+    width: u8,
+    low: u64,
+    high: u64,
+    values: &[u64],
+    from: usize,
+    apart: usize,
+    n: usize,
+) -> bool
+    requires { ⌜ width ≤ 42 ⌝ }
+    requires { ⌜ (read ≡ true → ColumnFits width (now values) from apart n) ⌝ }
     requires { ⌜ n * apart ≤ length (now values) ⌝ }
     requires { ⌜ from + n * apart < length (now values) + apart ⌝ }
     ensures { λ r. ⌜ r ≡ columnWithin low high (now (values .entry)) from apart n ⌝ }
 {
+    if read && hold_all(low, high, width) {
+        return true;
+    }
     let mut p = from;
     let mut k = 0;
     while k < n {
@@ -75,14 +98,27 @@ fn column_within(low: u64, high: u64, values: &[u64], from: usize, apart: usize,
 }
 
 // Is each number of n items in a row within its limits? Field by field, so that the limits are looked up once.
-fn items_within(lows: &[u32], highs: &[u32], values: &[u64], from: usize, n: usize) -> bool
+fn items_within(
+    read: bool,
+    ws: &[u8],
+    lows: &[u32],
+    highs: &[u32],
+    values: &[u64],
+    from: usize,
+    n: usize,
+) -> bool
+    requires { ⌜ length (now ws) ≡ length (now lows) ⌝ }
     requires { ⌜ length (now highs) ≡ length (now lows) ⌝ }
+    requires { ⌜ T (narrow (now ws)) ⌝ }
+    requires { ⌜ (read ≡ true → ItemsFit (now ws) (now values) from n) ⌝ }
     requires { ⌜ from + n * length (now lows) ≤ length (now values) ⌝ }
     ensures { λ r. ⌜ r ≡ itemsWithin (now (lows .entry)) (now (highs .entry)) (now (values .entry)) from n ⌝ }
 {
     let mut j = 0;
     while j < lows.len() {
         if !column_within(
+            read,
+            ws[j],
             wide(lows[j]),
             wide(highs[j]),
             values,
@@ -111,13 +147,22 @@ pub fn head_permitted(kind: usize, lows: &[u32], highs: &[u32], values: &[u64]) 
     are_within(&lows[start..end], &highs[start..end], values, 0)
 }
 
-// With a permitted head, is each number permitted?
-pub fn lists_permitted(kind: usize, lows: &[u32], highs: &[u32], values: &[u64]) -> bool
+// With a permitted head, is each number permitted? It is told whether they were read from bits.
+pub fn lists_permitted(
+    kind: usize,
+    read: bool,
+    ws: &[u8],
+    lows: &[u32],
+    highs: &[u32],
+    values: &[u64],
+) -> bool
+    requires { ⌜ now ws ≡ widths rules ⌝ }
     requires { ⌜ now lows ≡ lowest rules ⌝ }
     requires { ⌜ now highs ≡ highest rules ⌝ }
     requires { ⌜ Stated kind (now values) ⌝ }
     requires { ⌜ length (rulesFor kind (now values)) ≤ length (now values) ⌝ }
     requires { ⌜ permitted (head kind) (now values) ≡ true ⌝ }
+    requires { ⌜ (read ≡ true → Valid (widths (rulesFor kind (now values))) (now values)) ⌝ }
     ensures { λ r. ⌜ r ≡ permitted (rulesFor kind (now (values .entry))) (now (values .entry)) ⌝ }
 {
     let n = lists_of(kind);
@@ -127,7 +172,15 @@ pub fn lists_permitted(kind: usize, lows: &[u32], highs: &[u32], values: &[u64])
         let list = list_at(kind, i, values);
         let start = list.start;
         let end = list.end;
-        if !items_within(&lows[start..end], &highs[start..end], values, p, list.items) {
+        if !items_within(
+            read,
+            &ws[start..end],
+            &lows[start..end],
+            &highs[start..end],
+            values,
+            p,
+            list.items,
+        ) {
             return false;
         }
         p += list.numbers;
@@ -142,9 +195,12 @@ fn rising(values: &[u64], fields: usize, from: usize, n: usize) -> bool
     requires { ⌜ from + n * fields ≤ length (now values) ⌝ }
     ensures { λ r. ⌜ r ≡ rises (now (values .entry)) fields from n ⌝ }
 {
+    if n == 0 {
+        return true;
+    }
     let mut p = from;
-    let mut k = 0;
-    while k + 1 < n {
+    let mut k = 1;
+    while k < n {
         let q = p + fields;
         if values[q] <= values[p] {
             return false;

@@ -1,7 +1,7 @@
 -- What taking a record apart answers, from the questions' answers.
 use Prim.Native.Nat.{ℕ, zero, suc, _+_, _-_, _*_, _≤_, _<_}
 use mathlib.Core.Bool.{true, false}
-use mathlib.Core.List.{List, [], _∷_, _++_}
+use mathlib.Core.List.{List, [], _∷_, _++_, append-nil}
 use mathlib.Core.Path.{_≡_, refl, sym, ap, subst, _∙_}
 use native.Mathlib.Nat.{zero-add}
 use native.Mathlib.Omega.{arith}
@@ -11,8 +11,8 @@ use lib.ListN.{length, take, drop, set, replicate, length-append}
 use lib.Seq.{take-nil, drop-cons, drop-drop}
 use Rattle.ids.specs.Ids.{at}
 use Rattle.bits.specs.Bits.{fieldAt}
-use Rattle.bits.specs.Table.{total, times, fieldsAt, laid, narrow, Fit}
-use Rattle.bits.specs.TableLaws.{fields-append, length-fields, narrow-split}
+use Rattle.bits.specs.Table.{total, times, fieldsAt, laid, narrow, Valid, Fit}
+use Rattle.bits.specs.TableLaws.{fields-append, length-fields, fields-valid, valid-join, narrow-split}
 use Rattle.bits.specs.ItemLaws.{length-times, total-times}
 use Rattle.bits.specs.Pack.{bytesFor}
 use Rattle.layouts.specs.Layout.{Rule, head, lists, listAt, itemsIn, rulesTo, rulesFor, widths, sizeOf, longestRecord, most}
@@ -229,6 +229,14 @@ module _ {bytes values : List ℕ} {k : ℕ} (w : Known bytes k) (v : values ≡
 
   pub whole-long : length (rulesFor k values) ≤ length values
   whole-long = omega (arith, ap length whole-rules, ap length v, numbers-count bytes, row-long (numbersOf bytes))
+
+  pub whole-valid : Valid (widths (rulesFor k values)) values
+  unfolding numbersOf row
+  whole-valid =
+      let ws = widths (rulesOf bytes) in
+      let vs = fieldsAt bytes 0 ws in
+      let zeros = replicate {A = ℕ} (most - length vs) 0 in
+      rw (whole-rules, v) (subst (λ (l : List ℕ). Valid l (vs ++ zeros)) (append-nil ws) (valid-join ws [] vs zeros (length-fields bytes 0 ws) (fields-valid bytes 0 ws) tt))
 
   pub whole-kind : at values 0 ≡ k
   whole-kind = ap (λ (l : List ℕ). at l 0) v ∙ at-row (numbersOf bytes) 0 ∙ numbers-kind bytes (w .first) ∙ sym (w .kind)

@@ -72,8 +72,10 @@ fn take_head(kind: Field, bytes: &[u8], ws: &[u8], values: &mut [u64]) -> Cursor
     let part = part_at(kind.value as usize, 0);
     let start = part.start;
     let end = part.end;
+    let bits = part.bits - kind.next.at;
     values[0] = kind.value;
-    kind.next.take_all(bytes, &ws[start + 1..end], values, 1)
+    kind.next
+        .take_all(bytes, &ws[start + 1..end], bits, values, 1)
 }
 
 // The numbers of the lists, behind those of the head; the cursor behind them.
@@ -95,7 +97,7 @@ fn take_lists(c: Cursor, kind: usize, bytes: &[u8], ws: &[u8], values: &mut [u64
         let list = list_at(kind, i, values);
         let start = list.start;
         let end = list.end;
-        d = d.take_items(bytes, &ws[start..end], list.items, values, p);
+        d = d.take_items(bytes, &ws[start..end], list.bits, list.items, values, p);
         p += list.numbers;
         i += 1;
     }
@@ -149,7 +151,7 @@ fn parse_whole(
         return refused(3, size);
     }
     let end = take_lists(c, kind, bytes, ws, values);
-    if !lists_permitted(kind, &lows, &highs, values) {
+    if !lists_permitted(kind, true, ws, &lows, &highs, values) {
         return refused(3, size);
     }
     if !is_filled(end, bytes) {

@@ -108,7 +108,8 @@ pub fn write(numbers: &[u64], bytes: &mut [u8]) -> WriteAnswer
     if numbers.len() != s.count {
         return unwritten(3);
     }
-    if !lists_permitted(k, &lows, &highs, numbers) {
+    let ws = widths_of_parts();
+    if !lists_permitted(k, false, &ws, &lows, &highs, numbers) {
         return unwritten(3);
     }
     if !lists_rise(k, numbers) {
@@ -117,7 +118,6 @@ pub fn write(numbers: &[u64], bytes: &mut [u8]) -> WriteAnswer
     if bytes.len() < size_of(s) {
         return unwritten(16);
     }
-    let ws = widths_of_parts();
     let used = put_record(k, numbers, &ws, bytes);
     WriteAnswer {
         number: 0,

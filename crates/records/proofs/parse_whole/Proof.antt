@@ -6,7 +6,7 @@ use Rattle.bits.specs.Pack.{bytesFor}
 use Rattle.layouts.specs.Layout.{head, sizeOf}
 use Rattle.layouts.specs.Questions.{rulesOf, numbersOf, permitted, isFilled}
 use Rattle.layouts.specs.QuestionLaws.{few-bits}
-use Rattle.records.proofs.Reading.{fails-3, fails-4, fails-5, fails-none, refuses, fills, row-start, row-permits, row-stated, whole-stated, whole-long, whole-kind, whole-permitted, whole-head-permitted, whole-filled, whole-rise, whole-size, few-of, refused-of}
+use Rattle.records.proofs.Reading.{fails-3, fails-4, fails-5, fails-none, refuses, fills, row-start, row-permits, row-stated, whole-stated, whole-long, whole-kind, whole-permitted, whole-head-permitted, whole-valid, whole-filled, whole-rise, whole-size, few-of, refused-of}
 use Rattle.records.specs.Accepted.{numbers-count}
 use borrow.Author.Needs.{needs}
 use native.Mathlib.Omega.{arith}
@@ -57,7 +57,7 @@ lists-permitted-requires c κs =
     let w = s .pre .0 in
     let bytes = s .args .bytes .now in
     let v = c .before .before .before .before .before .take-lists .ensures .1 in
-    (c .before .before .before .before .before .before .before .before .before .before .before .before .before .lows-of-parts .ensures, (c .before .before .before .before .before .before .before .before .before .before .before .before .highs-of-parts .ensures, (whole-stated w v, (whole-long w v, whole-head-permitted w v ∙ head-at (c .before .before .before .before .before .before .before)))))
+    (s .pre .1 .1 .1 .0, (c .before .before .before .before .before .before .before .before .before .before .before .before .before .lows-of-parts .ensures, (c .before .before .before .before .before .before .before .before .before .before .before .before .highs-of-parts .ensures, (whole-stated w v, (whole-long w v, (whole-head-permitted w v ∙ head-at (c .before .before .before .before .before .before .before), λ e. whole-valid w v))))))
 
 returns-2 : tie.Need-returns-2
 returns-2 c =

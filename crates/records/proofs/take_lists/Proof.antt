@@ -44,7 +44,7 @@ take-items-requires c κs =
     let few = s .pre .1 .1 .0 in
     let whole = whole-size bytes (s .pre .1 .0) in
     rw (s .pre .1 .1 .1 .0, h .fields (λ r. r .width), h .items, row-items w (l .i) (l .inv .3) (l .i))
-    (take-fits w (l .i) (l .inv .3) few whole inside (l .inv .2), (item-small k (l .i) inside, take-room w (l .i) (l .inv .3) few whole inside (l .inv .1)))
+    (take-fits w (l .i) (l .inv .3) few whole inside (l .inv .2), (h .bits, (omega (arith, h .bits, item-small k (l .i) inside), take-room w (l .i) (l .inv .3) few whole inside (l .inv .1))))
 
 -- what list i has
 inside-at : (c : tie.After-struct-known Inv-loop μ-loop) → c .before .before .before .before .before .before .before .before .before .loop .i < length (lists (c .before .before .before .before .before .before .before .before .before .before .before .before .before .before .before .args .kind))

@@ -10,7 +10,7 @@ use Rattle.bits.proofs.Cursor.take_items.Statement.{statement}
 use Rattle.bits.proofs.Cursor.take_items.Tie as tie
 
 abbrev Inv-loop : tie.InvT-loop
-Inv-loop bytes widths n out₀ to c₀ at₀ k₀ out c at k =
+Inv-loop bytes widths bits n out₀ to c₀ at₀ k₀ out c at k =
     (k ≤ n)
     × (c .at ≡ c₀ .at + total (times k widths))
     × (at ≡ to + length (times k widths))
@@ -18,7 +18,7 @@ Inv-loop bytes widths n out₀ to c₀ at₀ k₀ out c at k =
     × (out ≡ laid to (fieldsAt bytes (c₀ .at) (times k widths)) out₀)
 
 abbrev μ-loop : tie.MeasureT-loop
-μ-loop bytes widths n out₀ to c₀ at₀ k₀ out c at k = n - k
+μ-loop bytes widths bits n out₀ to c₀ at₀ k₀ out c at k = n - k
 
 loop-holds : tie.Need-loop-holds Inv-loop μ-loop
 unfolding times

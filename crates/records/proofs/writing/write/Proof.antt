@@ -1,5 +1,5 @@
 -- The head is tested first, and says the shape of the whole.
-use mathlib.Core.Bool.{true, and-false}
+use mathlib.Core.Bool.{true, true≢false, and-false}
 use mathlib.Core.List.{List}
 use mathlib.Core.Path.{_≡_, refl, sym, ap, subst, _∙_}
 use Prim.Native.Nat.{ℕ, _≤_, _<_}
@@ -38,23 +38,23 @@ count-at c = omega (arith, c .if4 .left, c .before .before .shape-of .ensures .c
 all-at : (c : tie.Else4) → length (rulesFor (c .before .before .before .before .before .before .before .before .before .before .before .before .before .first-of .result) (c .before .before .before .before .before .before .before .before .before .before .before .before .before .before .before .before .args .numbers .now)) ≤ length (c .before .before .before .before .before .before .before .before .before .before .before .before .before .before .before .before .args .numbers .now)
 all-at c = omega (arith, count-at c, ap length (by-kind (c .before .before .before .before .before .before .before .before .before .before .before .before .before .before .before .before .args .numbers .now) (c .before .before .before .before .before .before .before .before .before .before .before .before .before .first-of .ensures)))
 
-permits-at : (c : tie.Else5) → permitted (rulesBy (c .before .before .before .before .before .before .before .before .before .before .before .before .before .before .before .before .before .before .before .before .args .numbers .now)) (c .before .before .before .before .before .before .before .before .before .before .before .before .before .before .before .before .before .before .before .before .args .numbers .now) ≡ true
+permits-at : (c : tie.Else5) → permitted (rulesBy (c .before .before .before .before .before .before .before .before .before .before .before .before .before .before .before .before .before .before .before .before .before .before .args .numbers .now)) (c .before .before .before .before .before .before .before .before .before .before .before .before .before .before .before .before .before .before .before .before .before .before .args .numbers .now) ≡ true
 permits-at c =
-    let vs = c .before .before .before .before .before .before .before .before .before .before .before .before .before .before .before .before .before .before .before .before .args .numbers .now in
-    ap (λ (rs : List Rule). permitted rs vs) (sym (by-kind vs (c .before .before .before .before .before .before .before .before .before .before .before .before .before .before .before .before .before .first-of .ensures))) ∙ sym (c .before .lists-permitted .ensures) ∙ not-false _ (c .if5 .left)
+    let vs = c .before .before .before .before .before .before .before .before .before .before .before .before .before .before .before .before .before .before .before .before .before .before .args .numbers .now in
+    ap (λ (rs : List Rule). permitted rs vs) (sym (by-kind vs (c .before .before .before .before .before .before .before .before .before .before .before .before .before .before .before .before .before .before .before .first-of .ensures))) ∙ sym (c .before .lists-permitted .ensures) ∙ not-false _ (c .if5 .left)
 
-rise-at : (c : tie.Else6) → idsRise (c .before .before .before .before .before .before .before .before .before .before .before .before .before .before .before .before .before .before .before .before .before .before .args .numbers .now) ≡ true
+rise-at : (c : tie.Else6) → idsRise (c .before .before .before .before .before .before .before .before .before .before .before .before .before .before .before .before .before .before .before .before .before .before .before .before .args .numbers .now) ≡ true
 rise-at c = sym (c .before .lists-rise .ensures) ∙ not-false _ (c .if6 .left)
 
-size-at : (c : tie.After-size-of) → c .size-of .result ≡ sizeOf (rulesBy (c .before .before .before .before .before .before .before .before .before .before .before .before .before .before .before .before .before .before .before .before .before .before .before .args .numbers .now))
+size-at : (c : tie.After-size-of) → c .size-of .result ≡ sizeOf (rulesBy (c .before .before .before .before .before .before .before .before .before .before .before .before .before .before .before .before .before .before .before .before .before .before .before .before .before .args .numbers .now))
 size-at c =
-    c .size-of .ensures ∙ ap bytesFor (c .before .before .before .before .before .before .before .before .before .shape-of .ensures .bits ∙ ap (λ (rs : List Rule). total (widths rs)) (by-kind (c .before .before .before .before .before .before .before .before .before .before .before .before .before .before .before .before .before .before .before .before .before .before .before .args .numbers .now) (c .before .before .before .before .before .before .before .before .before .before .before .before .before .before .before .before .before .before .before .before .first-of .ensures)))
+    c .size-of .ensures ∙ ap bytesFor (c .before .before .before .before .before .before .before .before .before .before .before .shape-of .ensures .bits ∙ ap (λ (rs : List Rule). total (widths rs)) (by-kind (c .before .before .before .before .before .before .before .before .before .before .before .before .before .before .before .before .before .before .before .before .before .before .before .before .before .args .numbers .now) (c .before .before .before .before .before .before .before .before .before .before .before .before .before .before .before .before .before .before .before .before .before .before .first-of .ensures)))
 
-writable-at : (c : tie.Else7) → Writable (c .before .before .before .before .before .before .before .before .before .before .before .before .before .before .before .before .before .before .before .before .before .before .before .before .args .numbers .now) (length (c .before .before .before .before .before .before .before .before .before .before .before .before .before .before .before .before .before .before .before .before .before .before .before .before .args .bytes .now))
+writable-at : (c : tie.Else7) → Writable (c .before .before .before .before .before .before .before .before .before .before .before .before .before .before .before .before .before .before .before .before .before .before .before .before .before .before .args .numbers .now) (length (c .before .before .before .before .before .before .before .before .before .before .before .before .before .before .before .before .before .before .before .before .before .before .before .before .before .before .args .bytes .now))
 writable-at c =
     record {
-      kind = first-at (c .before .before .before .before .before .before .before .before .before .before .before .before .before .before .before .before .before .before .before);
-      counted = count-at (c .before .before .before .before .before .before .before .before);
+      kind = first-at (c .before .before .before .before .before .before .before .before .before .before .before .before .before .before .before .before .before .before .before .before .before);
+      counted = count-at (c .before .before .before .before .before .before .before .before .before .before);
       permits = permits-at (c .before .before .before .before);
       rise = rise-at (c .before .before);
       fits = rw (← size-at (c .before)) (c .if7 .left);
@@ -100,43 +100,43 @@ returns-4 c =
     denies 3 (u .0) (u .1) refl (λ q. omega arith) (stops-3 _ _ (first-at (c .before .before .before .before .before .before .before .before .before .before .before .before)) (rw other))
 
 lists-permitted-requires : tie.Need-lists-permitted-requires
-lists-permitted-requires c κs = (c .before .before .before .before .before .before .before .before .before .before .lows-of-parts .ensures, (c .before .before .before .before .before .before .before .before .before .highs-of-parts .ensures, (stated-at (c .before .before .before .before .before), (all-at (c .before .before), sym (c .before .before .before .before .before .before .head-permitted .ensures) ∙ not-false _ (c .before .before .before .before .before .if3 .left)))))
+lists-permitted-requires c κs = (c .before .before .before .widths-of-parts .ensures, (c .before .before .before .before .before .before .before .before .before .before .before .before .lows-of-parts .ensures, (c .before .before .before .before .before .before .before .before .before .before .before .highs-of-parts .ensures, (stated-at (c .before .before .before .before .before .before .before), (all-at (c .before .before .before .before), (sym (c .before .before .before .before .before .before .before .before .head-permitted .ensures) ∙ not-false _ (c .before .before .before .before .before .before .before .if3 .left), λ e. absurd (true≢false (sym e))))))))
 
 returns-5 : tie.Need-returns-5
 returns-5 c =
-    let vs = c .before .before .before .before .before .before .before .before .before .before .before .before .before .before .before .before .before .before .before .before .before .args .numbers .now in
-    let e = c .before .before .before .before .before .before .before .before .before .before .before .before .before .before .before .before .before .before .first-of .ensures in
+    let vs = c .before .before .before .before .before .before .before .before .before .before .before .before .before .before .before .before .before .before .before .before .before .before .before .args .numbers .now in
+    let e = c .before .before .before .before .before .before .before .before .before .before .before .before .before .before .before .before .before .before .before .before .first-of .ensures in
     let fails = ap (λ (rs : List Rule). permitted rs vs) (sym (by-kind vs e)) ∙ sym (c .before .before .lists-permitted .ensures) ∙ not-true _ (c .before .if5 .taken) in
     let u = c .unwritten5 .ensures in
-    denies 3 (u .0) (u .1) refl (λ q. omega arith) (stops-3 _ _ (first-at (c .before .before .before .before .before .before .before .before .before .before .before .before .before .before .before .before)) (rw (fails, and-false)))
+    denies 3 (u .0) (u .1) refl (λ q. omega arith) (stops-3 _ _ (first-at (c .before .before .before .before .before .before .before .before .before .before .before .before .before .before .before .before .before .before)) (rw (fails, and-false)))
 
 lists-rise-requires : tie.Need-lists-rise-requires
-lists-rise-requires c κs = (sym (c .before .before .before .before .before .before .before .before .before .before .before .before .before .before .before .before .before .first-of .ensures), (stated-at (c .before .before .before .before .before .before .before), all-at (c .before .before .before .before)))
+lists-rise-requires c κs = (sym (c .before .before .before .before .before .before .before .before .before .before .before .before .before .before .before .before .before .before .before .first-of .ensures), (stated-at (c .before .before .before .before .before .before .before .before .before), all-at (c .before .before .before .before .before .before)))
 
 returns-6 : tie.Need-returns-6
 returns-6 c =
-    let vs = c .before .before .before .before .before .before .before .before .before .before .before .before .before .before .before .before .before .before .before .before .before .before .before .args .numbers .now in
-    let e = c .before .before .before .before .before .before .before .before .before .before .before .before .before .before .before .before .before .before .before .before .first-of .ensures in
+    let vs = c .before .before .before .before .before .before .before .before .before .before .before .before .before .before .before .before .before .before .before .before .before .before .before .before .before .args .numbers .now in
+    let e = c .before .before .before .before .before .before .before .before .before .before .before .before .before .before .before .before .before .before .before .before .before .before .first-of .ensures in
     let fails = sym (c .before .before .lists-rise .ensures) ∙ not-true _ (c .before .if6 .taken) in
     let u = c .unwritten6 .ensures in
-    denies 5 (u .0) (u .1) refl (λ q. omega arith) (stops-5 _ _ (first-at (c .before .before .before .before .before .before .before .before .before .before .before .before .before .before .before .before .before .before)) (passes _ (count-at (c .before .before .before .before .before .before .before)) (permits-at (c .before .before .before))) fails)
+    denies 5 (u .0) (u .1) refl (λ q. omega arith) (stops-5 _ _ (first-at (c .before .before .before .before .before .before .before .before .before .before .before .before .before .before .before .before .before .before .before .before)) (passes _ (count-at (c .before .before .before .before .before .before .before .before .before)) (permits-at (c .before .before .before))) fails)
 
 size-of-requires : tie.Need-size-of-requires
-size-of-requires c κs = omega (arith, c .before .before .before .before .before .before .before .before .shape-of .ensures .bits, stated-at (c .before .before .before .before .before .before .before .before .before) .bits)
+size-of-requires c κs = omega (arith, c .before .before .before .before .before .before .before .before .before .before .shape-of .ensures .bits, stated-at (c .before .before .before .before .before .before .before .before .before .before .before) .bits)
 
 returns-7 : tie.Need-returns-7
 returns-7 c =
-    let vs = c .before .before .before .before .before .before .before .before .before .before .before .before .before .before .before .before .before .before .before .before .before .before .before .before .before .args .numbers .now in
-    let e = c .before .before .before .before .before .before .before .before .before .before .before .before .before .before .before .before .before .before .before .before .before .before .first-of .ensures in
+    let vs = c .before .before .before .before .before .before .before .before .before .before .before .before .before .before .before .before .before .before .before .before .before .before .before .before .before .before .before .args .numbers .now in
+    let e = c .before .before .before .before .before .before .before .before .before .before .before .before .before .before .before .before .before .before .before .before .before .before .before .before .first-of .ensures in
     let u = c .unwritten7 .ensures in
-    denies 16 (u .0) (u .1) refl (λ q. omega arith) (stops-16 _ _ (first-at (c .before .before .before .before .before .before .before .before .before .before .before .before .before .before .before .before .before .before .before .before)) (passes _ (count-at (c .before .before .before .before .before .before .before .before .before)) (permits-at (c .before .before .before .before .before))) (rise-at (c .before .before .before)) (rw (size-at (c .before .before)) at (c .before .if7 .taken)))
+    denies 16 (u .0) (u .1) refl (λ q. omega arith) (stops-16 _ _ (first-at (c .before .before .before .before .before .before .before .before .before .before .before .before .before .before .before .before .before .before .before .before .before .before)) (passes _ (count-at (c .before .before .before .before .before .before .before .before .before .before .before)) (permits-at (c .before .before .before .before .before))) (rise-at (c .before .before .before)) (rw (size-at (c .before .before)) at (c .before .if7 .taken)))
 
 put-record-requires : tie.Need-put-record-requires
-put-record-requires c κs = (c .before .before .before .before .before .before .before .before .before .before .before .before .before .before .before .before .before .before .before .before .before .before .before .before .first-of .ensures, (writable-at (c .before .before .before), c .before .before .widths-of-parts .ensures))
+put-record-requires c κs = (c .before .before .before .before .before .before .before .before .before .before .before .before .before .before .before .before .before .before .before .before .before .before .before .before .before .first-of .ensures, (writable-at (c .before .before), c .before .before .before .before .before .before .before .before .before .before .before .widths-of-parts .ensures))
 
 returns-8 : tie.Need-returns-8
 returns-8 c =
-    let w = writable-at (c .before .before .before .before .before .before) in
+    let w = writable-at (c .before .before .before .before .before) in
     let u = c .before .before .put-record .ensures in
     grants (u .0) (u .1) (stops-none _ _ (w .kind) (passes _ (w .counted) (w .permits)) (w .rise) (w .fits))
 
@@ -161,6 +161,8 @@ write-spec =
     shape-of-requires
     (λ c κs. search needs)
     returns-4
+    (λ c κs. search needs)
+    (λ c. search needs)
     (λ c. search needs)
     (λ c. search needs)
     lists-permitted-requires
@@ -172,7 +174,6 @@ write-spec =
     size-of-requires
     (λ c κs. search needs)
     returns-7
-    (λ c κs. search needs)
     (λ c. search needs)
     put-record-requires
     (λ c. search needs)
