@@ -1,10 +1,8 @@
 -- The largest number of so many bits is a mask of as many ones.
-use mathlib.Core.Bool.{_&&_}
-use mathlib.Core.Path.{_≡_, refl}
+use mathlib.Core.Path.{_≡_}
 use borrow.Author.Needs.{needs}
 use borrow.Author.Tests.{ne-eqb}
 use native.Mathlib.Omega.{arith}
-use lib.Dec.{eqb}
 use lib.Pow.{pow-pos}
 use Rattle.bits.proofs.Shifts.{one-shl}
 use Rattle.layouts.specs.Parts.{holdAll}
