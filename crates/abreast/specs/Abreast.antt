@@ -1,5 +1,5 @@
 -- An amount a seller, allotted over its registrations: sixteen allotments side by side in four rows of the working table.
-use Prim.Native.Nat.{ℕ, _+_, _*_, _<_, _^_}
+use Prim.Native.Nat.{ℕ, _+_, _*_, _/_, _≤_, _<_, _^_}
 use mathlib.Core.Path.{_≡_, refl, sym, _∙_}
 use mathlib.Core.Bool.{Bool, true, false, cond}
 use mathlib.Core.List.{List}
@@ -15,22 +15,22 @@ use Rattle.allotment.specs.Stepper.{Asks, Gives, Before, before-first, share-as
 use Rattle.owed.specs.Facts.{Facts}
 use Rattle.owed.specs.Owed.{ofSeller, shareOf}
 use Rattle.cells.specs.Rows.{Off}
-use Rattle.table.specs.Rows.{Stored, Aside, Row, none}
+use Rattle.table.specs.Rows.{Stored, Aside, aside-of, Row, none}
 
 -- seller s's allotment, in the rows from p on
 abbrev pub stepper : ℕ → List ℕ → ℕ → Allotment
 stepper p w s =
-    record { amount = at w (p + (16 + s)); total = at w (p + s); passed = at w (p + (32 + s)); quotient = at w (p + (48 + s)) }
+    record { amount = at w (p + 16 + s); total = at w (p + s); passed = at w (p + 32 + s); quotient = at w (p + 48 + s) }
 
 -- one share of seller s: what it gives, and that nothing else changes
 pub record Shared (p s weight : ℕ) (w v : List ℕ) (r : ℕ) : Type 0 where
   pub long : length v ≡ length w
-  pub others : (k : ℕ) → (k ≡ p + (32 + s) → ⊥) → (k ≡ p + (48 + s) → ⊥) → at v k ≡ at w k
+  pub others : (k : ℕ) → (k ≡ p + 32 + s → ⊥) → (k ≡ p + 48 + s → ⊥) → at v k ≡ at w k
   pub gives : Gives (stepper p w s) weight (record { value = r; next = stepper p v s })
 
 -- the next weight and quotient are stored
 pub shared : {p s weight : ℕ} {w m v : List ℕ} {r : Share} → s < 16 → Gives (stepper p w s) weight r
-    → Stored (p + (32 + s)) (r .next .passed) w m → Stored (p + (48 + s)) (r .next .quotient) m v → Shared p s weight w v (r .value)
+    → Stored (p + 32 + s) (r .next .passed) w m → Stored (p + 48 + s) (r .next .quotient) m v → Shared p s weight w v (r .value)
 shared {p} {s} {weight} {w} {m} {v} {r} l g a b =
     record {
       long = b .long ∙ a .long;
@@ -38,15 +38,15 @@ shared {p} {s} {weight} {w} {m} {v} {r} l g a b =
       gives = record {
         value = g .value;
         next = record {
-          amount = others (p + (16 + s)) (λ e. omega arith) (λ e. omega arith);
+          amount = others (p + 16 + s) (λ e. omega arith) (λ e. omega arith);
           total = others (p + s) (λ e. omega arith) (λ e. omega arith);
-          passed = b .others (p + (32 + s)) (λ e. omega arith) ∙ a .here ∙ g .next .passed;
+          passed = b .others (p + 32 + s) (λ e. omega arith) ∙ a .here ∙ g .next .passed;
           quotient = b .here ∙ g .next .quotient;
         };
       };
     }
   where
-    others : (k : ℕ) → (k ≡ p + (32 + s) → ⊥) → (k ≡ p + (48 + s) → ⊥) → at v k ≡ at w k
+    others : (k : ℕ) → (k ≡ p + 32 + s → ⊥) → (k ≡ p + 48 + s → ⊥) → at v k ≡ at w k
     others k x y = b .others k y ∙ a .others k x
 
 pub shared-aside : {p s weight r : ℕ} {w v : List ℕ} → s < 16 → Shared p s weight w v r → Aside (p + 32) 32 w v
@@ -59,28 +59,26 @@ pub record Abreast (F : Facts) (weight amount : ℕ → ℕ) (p i : ℕ) (w : Li
 -- weights summed up, amounts, and nothing passed
 pub abreast-first : {F : Facts} {weight amount : ℕ → ℕ} {p : ℕ} {w : List ℕ} → Row w p 16 (λ s. ofSeller F s weight) → Row w (p + 16) 16 amount → Row w (p + 32) 32 none → Abreast F weight amount p 0 w
 unfolding ofSeller
-abreast-first {F} {weight} {amount} {p} {w} t a z =
-    record { before = λ s l. before-first {b = amount s} refl (t .is s l) (record { amount = first s l; total = refl; passed = zero 0 s (omega arith); quotient = zero 16 s (omega arith) ∙ sym (rw (mul-zero (amount s)) (zero-div (at w (p + s)))) }) }
+abreast-first {amount = amount} {p} {w} t a z =
+    record { before = λ s l. before-first {b = amount s} refl (t .is s l) (record { amount = a .is s l; total = refl; passed = z .is s (omega arith); quotient = last s l }) }
   where
-    first : (s : ℕ) → s < 16 → at w (p + (16 + s)) ≡ amount s
-    first s l = let z : p + 16 + s ≡ p + (16 + s) = omega arith in rw z at (a .is s l)
-
-    zero : (d s : ℕ) → d + s < 32 → at w (p + (32 + d + s)) ≡ 0
-    zero d s l = let q : p + 32 + (d + s) ≡ p + (32 + d + s) = omega arith in rw q at (z .is (d + s) l)
+    last : (s : ℕ) → s < 16 → at w (p + 48 + s) ≡ amount s * 0 / at w (p + s)
+    last s l =
+        let q : p + 32 + (16 + s) ≡ p + 48 + s = omega arith in
+        rw q at (z .is (16 + s) (omega arith)) ∙ sym (rw (mul-zero (amount s)) (zero-div (at w (p + s))))
 
 module _ {F : Facts} {weight amount : ℕ → ℕ} {p i : ℕ} {w : List ℕ} (h : Abreast F weight amount p i w) where
-  abreast-same : {v : List ℕ} → ((k : ℕ) → k < 64 → at v (p + k) ≡ at w (p + k)) → Abreast F weight amount p i v
-  abreast-same {v} e = record { before = λ s l. rw (same s l) (h .before s l) }
+  -- what is stored elsewhere
+  pub abreast-aside : {q m : ℕ} {v : List ℕ} → Aside q m w v → ((k : ℕ) → p ≤ k → k < p + 64 → Off q m k) → Abreast F weight amount p i v
+  abreast-aside {v = v} a o = record { before = λ s l. rw (same s l) (h .before s l) }
     where
       same : (s : ℕ) → s < 16 → stepper p v s ≡ stepper p w s
-      same s l = cc (e s (omega arith), e (16 + s) (omega arith), e (32 + s) (omega arith), e (48 + s) (omega arith))
+      same s l =
+          let kept : (k : ℕ) → p ≤ k → k < p + 64 → at v k ≡ at w k = λ k x y. a .outside k (o k x y) in
+          cc (kept (p + s) (omega arith) (omega arith), kept (p + 16 + s) (omega arith) (omega arith), kept (p + 32 + s) (omega arith) (omega arith), kept (p + 48 + s) (omega arith) (omega arith))
 
-  -- what is stored elsewhere
   pub abreast-kept : {q x : ℕ} {v : List ℕ} → Stored q x w v → Off p 64 q → Abreast F weight amount p i v
-  abreast-kept s o = abreast-same (λ k l. s .others (p + k) (λ e. o (omega arith) (omega arith)))
-
-  pub abreast-aside : {q m : ℕ} {v : List ℕ} → Aside q m w v → ((k : ℕ) → k < 64 → Off q m (p + k)) → Abreast F weight amount p i v
-  abreast-aside a o = abreast-same (λ k l. a .outside (p + k) (o k l))
+  abreast-kept s o = abreast-aside (aside-of s) (λ k a b c d. o (omega arith) (omega arith))
 
   -- a registration without weight
   pub abreast-none : weight i ≡ 0 → Abreast F weight amount p (i + 1) w
@@ -110,5 +108,5 @@ module _ {F : Facts} {weight amount : ℕ → ℕ} {p i : ℕ} {w : List ℕ} (h
           go s m true q = let z = eqb-true (F .seller i) s q in rw (← z) (share-next (h .before (F .seller i) l) own (g .gives))
           go s m false q =
               let o = eqb-false (F .seller i) s q in
-              let kept : stepper p v s ≡ stepper p w s = cc (g .others (p + s) (λ a. omega arith) (λ a. omega arith), g .others (p + (16 + s)) (λ a. omega arith) (λ a. omega arith), g .others (p + (32 + s)) (λ a. o (omega arith)) (λ a. omega arith), g .others (p + (48 + s)) (λ a. omega arith) (λ a. o (omega arith))) in
+              let kept : stepper p v s ≡ stepper p w s = cc (g .others (p + s) (λ a. omega arith) (λ a. omega arith), g .others (p + 16 + s) (λ a. omega arith) (λ a. omega arith), g .others (p + 32 + s) (λ a. o (omega arith)) (λ a. omega arith), g .others (p + 48 + s) (λ a. omega arith) (λ a. o (omega arith))) in
               rw kept (share-skip (h .before s m) (rw q))

@@ -22,14 +22,14 @@ pub fn share(work: &mut Work, p: usize, s: usize, weight: u64) -> u64
     ensures { λ r. ⌜ Shared p s weight (now (work .entry)) (now (work .exit)) r ⌝ }
 {
     let before = Allotment {
-        amount: work[p + (AMOUNT + s)],
-        total: work[p + s],
-        passed: work[p + (PASSED + s)],
-        quotient: work[p + (QUOTIENT + s)],
+        amount: table::get(work, p + AMOUNT, s),
+        total: table::get(work, p, s),
+        passed: table::get(work, p + PASSED, s),
+        quotient: table::get(work, p + QUOTIENT, s),
     };
     let share = before.share(weight);
     let next = share.next;
-    table::put(work, p + (PASSED + s), next.passed);
-    table::put(work, p + (QUOTIENT + s), next.quotient);
+    table::put(work, p + PASSED, s, next.passed);
+    table::put(work, p + QUOTIENT, s, next.quotient);
     share.value
 }

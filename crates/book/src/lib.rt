@@ -64,8 +64,9 @@ fn close(year: &mut Cells, month: u64, buffer: &mut [u8]) -> usize
     ensures leaves { λ r. ⌜ now (buffer .exit) ≡ (let s = closing (yearIn (now (year .entry))) month in s ++ drop (length s) (now (buffer .entry))) ⌝ }
     ensures writes { λ r. ⌜ r ≡ length (closing (yearIn (now (year .entry))) month) ⌝ }
 {
-    let owed = settlement::amounts_of(year, month);
     let terms = snapshot::terms_of(year);
+    let registrations = terms.registrations;
+    let owed = settlement::amounts_of(registrations, year, month);
     let billed = snapshot::billed_of(year);
     let written = issue::write_statement(terms, month, owed, billed, buffer);
     steps::close(year, owed);

@@ -3,13 +3,12 @@ ghost use mathlib.Core.Bool.{cond};
 ghost use mathlib.Core.Path.{_≡_};
 ghost use Prim.Native.Nat.{_+_, _-_, _*_, _/_, _≤_, _<_, min, max};
 ghost use lib.Dec.{leb};
-ghost use lib.ListN.{length};
 ghost use Rattle.calendar.specs.Calendar.{due};
 ghost use Rattle.cells.specs.Layout.{Held};
 ghost use Rattle.ids.specs.Ids.{sumTo};
 ghost use Rattle.looks.specs.Looks.{facts};
 ghost use Rattle.owed.specs.Owed.{charge};
-ghost use Rattle.table.specs.Places.{size, takenRow};
+ghost use Rattle.table.specs.Places.{takenRow};
 ghost use Rattle.table.specs.Rows.{Aside};
 ghost use Rattle.charging.specs.Charging.{lineAt, dailyOf, Given, Billed};
 use cells::Cells;
@@ -30,19 +29,18 @@ pub struct Line {
 }
 
 pub fn line_at(work: &Work, i: usize) -> Line
-    requires { ⌜ length (now work) ≡ size ⌝ }
     requires { ⌜ i < 64 ⌝ }
     ensures { λ r. ⌜ r ≡ lineAt (now (work .entry)) i ⌝ }
 {
-    let u = Unforced(work[table::U + i]);
-    let e = Nominated(work[table::E + i]);
+    let u = Unforced(table::get(work, table::U, i));
+    let e = Nominated(table::get(work, table::E, i));
     Line {
-        seller: work[table::SELLER + i] as usize,
-        product: work[table::PRODUCT + i],
-        calls: work[table::CALLS + i],
-        rate: work[table::RATE + i],
-        cap: work[table::CAP + i],
-        taken: work[table::TAKEN + i],
+        seller: table::get(work, table::SELLER, i) as usize,
+        product: table::get(work, table::PRODUCT, i),
+        calls: table::get(work, table::CALLS, i),
+        rate: table::get(work, table::RATE, i),
+        cap: table::get(work, table::CAP, i),
+        taken: table::get(work, table::TAKEN, i),
         u: u,
         e: e,
     }
@@ -114,13 +112,12 @@ pub fn charge(year: &Cells, work: &mut Work, ev: usize, k: u64) -> u64
     let mut all: u64 = 0;
     let mut i: usize = 0;
     while i < 64 {
-        if work[table::LISTED + i] != 0 {
+        if table::get(work, table::LISTED, i) != 0 {
             let line = line_at(work, i);
-            let s = line.seller;
             let daily = daily_of(peak, line);
             let due = cents(line.product, month, k, days, daily);
-            table::add_at(work, table::TAKEN + i, daily);
-            table::add_at(work, table::COMPLIANCE + s, due);
+            table::add_at(work, table::TAKEN, i, daily);
+            table::add_at(work, table::COMPLIANCE, line.seller, due);
             all = all + due;
         }
         i += 1;

@@ -1,13 +1,15 @@
 -- A closing: the working table when it begins, and the amounts in its rows when it is done.
-use Prim.Native.Nat.{ℕ, _+_, _≤_}
-use mathlib.Core.Path.{_≡_, _∙_}
+use Prim.Native.Nat.{ℕ, _+_, _≤_, _<_}
+use mathlib.Core.Path.{_≡_, refl, _∙_}
 use mathlib.Core.List.{List}
-use lib.ListN.{length}
+use lib.ListN.{length, replicate, length-replicate}
 use native.Mathlib.Omega.{arith}
-use Rattle.ids.specs.Ids.{at, tabulate}
+use Rattle.ids.specs.Ids.{tabulate}
+use Rattle.ids.specs.Sets.{getD-replicate-same}
 use Rattle.ids.specs.Tables.{tabulate-same}
 use Rattle.year.specs.declared.Amounts.{Amounts}
 use Rattle.cells.specs.Layout.{placeIn}
+use Rattle.cells.specs.Rows.{from}
 use Rattle.allotment.specs.Allot.{share}
 use Rattle.owed.specs.Facts.{Facts}
 use Rattle.owed.specs.Owed.{amounts}
@@ -15,38 +17,47 @@ use Rattle.owed.specs.Owed as owed
 use Rattle.looks.specs.Looks.{facts}
 use Rattle.table.specs.Columns.{Columns, columns-aside}
 use Rattle.table.specs.Places.{size, sellerRow, productRow, committedRow, rateRow, capRow, callsRow, calledRow, complianceRow, creditRow, testRow, lseRow, placeRow}
-use Rattle.table.specs.Rows.{Aside, Row, none, mark, row-aside, row-within}
+use Rattle.table.specs.Rows.{Stored, Aside, Row, none, mark, row-aside, row-kept, row-first, row-more, row-within}
 use Rattle.testing.specs.Entries.{Ready}
 use Rattle.lses.specs.Lses.{net, lses-are}
 
--- the registrations' terms stand in the table, and nothing else
-pub record Begun (c w : List ℕ) : Type 0 where
-  pub long : length w ≡ size
-  pub seller : Row w sellerRow 64 (facts c .seller)
-  pub product : Row w productRow 64 (facts c .product)
-  pub committed : Row w committedRow 64 (facts c .committed)
-  pub rate : Row w rateRow 64 (facts c .rate)
-  pub place : Row w placeRow 64 (placeIn c)
-  pub fresh : Row w capRow 640 none
+-- sixteen numbers from p on
+abbrev pub numbers : List ℕ → ℕ → List ℕ
+numbers w p = tabulate 16 (from p w)
 
--- with the caps
-pub columns-are : {c w v : List ℕ} → Begun c w → Aside capRow 64 w v → Row v capRow 64 (owed.cap (facts c)) → Columns (facts c) v
-columns-are h a r =
+-- the first i registrations' terms stand in the table, and nothing else
+pub record Begun (c : List ℕ) (i : ℕ) (w : List ℕ) : Type 0 where
+  pub columns : Columns (facts c) i w
+  pub place : Row w placeRow i (placeIn c)
+  pub fresh : Row w callsRow 576 none
+
+pub begun-first : (c : List ℕ) → Begun c 0 (replicate size 0)
+begun-first c =
+    let w : List ℕ = replicate size 0 in
+    let F = facts c in
     record {
-      long = a .long ∙ h .long;
-      seller = row-aside (h .seller) a (λ j l x y. omega arith);
-      product = row-aside (h .product) a (λ j l x y. omega arith);
-      committed = row-aside (h .committed) a (λ j l x y. omega arith);
-      rate = row-aside (h .rate) a (λ j l x y. omega arith);
-      cap = r;
+      columns = record { long = length-replicate {A = ℕ} size 0; seller = row-first w sellerRow (F .seller); product = row-first w productRow (F .product); committed = row-first w committedRow (F .committed); rate = row-first w rateRow (F .rate); cap = row-first w capRow (owed.cap F) };
+      place = row-first w placeRow (placeIn c);
+      fresh = record { is = λ j m. getD-replicate-same {A = ℕ} size (callsRow + j) 0 };
     }
 
--- the sixteen places from p on
-abbrev pub row : List ℕ → ℕ → List ℕ
-row w p = tabulate 16 (λ s. at w (p + s))
-
-pub fresh-events : {c w v : List ℕ} → Begun c w → Aside capRow 64 w v → Row v callsRow 224 none
-fresh-events h a = row-aside (row-within callsRow 224 (h .fresh) (omega arith) (omega arith)) a (λ j l x y. omega arith)
+-- one more
+pub begun-more : {c : List ℕ} {i : ℕ} {w w₁ w₂ w₃ w₄ w₅ v : List ℕ} → Begun c i w → i < 64 → let F = facts c in
+    Stored (sellerRow + i) (F .seller i) w w₁ → Stored (productRow + i) (F .product i) w₁ w₂ → Stored (committedRow + i) (F .committed i) w₂ w₃
+    → Stored (rateRow + i) (F .rate i) w₃ w₄ → Stored (capRow + i) (owed.cap F i) w₄ w₅ → Stored (placeRow + i) (placeIn c i) w₅ v → Begun c (i + 1) v
+begun-more h l s₁ s₂ s₃ s₄ s₅ s₆ =
+    record {
+      columns = record {
+        long = s₆ .long ∙ s₅ .long ∙ s₄ .long ∙ s₃ .long ∙ s₂ .long ∙ s₁ .long ∙ h .columns .long;
+        seller = row-kept (row-kept (row-kept (row-kept (row-kept (row-more (h .columns .seller) s₁ refl) s₂ (λ a b. omega arith)) s₃ (λ a b. omega arith)) s₄ (λ a b. omega arith)) s₅ (λ a b. omega arith)) s₆ (λ a b. omega arith);
+        product = row-kept (row-kept (row-kept (row-kept (row-more (row-kept (h .columns .product) s₁ (λ a b. omega arith)) s₂ refl) s₃ (λ a b. omega arith)) s₄ (λ a b. omega arith)) s₅ (λ a b. omega arith)) s₆ (λ a b. omega arith);
+        committed = row-kept (row-kept (row-kept (row-more (row-kept (row-kept (h .columns .committed) s₁ (λ a b. omega arith)) s₂ (λ a b. omega arith)) s₃ refl) s₄ (λ a b. omega arith)) s₅ (λ a b. omega arith)) s₆ (λ a b. omega arith);
+        rate = row-kept (row-kept (row-more (row-kept (row-kept (row-kept (h .columns .rate) s₁ (λ a b. omega arith)) s₂ (λ a b. omega arith)) s₃ (λ a b. omega arith)) s₄ refl) s₅ (λ a b. omega arith)) s₆ (λ a b. omega arith);
+        cap = row-kept (row-more (row-kept (row-kept (row-kept (row-kept (h .columns .cap) s₁ (λ a b. omega arith)) s₂ (λ a b. omega arith)) s₃ (λ a b. omega arith)) s₄ (λ a b. omega arith)) s₅ refl) s₆ (λ a b. omega arith);
+      };
+      place = row-more (row-kept (row-kept (row-kept (row-kept (row-kept (h .place) s₁ (λ a b. omega arith)) s₂ (λ a b. omega arith)) s₃ (λ a b. omega arith)) s₄ (λ a b. omega arith)) s₅ (λ a b. omega arith)) s₆ refl;
+      fresh = row-kept (row-kept (row-kept (row-kept (row-kept (row-kept (h .fresh) s₁ (λ a b. omega arith)) s₂ (λ a b. omega arith)) s₃ (λ a b. omega arith)) s₄ (λ a b. omega arith)) s₅ (λ a b. omega arith)) s₆ (λ a b. omega arith);
+    }
 
 module _ (c : List ℕ) (k : ℕ) where
   abbrev F : Facts
@@ -67,21 +78,15 @@ module _ (c : List ℕ) (k : ℕ) where
     pub test : Row w testRow 16 (owed.test F k)
     pub lse : Row w lseRow 16 none
 
-  module _ {w v u : List ℕ} (h : Begun c w) (a : Aside capRow 64 w v) (b : Aside callsRow 544 v u) where
-    -- what the events leave as it was
-    kept : {n : ℕ} {f : ℕ → ℕ} (p : ℕ) → testRow ≤ p → Row w p n f → Row u p n f
-    kept p l r = row-aside (row-aside r a (λ j m x y. omega arith)) b (λ j m x y. omega arith)
-
-    pub evented : Columns F v → Row u calledRow 64 (λ i. mark (owed.called F i)) → Row u complianceRow 16 (owed.compliance F k) → Row u creditRow 16 (owed.credit F k)
-        → Evented u
-    evented g called x z =
-        record {
-          ready = record { columns = columns-aside g b (omega arith); called = called; place = kept placeRow (omega arith) (h .place) };
-          compliance = x;
-          credit = z;
-          test = kept testRow (omega arith) (row-within testRow 16 (h .fresh) (omega arith) (omega arith));
-          lse = kept lseRow (omega arith) (row-within lseRow 16 (h .fresh) (omega arith) (omega arith));
-        }
+  pub evented : {w v : List ℕ} → Begun c 64 w → Aside callsRow 544 w v → Row v calledRow 64 (λ i. mark (owed.called F i)) → Row v complianceRow 16 (owed.compliance F k) → Row v creditRow 16 (owed.credit F k) → Evented v
+  evented h a called x z =
+      record {
+        ready = record { columns = columns-aside (h .columns) a (omega arith) (omega arith); called = called; place = row-aside (h .place) a (λ j l x y. omega arith) };
+        compliance = x;
+        credit = z;
+        test = row-aside (row-within testRow 16 (h .fresh) (omega arith) (omega arith)) a (λ j l x y. omega arith);
+        lse = row-aside (row-within lseRow 16 (h .fresh) (omega arith) (omega arith)) a (λ j l x y. omega arith);
+      }
 
   pub tested : {w v : List ℕ} → Evented w → Aside testRow 16 w v → Row v testRow 16 (owed.test F k) → Tested v
   tested h a r =
@@ -95,7 +100,7 @@ module _ (c : List ℕ) (k : ℕ) where
 
   -- the amounts in their rows
   pub amounts-are : {w v : List ℕ} → Tested w → Aside lseRow 16 w v → Row v lseRow 16 (share 16 (F .obligation) (net w))
-      → _≡_ {A = Amounts} (record { compliance = row v complianceRow; test = row v testRow; credit = row v creditRow; lse = row v lseRow }) (amounts F k)
+      → _≡_ {A = Amounts} (record { compliance = numbers v complianceRow; test = numbers v testRow; credit = numbers v creditRow; lse = numbers v lseRow }) (amounts F k)
   unfolding amounts
   amounts-are {w} {v} h a r =
       let kept : (p n : ℕ) (f : ℕ → ℕ) → p + n ≤ lseRow → Row w p n f → Row v p n f = λ p n f l q. row-aside q a (λ j m x y. omega arith) in

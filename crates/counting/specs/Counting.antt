@@ -12,7 +12,7 @@ use Rattle.ids.specs.Tests.{cond-le, any-step}
 use Rattle.owed.specs.Facts.{Facts}
 use Rattle.owed.specs.Owed.{oneOrThree, calls, called}
 use Rattle.table.specs.Places.{size, callsRow, calledRow}
-use Rattle.table.specs.Rows.{Stored, Aside, Row, Renewed, none, mark, aside-none, aside-more, row-same, row-within, renewed-first, renewed-all, renewed-kept, renewed-next, renewed-more, renewed-none}
+use Rattle.table.specs.Rows.{Stored, Aside, Row, Renewed, none, mark, aside-none, aside-more, row-same, row-within, renewed-first, renewed-kept, renewed-next, renewed-more, renewed-none}
 
 -- n and the mark of a called registration, by the first m events
 module _ (F : Facts) (m i : ℕ) where
@@ -128,4 +128,4 @@ module _ {F : Facts} {ev i : ℕ} {w₀ w : List ℕ} (h : Counts F ev i w₀ w)
       }
 
   pub counts-all : i ≡ 64 → Counting F (ev + 1) w
-  counts-all q = record { long = h .long; calls = renewed-all (rw q at (h .calls)); called = renewed-all (rw q at (h .called)) }
+  counts-all q = record { long = h .long; calls = rw q at (h .calls .done); called = rw q at (h .called .done) }

@@ -29,8 +29,8 @@ fn count_event(year: &Cells, work: &mut Work, ev: usize)
     while i < 64 {
         let x = looks::look(year, ev, i);
         if x.listed {
-            table::put(work, table::CALLED + i, 1);
-            table::add_at(work, table::CALLS + i, one);
+            table::put(work, table::CALLED, i, 1);
+            table::add_at(work, table::CALLS, i, one);
         }
         i += 1;
     }

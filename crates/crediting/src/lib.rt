@@ -1,34 +1,18 @@
 // An event's excess credits, from the shares e that the working table keeps of its entries: no look at one.
 ghost use mathlib.Core.Path.{_≡_};
 ghost use Prim.Native.Nat.{_+_, _*_, _/_, _≤_, _<_};
-ghost use lib.ListN.{length};
 ghost use Rattle.cells.specs.Layout.{Held};
 ghost use Rattle.charging.specs.Charging.{Given};
-ghost use Rattle.ids.specs.Ids.{at, sumTo};
+ghost use Rattle.ids.specs.Ids.{sumTo};
 ghost use Rattle.looks.specs.Looks.{facts};
 ghost use Rattle.owed.specs.Owed.{charge};
-ghost use Rattle.table.specs.Places.{size, creditRow, eRow};
+ghost use Rattle.table.specs.Places.{creditRow};
 ghost use Rattle.table.specs.Rows.{Aside, Row};
-ghost use Rattle.crediting.specs.Crediting.{Small, creditBy};
+ghost use Rattle.crediting.specs.Crediting.{creditBy};
 use allotment::Allotment;
 use cells::Cells;
 use table::Work;
 use units::Nominated;
-
-// The sum of all e.
-fn excesses(work: &Work) -> u64
-    requires { ⌜ length (now work) ≡ size ⌝ }
-    requires { ⌜ Small (now work) ⌝ }
-    ensures { λ r. ⌜ r ≡ sumTo 64 (λ i. at (now (work .entry)) (eRow + i)) ⌝ }
-{
-    let mut sum: u64 = 0;
-    let mut i: usize = 0;
-    while i < 64 {
-        sum = sum + work[table::E + i];
-        i += 1;
-    }
-    sum
-}
 
 // The most that e kilowatts are credited, the bracket rounded first.
 fn limit(e: Nominated, rate: u64, days: u64) -> u64
@@ -51,18 +35,17 @@ pub fn credit(year: &Cells, work: &mut Work, ev: usize, k: u64, charges: u64)
     ensures aside { λ _. ⌜ Aside creditRow 16 (now (work .entry)) (now (work .exit)) ⌝ }
 {
     let days = looks::days_to(year, k);
-    let total = excesses(work);
+    let total = table::sum(work, table::E, 64);
     let mut allotment = Allotment::new(charges, total);
     let mut i: usize = 0;
     while i < 64 {
-        if work[table::LISTED + i] != 0 {
+        if table::get(work, table::LISTED, i) != 0 {
             let line = charging::line_at(work, i);
-            let s = line.seller;
             let e = line.e;
             let share = allotment.share(e.0);
             let most = limit(e, line.rate, days);
             let credit = charging::lesser(share.value, most);
-            table::add_at(work, table::CREDIT + s, credit);
+            table::add_at(work, table::CREDIT, line.seller, credit);
             allotment = share.next;
         }
         i += 1;

@@ -1,6 +1,6 @@
 // What the closing reads of the year: of an event its entries, one look at a time, month, period and deficits; the factors.
 ghost use mathlib.Core.Path.{_≡_};
-ghost use Prim.Native.Nat.{_≤_, _<_};
+ghost use Prim.Native.Nat.{_-_, _≤_, _<_};
 ghost use Rattle.cells.specs.Layout.{Held};
 ghost use Rattle.owed.specs.Owed.{oneOrThree, D, unforced};
 ghost use Rattle.looks.specs.Looks.{facts, lookAt};
@@ -60,6 +60,22 @@ pub fn unforced(year: &Cells, kw: Nominated) -> Unforced
     ensures { λ r. ⌜ r .0 ≡ unforced (facts (now (year .entry))) (kw .0) ⌝ }
 {
     kw.unforced(year[cells::FACTOR], year[cells::REQUIREMENT])
+}
+
+// A seller's shortfall: the net of two sums, converted, less its deficit.
+pub fn shortfall(
+    year: &Cells,
+    committed: Nominated,
+    given: Nominated,
+    deficit: Unforced,
+) -> Unforced
+    requires { ⌜ Held (now year) ⌝ }
+    requires { ⌜ committed .0 ≤ 6400000 ⌝ }
+    ensures { λ r. ⌜ r .0 ≡ unforced (facts (now (year .entry))) (committed .0 - given .0) - deficit .0 ⌝ }
+{
+    let net = committed.less(given);
+    let all = unforced(year, net);
+    all.less(deficit)
 }
 
 // Days from 1 June to the end of a month.

@@ -1,12 +1,14 @@
 -- What is left for the LSEs, by the working table's rows: all charges less all credits.
 use Prim.Native.Nat.{ℕ, _+_, _*_, _-_, _≤_, _<_, _^_}
-use mathlib.Core.Path.{_≡_}
+use mathlib.Core.Path.{_≡_, sym}
 use mathlib.Core.List.{List}
 use native.Mathlib.Omega.{arith}
 use Rattle.ids.specs.Ids.{at, sumTo}
 use Rattle.ids.specs.Sums.{sum-same, sum-add}
 use Rattle.allotment.specs.Allot.{share}
+use Rattle.year.specs.Year.{obligation}
 use Rattle.cells.specs.Layout.{Held}
+use Rattle.cells.specs.Regions.{obligation-in}
 use Rattle.owed.specs.Facts.{Facts, sellers}
 use Rattle.owed.specs.Owed.{compliance, test, credit, charges, credits, lse}
 use Rattle.owed_laws.specs.Limits.{limits}
@@ -28,8 +30,10 @@ pub record Covered (w : List ℕ) : Type 0 where
   pub charges : rowSum w complianceRow + rowSum w testRow < 2 ^ 64
   pub credits : rowSum w creditRow ≤ rowSum w complianceRow + rowSum w testRow
 
-pub each-fits : {w : List ℕ} → Covered w → (rowSum w complianceRow < 2 ^ 64) × (rowSum w testRow < 2 ^ 64) × (rowSum w creditRow < 2 ^ 64)
-each-fits h = (omega (arith, h .charges), omega (arith, h .charges), omega (arith, h .charges, h .credits))
+-- all obligations, in the year's cells
+pub obligations : (c : List ℕ) → sumTo 16 (λ j. at c (455 + j)) ≡ sumTo 16 (facts c .obligation)
+unfolding obligation
+obligations c = sum-same 16 (λ j l. sym (obligation-in c l))
 
 -- where the rows hold the amounts to date at month k
 module _ (c : List ℕ) (k : ℕ) {w : List ℕ} (x : Row w complianceRow 16 (compliance (facts c) k)) (y : Row w testRow 16 (test (facts c) k)) (z : Row w creditRow 16 (credit (facts c) k)) where

@@ -13,18 +13,18 @@ use Rattle.table.specs.Rows.{Aside, Row, none, mark, row-aside, row-within}
 
 -- after m events
 pub record Run (F : Facts) (k m : ℕ) (w : List ℕ) : Type 0 where
-  pub columns : Columns F w
+  pub columns : Columns F 64 w
   pub calls : Row w callsRow 64 (owed.calls F)
   pub called : Row w calledRow 64 (λ i. mark (owed.called F i))
   pub billed : Billed F k m w
   pub credit : Row w creditRow 16 (creditBy F k m)
 
 -- after pass 1
-pub run-first : {F : Facts} (k : ℕ) {w v : List ℕ} → Columns F w → Row w callsRow 224 none → Aside callsRow 128 w v
+pub run-first : {F : Facts} (k : ℕ) {w v : List ℕ} → Columns F 64 w → Row w callsRow 224 none → Aside callsRow 128 w v
     → Row v callsRow 64 (owed.calls F) → Row v calledRow 64 (λ i. mark (owed.called F i)) → Run F k 0 v
 run-first {F} k {w} {v} h z a n c =
     record {
-      columns = columns-aside h a (omega arith);
+      columns = columns-aside h a (omega arith) (omega arith);
       calls = n;
       called = c;
       billed = billed-first F k (fresh takenRow 64 (omega arith) (omega arith)) (fresh complianceRow 16 (omega arith) (omega arith));
@@ -38,7 +38,7 @@ run-first {F} k {w} {v} h z a n c =
 pub run-aside : {F : Facts} {k m : ℕ} {w v : List ℕ} → Run F k m w → Aside lackRow 320 w v → Run F k m v
 run-aside h a =
     record {
-      columns = columns-aside (h .columns) a (omega arith);
+      columns = columns-aside (h .columns) a (omega arith) (omega arith);
       calls = row-aside (h .calls) a (λ j l x y. omega arith);
       called = row-aside (h .called) a (λ j l x y. omega arith);
       billed = record { taken = row-aside (h .billed .taken) a (λ j l x y. omega arith); compliance = row-aside (h .billed .compliance) a (λ j l x y. omega arith) };
@@ -49,23 +49,11 @@ pub given : {F : Facts} {k ev : ℕ} {w : List ℕ} → Run F k ev w → Shares 
 given h s = record { columns = h .columns; calls = h .calls; shares = s }
 
 -- its charges, then its credits
-pub given-aside : {F : Facts} {ev : ℕ} {w v : List ℕ} → Given F ev w → Aside takenRow 80 w v → Given F ev v
-given-aside g a =
-    record {
-      columns = columns-aside (g .columns) a (omega arith);
-      calls = row-aside (g .calls) a (λ j l x y. omega arith);
-      shares = record {
-        u = row-aside (g .shares .u) a (λ j l x y. omega arith);
-        e = row-aside (g .shares .e) a (λ j l x y. omega arith);
-        listed = row-aside (g .shares .listed) a (λ j l x y. omega arith);
-      };
-    }
-
 pub run-more : {F : Facts} {k ev : ℕ} {w m v : List ℕ} → Run F k ev w → Aside takenRow 80 w m → Billed F k (ev + 1) m → Aside creditRow 16 m v
     → Row v creditRow 16 (creditBy F k (ev + 1)) → Run F k (ev + 1) v
 run-more h a b c r =
     record {
-      columns = columns-aside (columns-aside (h .columns) a (omega arith)) c (omega arith);
+      columns = columns-aside (columns-aside (h .columns) a (omega arith) (omega arith)) c (omega arith) (omega arith);
       calls = row-aside (row-aside (h .calls) a (λ j l x y. omega arith)) c (λ j l x y. omega arith);
       called = row-aside (row-aside (h .called) a (λ j l x y. omega arith)) c (λ j l x y. omega arith);
       billed = record { taken = row-aside (b .taken) c (λ j l x y. omega arith); compliance = row-aside (b .compliance) c (λ j l x y. omega arith) };

@@ -28,7 +28,7 @@ fn bill_event(year: &Cells, work: &mut Work, ev: usize, k: u64)
 pub fn bill_events(year: &Cells, work: &mut Work, k: u64)
     requires { ⌜ Held (now year) ⌝ }
     requires { ⌜ (1 ≤ k) × (k ≤ 15) ⌝ }
-    requires { ⌜ Columns (facts (now year)) (now work) ⌝ }
+    requires { ⌜ Columns (facts (now year)) 64 (now work) ⌝ }
     requires { ⌜ Row (now work) callsRow 224 none ⌝ }
     ensures compliance { λ _. ⌜ Row (now (work .exit)) complianceRow 16 (compliance (facts (now (year .entry))) k) ⌝ }
     ensures credit { λ _. ⌜ Row (now (work .exit)) creditRow 16 (credit (facts (now (year .entry))) k) ⌝ }

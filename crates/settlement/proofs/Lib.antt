@@ -1,4 +1,3 @@
--- What hand walks share: a local that is lent as a `&mut`, an array that is lent as a slice, and the facts that a contract asks.
-pub mod Facts
+-- What the hand walks share: a local that is lent as a `&mut`, and an array that is lent as a slice.
 pub mod Local
 pub mod Lent

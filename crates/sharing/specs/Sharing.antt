@@ -1,6 +1,6 @@
 -- Pass 3: u and e entry by entry.
 use Prim.Native.Nat.{ℕ, _+_, _-_, _≤_, _<_}
-use mathlib.Core.Path.{_≡_, sym, _∙_}
+use mathlib.Core.Path.{_≡_, sym}
 use mathlib.Core.Bool.{true, false}
 use mathlib.Core.List.{List}
 use native.Mathlib.Omega.{arith}
@@ -14,10 +14,11 @@ use Rattle.owed_laws.specs.Limits.{Limits}
 use Rattle.owed_laws.specs.Sellers.{ofSeller-le}
 use Rattle.owed_laws.specs.Bounds.{lack-le, more-le, shortfall-le, excess-le}
 use Rattle.owed_laws.specs.Unlisted.{u-unlisted, e-unlisted}
-use Rattle.table.specs.Columns.{Columns, columns-kept, columns-aside}
-use Rattle.table.specs.Places.{sellerRow, committedRow, lackRow, moreRow, uRow, eRow, listedRow}
-use Rattle.table.specs.Rows.{Stored, Aside, Row, Renewed, none, mark, aside-none, aside-more, aside-then, row-within, renewed-first, renewed-all, renewed-kept, renewed-aside, renewed-more, renewed-none}
-use Rattle.weighing.specs.Weighing.{Ready}
+use Rattle.table.specs.Columns.{Columns, columns-aside}
+use Rattle.table.specs.Places.{lackRow, moreRow, uRow, eRow, listedRow}
+use Rattle.table.specs.Rows.{Stored, Aside, Row, Renewed, none, mark, aside-none, aside-more, aside-then, row-within, renewed-first, renewed-kept, renewed-aside, renewed-more, renewed-none}
+use Rattle.weighing.specs.declared.Entry.{Entry}
+use Rattle.weighing.specs.Weighing.{entryAt, Ready}
 
 -- the shares of an event's entries, and which they are
 pub record Shares (F : Facts) (ev : ℕ) (w : List ℕ) : Type 0 where
@@ -28,7 +29,7 @@ pub record Shares (F : Facts) (ev : ℕ) (w : List ℕ) : Type 0 where
 -- before entry i; w₀ is the table before the pass
 pub record Sharing (F : Facts) (ev i : ℕ) (w₀ w : List ℕ) : Type 0 where
   pub upto : i ≤ 64
-  pub columns : Columns F w
+  pub columns : Columns F 64 w
   pub aside : Aside lackRow 320 w₀ w
   pub lack : Abreast F (owed.lack F ev) (owed.shortfall F ev) lackRow i w
   pub more : Abreast F (owed.more F ev) (owed.excess F ev) moreRow i w
@@ -36,7 +37,7 @@ pub record Sharing (F : Facts) (ev i : ℕ) (w₀ w : List ℕ) : Type 0 where
   pub e : Renewed w eRow 64 (owed.e F ev) none i
   pub listed : Renewed w listedRow 64 (λ i. mark (F .listed ev i)) none i
 
-pub sharing-first : {F : Facts} {ev : ℕ} {w : List ℕ} → Columns F w → Ready F ev w → Sharing F ev 0 w w
+pub sharing-first : {F : Facts} {ev : ℕ} {w : List ℕ} → Columns F 64 w → Ready F ev w → Sharing F ev 0 w w
 sharing-first {F} {ev} h r =
     record {
       upto = omega arith;
@@ -63,64 +64,58 @@ module _ {F : Facts} {ev i : ℕ} {w₀ w : List ℕ} (h : Sharing F ev i w₀ w
         listed = renewed-none (h .listed) l (rw off);
       }
 
-  -- an entry's seller and committed kilowatts in the table
-  pub committed-is : i < 64 → at w (committedRow + i) ≡ F .committed i
-  committed-is l = h .columns .committed .is i l
-
-  pub seller-is : i < 64 → at w (sellerRow + i) ≡ F .seller i
-  seller-is l = h .columns .seller .is i l
-
   pub sharing-all : i ≡ 64 → Shares F ev w
-  sharing-all q = record { u = renewed-all (rw q at (h .u)); e = renewed-all (rw q at (h .e)); listed = renewed-all (rw q at (h .listed)) }
+  sharing-all q = record { u = rw q at (h .u .done); e = rw q at (h .e .done); listed = rw q at (h .listed .done) }
 
-  -- a listed entry of seller s, with weights x and y
-  module _ {s x y : ℕ} (L : Limits F) (l : i < 64) (on : F .listed ev i ≡ true) (q : s ≡ F .seller i) (a : x ≡ F .committed i - F .reduction ev i) (b : y ≡ F .reduction ev i - F .committed i) where
-    lack-is : x ≡ owed.lack F ev i
-    lack-is = a ∙ rw on
+  -- a listed entry
+  module _ (L : Limits F) (l : i < 64) (on : F .listed ev i ≡ true) where
+    abbrev x : Entry
+    x = entryAt F ev i
 
-    more-is : y ≡ owed.more F ev i
-    more-is = b ∙ rw on
+    lack-is : x .lack .0 ≡ owed.lack F ev i
+    lack-is = rw on
 
-    pub u-asks : Asks (stepper lackRow w s) x
+    more-is : x .more .0 ≡ owed.more F ev i
+    more-is = rw on
+
+    pub u-asks : Asks (stepper lackRow w (x .seller)) (x .lack .0)
     u-asks =
-        rw q (abreast-asks (h .lack) (L .seller i) lack-is l
-        (omega (arith, mul-le-mul (shortfall-le L (F .listed ev) (F .reduction ev) (F .deficit ev) (F .seller i)) (ofSeller-le F (F .seller i) 100000 (lack-le L ev)))))
+        abreast-asks (h .lack) (L .seller i) lack-is l
+        (omega (arith, mul-le-mul (shortfall-le L (F .listed ev) (F .reduction ev) (F .deficit ev) (F .seller i)) (ofSeller-le F (F .seller i) 100000 (lack-le L ev))))
 
     -- u is allotted
-    module _ {m : List ℕ} {u : ℕ} (g : Shared lackRow s x w m u) where
+    module _ {m : List ℕ} {u : ℕ} (g : Shared lackRow (x .seller) (x .lack .0) w m u) where
       u-aside : Aside (lackRow + 32) 32 w m
-      u-aside = shared-aside (omega (arith, L .seller i)) g
+      u-aside = shared-aside (L .seller i) g
 
-      pub e-asks : Asks (stepper moreRow m s) y
+      u-more : Abreast F (owed.more F ev) (owed.excess F ev) moreRow i m
+      u-more = abreast-aside (h .more) u-aside (λ k a b c d. omega arith)
+
+      pub e-asks : Asks (stepper moreRow m (x .seller)) (x .more .0)
       e-asks =
           let most = ofSeller-le F (F .seller i) 100000 (more-le L ev) in
           let less : owed.excess F ev (F .seller i) ≤ 6400000 = omega (arith, excess-le L ev (F .seller i)) in
-          rw q (abreast-asks (abreast-aside (h .more) u-aside (λ k c d e. omega arith)) (L .seller i) more-is l (omega (arith, mul-le-mul less most)))
+          abreast-asks u-more (L .seller i) more-is l (omega (arith, mul-le-mul less most))
 
       -- e too, and both are kept
-      module _ {m' : List ℕ} {e : ℕ} (g' : Shared moreRow s y m m' e) where
+      module _ {m' : List ℕ} {e : ℕ} (g' : Shared moreRow (x .seller) (x .more .0) m m' e) where
         e-aside : Aside (moreRow + 32) 32 m m'
-        e-aside = shared-aside (omega (arith, L .seller i)) g'
+        e-aside = shared-aside (L .seller i) g'
 
-        own : Shared lackRow (F .seller i) x w m u
-        own = rw q at g
-
-        own' : Shared moreRow (F .seller i) y m m' e
-        own' = rw q at g'
+        elsewhere : {p : ℕ} {f : ℕ → ℕ} → Renewed w p 64 f none i → ((j : ℕ) → j < 64 → uRow ≤ p + j) → Renewed m' p 64 f none i
+        elsewhere r o = renewed-aside (renewed-aside r u-aside (h .upto) (λ j k c d. omega (arith, o j k))) e-aside (h .upto) (λ j k c d. omega (arith, o j k))
 
         pub sharing-more : {m1 m2 v : List ℕ} → Stored (uRow + i) u m' m1 → Stored (eRow + i) e m1 m2 → Stored (listedRow + i) 1 m2 v → Sharing F ev (i + 1) w₀ v
         unfolding owed.u owed.e
         sharing-more s1 s2 s3 =
+            let stores : Aside lackRow 320 w _ = aside-more (aside-more (aside-more (aside-then u-aside e-aside (omega arith) (omega arith) (omega arith) (omega arith)) s1 (omega arith) (omega arith)) s2 (omega arith) (omega arith)) s3 (omega arith) (omega arith) in
             record {
               upto = omega arith;
-              columns = columns-kept (columns-kept (columns-kept (columns-aside (columns-aside (h .columns) u-aside (omega arith)) e-aside (omega arith)) s1 (omega arith)) s2 (omega arith)) s3 (omega arith);
-              aside = aside-more (aside-more (aside-more (aside-then (aside-then {q = lackRow} {m = 320} (h .aside) u-aside (omega arith) (omega arith) (omega arith) (omega arith)) e-aside (omega arith) (omega arith) (omega arith) (omega arith)) s1 (omega arith) (omega arith)) s2 (omega arith) (omega arith)) s3 (omega arith) (omega arith);
-              lack = abreast-kept (abreast-kept (abreast-kept (abreast-aside (abreast-more (h .lack) (L .seller i) lack-is own) e-aside (λ k c d z. omega arith)) s1 (λ c d. omega arith)) s2 (λ c d. omega arith)) s3 (λ c d. omega arith);
-              more = abreast-kept (abreast-kept (abreast-kept (abreast-more (abreast-aside (h .more) u-aside (λ k c d z. omega arith)) (L .seller i) more-is own') s1 (λ c d. omega arith)) s2 (λ c d. omega arith)) s3 (λ c d. omega arith);
-              u = renewed-kept (renewed-kept (renewed-more (elsewhere (h .u) (λ j k. omega arith)) s1 (abreast-value (h .lack) (L .seller i) lack-is own)) s2 (omega arith) (λ c d. omega arith)) s3 (omega arith) (λ c d. omega arith);
-              e = renewed-kept (renewed-more (renewed-kept (elsewhere (h .e) (λ j k. omega arith)) s1 (h .upto) (λ c d. omega arith)) s2 (abreast-value (abreast-aside (h .more) u-aside (λ k c d z. omega arith)) (L .seller i) more-is own')) s3 (omega arith) (λ c d. omega arith);
+              columns = columns-aside (h .columns) stores (omega arith) (omega arith);
+              aside = aside-then (h .aside) stores (omega arith) (omega arith) (omega arith) (omega arith);
+              lack = abreast-kept (abreast-kept (abreast-kept (abreast-aside (abreast-more (h .lack) (L .seller i) lack-is g) e-aside (λ k a b c d. omega arith)) s1 (λ c d. omega arith)) s2 (λ c d. omega arith)) s3 (λ c d. omega arith);
+              more = abreast-kept (abreast-kept (abreast-kept (abreast-more u-more (L .seller i) more-is g') s1 (λ c d. omega arith)) s2 (λ c d. omega arith)) s3 (λ c d. omega arith);
+              u = renewed-kept (renewed-kept (renewed-more (elsewhere (h .u) (λ j k. omega arith)) s1 (abreast-value (h .lack) (L .seller i) lack-is g)) s2 (omega arith) (λ c d. omega arith)) s3 (omega arith) (λ c d. omega arith);
+              e = renewed-kept (renewed-more (renewed-kept (elsewhere (h .e) (λ j k. omega arith)) s1 (h .upto) (λ c d. omega arith)) s2 (abreast-value u-more (L .seller i) more-is g')) s3 (omega arith) (λ c d. omega arith);
               listed = renewed-more (renewed-kept (renewed-kept (elsewhere (h .listed) (λ j k. omega arith)) s1 (h .upto) (λ c d. omega arith)) s2 (h .upto) (λ c d. omega arith)) s3 (rw on);
             }
-          where
-            elsewhere : {p : ℕ} {f : ℕ → ℕ} → Renewed w p 64 f none i → ((j : ℕ) → j < 64 → uRow ≤ p + j) → Renewed m' p 64 f none i
-            elsewhere r o = renewed-aside (renewed-aside r u-aside (h .upto) (λ j k c d. omega (arith, o j k))) e-aside (h .upto) (λ j k c d. omega (arith, o j k))

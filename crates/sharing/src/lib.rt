@@ -16,25 +16,20 @@ use units::Unforced;
 pub fn share(year: &Cells, work: &mut Work, ev: usize)
     requires { ⌜ Held (now year) ⌝ }
     requires { ⌜ ev < 16 ⌝ }
-    requires { ⌜ Columns (facts (now year)) (now work) ⌝ }
+    requires { ⌜ Columns (facts (now year)) 64 (now work) ⌝ }
     requires { ⌜ Ready (facts (now year)) ev (now work) ⌝ }
     ensures shares { λ _. ⌜ Shares (facts (now (year .entry))) ev (now (work .exit)) ⌝ }
     ensures aside { λ _. ⌜ Aside lackRow 320 (now (work .entry)) (now (work .exit)) ⌝ }
 {
     let mut i: usize = 0;
     while i < 64 {
-        let x = looks::look(year, ev, i);
+        let x = weighing::entry_at(year, work, ev, i);
         if x.listed {
-            let s = work[table::SELLER + i] as usize;
-            let committed = Nominated::new(work[table::COMMITTED + i]);
-            let reduction = x.reduction;
-            let lack = committed.less(reduction);
-            let more = reduction.less(committed);
-            let u = Unforced(abreast::share(work, table::LACK, s, lack.0));
-            let e = Nominated(abreast::share(work, table::MORE, s, more.0));
-            table::put(work, table::U + i, u.0);
-            table::put(work, table::E + i, e.0);
-            table::put(work, table::LISTED + i, 1);
+            let u = Unforced(abreast::share(work, table::LACK, x.seller, x.lack.0));
+            let e = Nominated(abreast::share(work, table::MORE, x.seller, x.more.0));
+            table::put(work, table::U, i, u.0);
+            table::put(work, table::E, i, e.0);
+            table::put(work, table::LISTED, i, 1);
         }
         i += 1;
     }

@@ -1,6 +1,7 @@
 // Parts of the year by value, read out of its cells: its registrations, its terms, and what is billed.
 ghost use mathlib.Core.Path.{_≡_};
 ghost use Prim.Native.Nat.{_+_, _≤_};
+ghost use lib.ListN.{length};
 ghost use Rattle.ids.specs.Ids.{tabulate};
 ghost use Rattle.cells.specs.Rows.{from};
 ghost use Rattle.cells.specs.Layout.{yearIn};
@@ -11,15 +12,15 @@ use year::Amounts;
 use year::Registration;
 use year::Terms;
 
-// 16 numbers from a place on.
-fn numbers_at(year: &Cells, p: usize) -> [u64; 16]
-    requires { ⌜ p + 16 ≤ 3447 ⌝ }
-    ensures { λ r. ⌜ r ≡ tabulate 16 (from p (now (year .entry))) ⌝ }
+// 16 numbers from a place on, of any table.
+pub fn numbers_at(cells: &[u64], p: usize) -> [u64; 16]
+    requires { ⌜ p + 16 ≤ length (now cells) ⌝ }
+    ensures { λ r. ⌜ r ≡ tabulate 16 (from p (now (cells .entry))) ⌝ }
 {
     let mut numbers = [0u64; 16];
     let mut i: usize = 0;
     while i < 16 {
-        numbers[i] = year[p + i];
+        numbers[i] = cells[p + i];
         i += 1;
     }
     numbers

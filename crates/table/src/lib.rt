@@ -2,7 +2,7 @@
 ghost use mathlib.Core.Path.{_≡_};
 ghost use Prim.Native.Nat.{_+_, _≤_, _<_, _^_};
 ghost use lib.ListN.{length};
-ghost use Rattle.ids.specs.Ids.{at};
+ghost use Rattle.ids.specs.Ids.{at, sumTo};
 ghost use Rattle.table.specs.Rows.{Stored, Aside, Row, none};
 ghost use Rattle.table.specs.Places.{size};
 
@@ -55,36 +55,55 @@ pub const LSE: usize = 880;
 // By registration the place of its test, 3 × zone + product.
 pub const PLACE: usize = 896;
 
-// x at a place.
-pub fn put(work: &mut Work, place: usize, x: u64)
-    requires { ⌜ length (now work) ≡ size ⌝ }
-    requires { ⌜ place < size ⌝ }
-    ensures { λ _. ⌜ Stored place x (now (work .entry)) (now (work .exit)) ⌝ }
+// The number at place i of a row.
+pub fn get(work: &Work, row: usize, i: usize) -> u64
+    requires { ⌜ row + i < size ⌝ }
+    ensures { λ r. ⌜ r ≡ at (now (work .entry)) (row + i) ⌝ }
 {
-    work[place] = x;
+    work[row + i]
 }
 
-// x more at a place.
-pub fn add_at(work: &mut Work, place: usize, x: u64)
-    requires { ⌜ length (now work) ≡ size ⌝ }
-    requires { ⌜ place < size ⌝ }
-    requires { ⌜ at (now work) place + x < 2 ^ 64 ⌝ }
-    ensures { λ _. ⌜ Stored place (at (now (work .entry)) place + x) (now (work .entry)) (now (work .exit)) ⌝ }
+// x at place i of a row.
+pub fn put(work: &mut [u64], row: usize, i: usize, x: u64)
+    requires { ⌜ row + i < length (now work) ⌝ }
+    ensures { λ _. ⌜ Stored (row + i) x (now (work .entry)) (now (work .exit)) ⌝ }
 {
+    work[row + i] = x;
+}
+
+// x more at place i of a row.
+pub fn add_at(work: &mut [u64], row: usize, i: usize, x: u64)
+    requires { ⌜ (row + i < length (now work)) × (at (now work) (row + i) + x < 2 ^ 64) ⌝ }
+    ensures { λ _. ⌜ Stored (row + i) (at (now (work .entry)) (row + i) + x) (now (work .entry)) (now (work .exit)) ⌝ }
+{
+    let place = row + i;
     let sum = work[place];
     work[place] = sum + x;
 }
 
 // Zeros in the n places from p on.
-pub fn clear(work: &mut Work, p: usize, n: usize)
-    requires { ⌜ length (now work) ≡ size ⌝ }
-    requires { ⌜ p + n ≤ size ⌝ }
+pub fn clear(work: &mut [u64], p: usize, n: usize)
+    requires { ⌜ p + n ≤ length (now work) ⌝ }
     ensures zeros { λ _. ⌜ Row (now (work .exit)) p n none ⌝ }
     ensures aside { λ _. ⌜ Aside p n (now (work .entry)) (now (work .exit)) ⌝ }
 {
     let mut i: usize = 0;
     while i < n {
-        put(work, p + i, 0);
+        put(work, p, i, 0);
         i += 1;
     }
+}
+
+// The sum of the n places from p on.
+pub fn sum(cells: &[u64], p: usize, n: usize) -> u64
+    requires { ⌜ (p + n ≤ length (now cells)) × (sumTo n (λ i. at (now cells) (p + i)) < 2 ^ 64) ⌝ }
+    ensures { λ r. ⌜ r ≡ sumTo n (λ i. at (now (cells .entry)) (p + i)) ⌝ }
+{
+    let mut sum: u64 = 0;
+    let mut i: usize = 0;
+    while i < n {
+        sum += cells[p + i];
+        i += 1;
+    }
+    sum
 }

@@ -8,8 +8,8 @@ use native.Mathlib.Nat.{zero-mul, zero-sub}
 use lib.Dec.{eqb}
 use borrow.Author.Tests.{eq-eqb}
 use lib.ListN.{getD}
-use Rattle.ids.specs.Ids.{at, sumTo, anyTo, only}
-use Rattle.ids.specs.Sums.{sum-zero, sum-step}
+use Rattle.ids.specs.Ids.{at, anyTo, only}
+use Rattle.ids.specs.Sums.{sum-zero}
 use Rattle.ids.specs.Tests.{cond-true, cond-le, none-at}
 use Rattle.ids.specs.Tables.{getD-tabulate}
 use Rattle.units.specs.Units.{convert-zero}
@@ -21,11 +21,11 @@ use Rattle.owed.specs.Facts.{Facts}
 use Rattle.owed.specs.Owed.{D, raised, unforced, ofSeller, called, shortfallOver, testShortfall, B, testOf}
 use Rattle.owed.specs.Owed as owed
 use Rattle.owed_laws.specs.Limits.{limits}
+use Rattle.looks.specs.declared.Entry.{Entry}
 use Rattle.looks.specs.Looks.{facts}
 use Rattle.table.specs.Places.{calledRow, placeRow}
 use Rattle.table.specs.Rows.{Row, mark}
 use Rattle.table.specs.Columns.{Columns}
-use Rattle.testing.specs.declared.sums.Entry.{Entry}
 
 -- a test that is asked the other way round
 pub unless : (b : Bool) {t : Bool} → not b ≡ t → b ≡ not t
@@ -47,7 +47,7 @@ module _ (c : List ℕ) where
 
   -- what the passes read of the working table
   pub record Ready (w : List ℕ) : Type 0 where
-    pub columns : Columns (facts c) w
+    pub columns : Columns (facts c) 64 w
     pub called : Row w calledRow 64 (λ i. mark (called (facts c) i))
     pub place : Row w placeRow 64 (placeIn c)
 
@@ -101,14 +101,10 @@ module _ (c : List ℕ) where
       unfolding testOf
       untaken k s = rw (none-short s, zero-mul (raised (B (facts c) p s)), zero-mul (D (facts c) k))
 
--- places without a test leave the charges as they are
-module _ {c : List ℕ} (h : Held c) (k s : ℕ) where
-  pub untaken-step : {p : ℕ} → p < 24 → takenAt c p ≡ false → sumTo p (λ p. testOf (facts c) k p s) ≡ sumTo (p + 1) (λ p. testOf (facts c) k p s)
-  untaken-step {p} l off = omega (arith, sum-step p (λ p. testOf (facts c) k p s), untaken c l h off k s)
-
-  pub none-taken : anyTo 24 (takenAt c) ≡ false → 0 ≡ owed.test (facts c) k s
-  unfolding owed.test
-  none-taken e = sym (sum-zero 24 (λ p l. untaken c l h (none-at 24 (takenAt c) e p l) k s))
+-- without any test
+pub none-taken : {c : List ℕ} → Held c → (k s : ℕ) → anyTo 24 (takenAt c) ≡ false → 0 ≡ owed.test (facts c) k s
+unfolding owed.test
+none-taken {c} h k s e = sym (sum-zero 24 (λ p l. untaken c l h (none-at 24 (takenAt c) e p l) k s))
 
 -- within limits
 module _ {c : List ℕ} (h : Held c) (i : ℕ) where

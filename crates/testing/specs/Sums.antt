@@ -19,8 +19,9 @@ use Rattle.owed_laws.specs.Limits.{limits}
 use Rattle.owed_laws.specs.Sellers.{ofSeller-le}
 use Rattle.owed_laws.specs.Bounds.{committed-le, worth-le}
 use Rattle.looks.specs.Looks.{facts}
-use Rattle.table.specs.Rows.{Stored, Row, Grown, none, row-within, grown-first, grown-all, grown-kept, grown-none, grown-more, grown-most}
-use Rattle.testing.specs.Entries.{lookAt, stands, tested-in, reduction-in, reduction-le}
+use Rattle.table.specs.Rows.{Stored, Row, Grown, none, row-within, grown-first, grown-kept, grown-none, grown-more, grown-most}
+use Rattle.testing.specs.declared.sums.Addend.{Addend}
+use Rattle.testing.specs.Entries.{lookAt, stands, tested-in, reduction-in, place-below, reduction-le}
 
 -- keys of a place and a seller are equal where both are
 key-eqb : (p q : ℕ) {s t : ℕ} → s < 16 → t < 16 → eqb (16 * p + s) (16 * q + t) ≡ (eqb s t && eqb p q)
@@ -44,6 +45,10 @@ module _ (c : List ℕ) where
 
   abbrev pub worthAt : ℕ → ℕ
   worthAt = only (stands c) (λ i. facts c .committed i * facts c .rate i)
+
+  abbrev pub addendAt : ℕ → Addend
+  addendAt i =
+      record { key = keyAt i; committed = record { 0 = facts c .committed i }; reduction = lookAt c i .reduction; worth = facts c .committed i * facts c .rate i }
 
   -- the sums of the first i entries, and of all
   pub record Summing (i : ℕ) (w : List ℕ) : Type 0 where
@@ -74,21 +79,19 @@ module _ (c : List ℕ) where
           worth = grown-none (h .worth) (rw off);
         }
 
-    pub summing-more : {x y z k : ℕ} {m n v : List ℕ} → stands c i ≡ true → k ≡ keyAt i → keyAt i < 384
-        → Stored (0 + k) (at w (0 + k) + x) w m → x ≡ facts c .committed i
-        → Stored (384 + k) (at m (384 + k) + y) m n → y ≡ lookAt c i .reduction .0
-        → Stored (768 + k) (at n (768 + k) + z) n v → z ≡ facts c .committed i * facts c .rate i
-        → Summing (i + 1) v
-    summing-more {x} {y} {z} {k} {m} {n} {v} on q l s₁ e₁ s₂ e₂ s₃ e₃ =
-        let t₁ : Stored (0 + keyAt i) (at w (0 + keyAt i) + x) w m = rw q at s₁ in
-        let t₂ : Stored (384 + keyAt i) (at m (384 + keyAt i) + y) m n = rw q at s₂ in
-        let t₃ : Stored (768 + keyAt i) (at n (768 + keyAt i) + z) n v = rw q at s₃ in
+    pub summing-more : {m n v : List ℕ} → stands c i ≡ true → keyAt i < 384 → let x = addendAt i in
+        Stored (0 + x .key) (at w (0 + x .key) + x .committed .0) w m → Stored (384 + x .key) (at m (384 + x .key) + x .reduction .0) m n
+        → Stored (768 + x .key) (at n (768 + x .key) + x .worth) n v → Summing (i + 1) v
+    summing-more on l s₁ s₂ s₃ =
         record {
           long = s₃ .long ∙ s₂ .long ∙ s₁ .long ∙ h .long;
-          committed = grown-kept (grown-kept (grown-more (h .committed) t₁ l refl (rw on e₁)) t₂ (λ a b. omega arith)) t₃ (λ a b. omega arith);
-          reduction = grown-kept (grown-more (grown-kept (h .reduction) t₁ (λ a b. omega arith)) t₂ l refl (rw on e₂)) t₃ (λ a b. omega arith);
-          worth = grown-more (grown-kept (grown-kept (h .worth) t₁ (λ a b. omega arith)) t₂ (λ a b. omega arith)) t₃ l refl (rw on e₃);
+          committed = grown-kept (grown-kept (grown-more (h .committed) s₁ l refl (rw on)) s₂ (λ a b. omega arith)) s₃ (λ a b. omega arith);
+          reduction = grown-kept (grown-more (grown-kept (h .reduction) s₁ (λ a b. omega arith)) s₂ l refl (rw on)) s₃ (λ a b. omega arith);
+          worth = grown-more (grown-kept (grown-kept (h .worth) s₁ (λ a b. omega arith)) s₂ (λ a b. omega arith)) s₃ l refl (rw on);
         }
+
+pub key-below : {c : List ℕ} → Held c → (i : ℕ) → keyAt c i < 384
+key-below H i = omega (arith, place-below H i, limits (H .sound) .seller i)
 
 -- room for one more
 module _ {c : List ℕ} (H : Held c) {i : ℕ} (b : i ≤ 64) {w : List ℕ} (h : Summing c i w) (k : ℕ) (m : k < 384) where
@@ -134,14 +137,14 @@ module _ {c : List ℕ} (H : Held c) {p s : ℕ} (l : p < 24) (m : s < 16) where
     k = 16 * p + s
 
     pub committed-is : at w (0 + k) ≡ ofSeller F s (only (owed.stands F p) (F .committed))
-    committed-is = grown-all (S .committed) .is k (omega arith) ∙ zero-add _ ∙ sums-same (F .committed) (F .committed) (λ i b e. refl)
+    committed-is = S .committed .row .is k (omega arith) ∙ zero-add _ ∙ sums-same (F .committed) (F .committed) (λ i b e. refl)
 
     pub reduction-is : at w (384 + k) ≡ ofSeller F s (only (owed.stands F p) (F .testReduction p))
-    reduction-is = grown-all (S .reduction) .is k (omega arith) ∙ zero-add _ ∙ sums-same (F .testReduction p) (λ i. lookAt c i .reduction .0) (λ i b e. cond-true 0 (sym (tested-in c l b) ∙ e) refl ∙ sym (reduction-in c l b))
+    reduction-is = S .reduction .row .is k (omega arith) ∙ zero-add _ ∙ sums-same (F .testReduction p) (λ i. lookAt c i .reduction .0) (λ i b e. cond-true 0 (sym (tested-in c l b) ∙ e) refl ∙ sym (reduction-in c l b))
 
     pub worth-is : at w (768 + k) ≡ ofSeller F s (only (owed.stands F p) (λ i. F .committed i * F .rate i))
     worth-is =
-        grown-all (S .worth) .is k (omega arith) ∙ zero-add _
+        S .worth .row .is k (omega arith) ∙ zero-add _
         ∙ sums-same (λ i. F .committed i * F .rate i) (λ i. F .committed i * F .rate i) (λ i b e. refl)
 
     -- within limits

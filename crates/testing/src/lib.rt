@@ -2,13 +2,12 @@
 mod sums;
 
 ghost use mathlib.Core.Path.{_≡_};
-ghost use Prim.Native.Nat.{_+_, _*_, _/_, _≤_, _<_};
-ghost use lib.ListN.{length};
-ghost use Rattle.ids.specs.Ids.{sumTo, anyTo};
+ghost use Prim.Native.Nat.{_*_, _/_, _≤_, _<_};
+ghost use Rattle.ids.specs.Ids.{anyTo};
 ghost use Rattle.cells.specs.Layout.{Held};
-ghost use Rattle.owed.specs.Owed.{testShortfall, B, raised, testOf, test};
+ghost use Rattle.owed.specs.Owed.{testShortfall, B, raised, test};
 ghost use Rattle.looks.specs.Looks.{facts};
-ghost use Rattle.table.specs.Places.{size, testRow};
+ghost use Rattle.table.specs.Places.{testRow};
 ghost use Rattle.table.specs.Rows.{Aside, Row, none};
 ghost use Rattle.testing.specs.Entries.{takenAt, Ready};
 ghost use Rattle.testing.specs.Sums.{Summed};
@@ -57,30 +56,29 @@ fn charge_of(year: &Cells, sums: &Sums, place: usize, s: usize, days: u64) -> u6
     let key = 16 * place + s;
     let committed = Nominated::sum(sums[sums::COMMITTED + key]);
     let reduction = Nominated::sum(sums[sums::REDUCTION + key]);
-    let net = committed.less(reduction);
-    let all = looks::unforced(year, net);
     let deficit = deficit_of(year, place, s);
-    let shortfall = all.less(deficit);
+    let shortfall = looks::shortfall(year, committed, reduction, deficit);
     let rate = rate_of(sums[sums::WORTH + key], committed);
     shortfall.0 * rate * days / 1000
 }
 
-// The charges of the test at a place, with those of the places before it.
-fn charge_place(year: &Cells, work: &mut Work, sums: &Sums, place: usize, k: u64)
+// A seller's test charges to date. A place without a test costs nothing.
+fn test_of(year: &Cells, sums: &Sums, s: usize, k: u64) -> u64
     requires { ⌜ Held (now year) ⌝ }
     requires { ⌜ Summed (now year) (now sums) ⌝ }
-    requires { ⌜ Row (now work) testRow 16 (λ s. sumTo place (λ p. testOf (facts (now year)) k p s)) ⌝ }
-    requires { ⌜ (length (now work) ≡ size) × (place < 24) × (1 ≤ k) × (k ≤ 15) ⌝ }
-    ensures charged { λ _. ⌜ Row (now (work .exit)) testRow 16 (λ s. sumTo (place + 1) (λ p. testOf (facts (now (year .entry))) k p s)) ⌝ }
-    ensures aside { λ _. ⌜ Aside testRow 16 (now (work .entry)) (now (work .exit)) ⌝ }
+    requires { ⌜ (s < 16) × (1 ≤ k) × (k ≤ 15) ⌝ }
+    ensures { λ r. ⌜ r ≡ test (facts (now (year .entry))) k s ⌝ }
 {
     let days = looks::days_to(year, k);
-    let mut s: usize = 0;
-    while s < 16 {
-        let charge = charge_of(year, sums, place, s, days);
-        table::add_at(work, table::TEST + s, charge);
-        s += 1;
+    let mut sum: u64 = 0;
+    let mut place: usize = 0;
+    while place < 24 {
+        if cells::test_taken(year, place) {
+            sum += charge_of(year, sums, place, s, days);
+        }
+        place += 1;
     }
+    sum
 }
 
 // Is any test taken?
@@ -97,7 +95,7 @@ fn any_taken(year: &Cells) -> bool
     false
 }
 
-// The test charges to date of each seller. A place without a test costs nothing.
+// The test charges to date of each seller.
 pub fn charge_tests(year: &Cells, work: &mut Work, k: u64)
     requires { ⌜ Held (now year) ⌝ }
     requires { ⌜ Ready (now year) (now work) ⌝ }
@@ -111,11 +109,10 @@ pub fn charge_tests(year: &Cells, work: &mut Work, k: u64)
     }
     let mut sums = [0u64; 1152];
     sum_up(year, work, &mut sums);
-    let mut place: usize = 0;
-    while place < 24 {
-        if cells::test_taken(year, place) {
-            charge_place(year, work, &sums, place, k);
-        }
-        place += 1;
+    let mut s: usize = 0;
+    while s < 16 {
+        let test = test_of(year, &sums, s, k);
+        table::put(work, table::TEST, s, test);
+        s += 1;
     }
 }

@@ -1,21 +1,16 @@
 // The two passes over the entries of all tests: which stand, and their sums by place and seller.
 ghost use mathlib.Core.Path.{_≡_};
-ghost use Prim.Native.Nat.{_+_, _<_, _^_};
+ghost use Prim.Native.Nat.{_<_};
 ghost use lib.ListN.{length};
-ghost use Rattle.ids.specs.Ids.{at, tabulate};
+ghost use Rattle.ids.specs.Ids.{tabulate};
 ghost use Rattle.cells.specs.Layout.{Held};
-ghost use Rattle.table.specs.Rows.{Stored, Row, none};
+ghost use Rattle.table.specs.Rows.{Row, none};
 ghost use Rattle.testing.specs.Entries.{lookAt, stands, Ready};
-ghost use Rattle.testing.specs.Sums.{Summing, Summed};
+ghost use Rattle.testing.specs.Sums.{addendAt, Summed};
 use cells::Cells;
+use looks::Entry;
 use table::Work;
 use units::Nominated;
-
-// An entry of the tests: whether its registration is listed, and its reduction.
-pub struct Entry {
-    pub listed: bool,
-    pub reduction: Nominated,
-}
 
 // By 16 × place + seller, 384 places each: what is committed, the reductions, and what is committed times its rate.
 pub type Sums = [u64; 1152];
@@ -46,43 +41,38 @@ fn standing(year: &Cells, work: &Work) -> [bool; 64]
     while i < 64 {
         let x = look(year, i);
         if x.listed {
-            r[i] = work[table::CALLED + i] == 0;
+            r[i] = table::get(work, table::CALLED, i) == 0;
         }
         i += 1;
     }
     r
 }
 
-// x more at a place.
-fn add(sums: &mut Sums, place: usize, x: u64)
-    requires { ⌜ length (now sums) ≡ 1152 ⌝ }
-    requires { ⌜ place < 1152 ⌝ }
-    requires { ⌜ at (now sums) place + x < 2 ^ 64 ⌝ }
-    ensures { λ _. ⌜ Stored place (at (now (sums .entry)) place + x) (now (sums .entry)) (now (sums .exit)) ⌝ }
-{
-    let sum = sums[place];
-    sums[place] = sum + x;
+// What an entry adds to the sums, and where.
+pub struct Addend {
+    pub key: usize,
+    pub committed: Nominated,
+    pub reduction: Nominated,
+    pub worth: u64,
 }
 
-// Pass 2, one entry: it counts where it stands.
-fn add_entry(year: &Cells, work: &Work, sums: &mut Sums, i: usize, counts: bool)
+// Pass 2: one look at an entry, with its registration's terms.
+fn addend_of(year: &Cells, work: &Work, i: usize) -> Addend
     requires { ⌜ Held (now year) ⌝ }
     requires { ⌜ Ready (now year) (now work) ⌝ }
-    requires { ⌜ Summing (now year) i (now sums) ⌝ }
-    requires { ⌜ (i < 64) × (counts ≡ stands (now year) i) ⌝ }
-    ensures { λ _. ⌜ Summing (now (year .entry)) (i + 1) (now (sums .exit)) ⌝ }
+    requires { ⌜ i < 64 ⌝ }
+    ensures { λ r. ⌜ r ≡ addendAt (now (year .entry)) i ⌝ }
 {
     let x = look(year, i);
-    if !counts {
-        return;
+    let reduction = x.reduction;
+    let committed = Nominated::new(table::get(work, table::COMMITTED, i));
+    let key = 16 * table::get(work, table::PLACE, i) + table::get(work, table::SELLER, i);
+    Addend {
+        key: key as usize,
+        committed: committed,
+        reduction: reduction,
+        worth: committed.0 * table::get(work, table::RATE, i),
     }
-    let committed = Nominated::new(work[table::COMMITTED + i]);
-    let place = work[table::PLACE + i];
-    let seller = work[table::SELLER + i];
-    let key = (16 * place + seller) as usize;
-    add(sums, COMMITTED + key, committed.0);
-    add(sums, REDUCTION + key, x.reduction.0);
-    add(sums, WORTH + key, committed.0 * work[table::RATE + i]);
 }
 
 // The sums of all entries that stand.
@@ -95,7 +85,12 @@ pub fn sum_up(year: &Cells, work: &Work, sums: &mut Sums)
     let left = standing(year, work);
     let mut i: usize = 0;
     while i < 64 {
-        add_entry(year, work, sums, i, left[i]);
+        let x = addend_of(year, work, i);
+        if left[i] {
+            table::add_at(sums, COMMITTED, x.key, x.committed.0);
+            table::add_at(sums, REDUCTION, x.key, x.reduction.0);
+            table::add_at(sums, WORTH, x.key, x.worth);
+        }
         i += 1;
     }
 }

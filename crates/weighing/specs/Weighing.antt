@@ -13,9 +13,15 @@ use Rattle.owed.specs.Owed.{ofSeller, unforced, shortfallOver, excess}
 use Rattle.owed_laws.specs.Limits.{Limits}
 use Rattle.owed_laws.specs.Sellers.{ofSeller-le, net-is, excess-is}
 use Rattle.owed_laws.specs.Bounds.{lack-le, more-le}
-use Rattle.table.specs.Columns.{Columns, columns-kept}
-use Rattle.table.specs.Places.{size, sellerRow, committedRow, lackRow, moreRow, uRow}
-use Rattle.table.specs.Rows.{Stored, Aside, Row, Grown, none, aside-none, aside-more, row-kept, row-same, row-within, row-first, row-more, grown-first, grown-kept, grown-none, grown-more, grown-all, grown-most}
+use Rattle.table.specs.Columns.{Columns, columns-aside}
+use Rattle.table.specs.Places.{size, lackRow, moreRow, uRow}
+use Rattle.weighing.specs.declared.Entry.{Entry}
+use Rattle.table.specs.Rows.{Stored, Aside, Row, Grown, none, aside-none, aside-of, aside-more, row-kept, row-same, row-within, row-first, row-more, grown-first, grown-kept, grown-none, grown-more, grown-most}
+
+-- an entry as the rules have it
+abbrev pub entryAt : Facts → ℕ → ℕ → Entry
+entryAt F ev i =
+    record { listed = F .listed ev i; seller = F .seller i; lack = record { 0 = F .committed i - F .reduction ev i }; more = record { 0 = F .reduction ev i - F .committed i } }
 
 -- the sums of an event's entries, and nothing allotted yet
 pub record Weighed (F : Facts) (ev : ℕ) (w : List ℕ) : Type 0 where
@@ -28,14 +34,14 @@ pub record Weighed (F : Facts) (ev : ℕ) (w : List ℕ) : Type 0 where
 -- before entry i; w₀ is the table before the pass
 pub record Weighing (F : Facts) (ev i : ℕ) (w₀ w : List ℕ) : Type 0 where
   pub upto : i ≤ 64
-  pub columns : Columns F w
+  pub columns : Columns F 64 w
   pub aside : Aside lackRow 128 w₀ w
   pub lack : Grown w lackRow 16 none (F .seller) (owed.lack F ev) i
   pub more : Grown w moreRow 16 none (F .seller) (owed.more F ev) i
   pub freshLack : Row w (lackRow + 32) 32 none
   pub freshMore : Row w (moreRow + 32) 32 none
 
-pub weighing-first : {F : Facts} (ev : ℕ) {w : List ℕ} → Columns F w → Row w lackRow 128 none → Weighing F ev 0 w w
+pub weighing-first : {F : Facts} (ev : ℕ) {w : List ℕ} → Columns F 64 w → Row w lackRow 128 none → Weighing F ev 0 w w
 weighing-first {F} ev h r =
     record {
       upto = omega arith;
@@ -60,46 +66,36 @@ module _ {F : Facts} {ev i : ℕ} {w₀ w : List ℕ} (h : Weighing F ev i w₀ 
         freshMore = h .freshMore;
       }
 
-  -- an entry's seller and committed kilowatts in the table, and room for one more
-  pub committed-is : i < 64 → at w (committedRow + i) ≡ F .committed i
-  committed-is l = h .columns .committed .is i l
+  -- room for one more
+  module _ (L : Limits F) (s : ℕ) (q : s < 16) where
+    pub lack-room : at w (lackRow + s) ≤ 6400000
+    lack-room = grown-most (h .lack) 0 100000 (h .upto) (λ j a. omega arith) (λ j a. lack-le L ev j) s q
 
-  module _ (L : Limits F) where
-    pub seller-below : i < 64 → at w (sellerRow + i) < 16
-    seller-below l = omega (arith, h .columns .seller .is i l, L .seller i)
-
-    pub lack-room : (s : ℕ) → s < 16 → at w (lackRow + s) ≤ 6400000
-    lack-room s q = grown-most (h .lack) 0 100000 (h .upto) (λ j a. omega arith) (λ j a. lack-le L ev j) s q
-
-    pub more-room : (s : ℕ) → s < 16 → at w (moreRow + s) ≤ 6400000
-    more-room s q = grown-most (h .more) 0 100000 (h .upto) (λ j a. omega arith) (λ j a. more-le L ev j) s q
+    pub more-room : at w (moreRow + s) ≤ 6400000
+    more-room = grown-most (h .more) 0 100000 (h .upto) (λ j a. omega arith) (λ j a. more-le L ev j) s q
 
   -- a listed entry
-  module _ {a b : ℕ} {m y : List ℕ} (on : F .listed ev i ≡ true) where
-    weighing-own : F .seller i < 16 → Stored (lackRow + F .seller i) (at w (lackRow + F .seller i) + a) w m → a ≡ F .committed i - F .reduction ev i
-        → Stored (moreRow + F .seller i) (at m (moreRow + F .seller i) + b) m y → b ≡ F .reduction ev i - F .committed i → i < 64 → Weighing F ev (i + 1) w₀ y
-    weighing-own l s1 d1 s2 d2 u =
-        record {
-          upto = omega arith;
-          columns = columns-kept (columns-kept (h .columns) s1 (omega arith)) s2 (omega arith);
-          aside = aside-more (aside-more (h .aside) s1 (omega arith) (omega arith)) s2 (omega arith) (omega arith);
-          lack = grown-kept (grown-more (h .lack) s1 l refl (d1 ∙ rw on)) s2 (λ p q. omega arith);
-          more = grown-more (grown-kept (h .more) s1 (λ p q. omega arith)) s2 l refl (d2 ∙ rw on);
-          freshLack = row-kept (row-kept (h .freshLack) s1 (λ p q. omega arith)) s2 (λ p q. omega arith);
-          freshMore = row-kept (row-kept (h .freshMore) s1 (λ p q. omega arith)) s2 (λ p q. omega arith);
-        }
-
-    pub weighing-more : {s : ℕ} → s ≡ F .seller i → s < 16 → i < 64 → Stored (lackRow + s) (at w (lackRow + s) + a) w m → a ≡ F .committed i - F .reduction ev i
-        → Stored (moreRow + s) (at m (moreRow + s) + b) m y → b ≡ F .reduction ev i - F .committed i → Weighing F ev (i + 1) w₀ y
-    weighing-more q l u s1 d1 s2 d2 = weighing-own (rw q at l) (rw q at s1) d1 (rw q at s2) d2 u
+  pub weighing-more : {m y : List ℕ} → i < 64 → F .listed ev i ≡ true → F .seller i < 16 → let x = entryAt F ev i in
+      Stored (lackRow + F .seller i) (at w (lackRow + F .seller i) + x .lack .0) w m
+      → Stored (moreRow + F .seller i) (at m (moreRow + F .seller i) + x .more .0) m y → Weighing F ev (i + 1) w₀ y
+  weighing-more u on l s1 s2 =
+      record {
+        upto = omega arith;
+        columns = columns-aside (columns-aside (h .columns) (aside-of s1) (omega arith) (omega arith)) (aside-of s2) (omega arith) (omega arith);
+        aside = aside-more (aside-more (h .aside) s1 (omega arith) (omega arith)) s2 (omega arith) (omega arith);
+        lack = grown-kept (grown-more (h .lack) s1 l refl (rw on)) s2 (λ p q. omega arith);
+        more = grown-more (grown-kept (h .more) s1 (λ p q. omega arith)) s2 l refl (rw on);
+        freshLack = row-kept (row-kept (h .freshLack) s1 (λ p q. omega arith)) s2 (λ p q. omega arith);
+        freshMore = row-kept (row-kept (h .freshMore) s1 (λ p q. omega arith)) s2 (λ p q. omega arith);
+      }
 
   pub weighing-all : i ≡ 64 → Weighed F ev w
   unfolding ofSeller
   weighing-all q =
       record {
         long = h .columns .long;
-        lack = row-same (grown-all (rw q at (h .lack))) (λ j m. omega arith);
-        more = row-same (grown-all (rw q at (h .more))) (λ j m. omega arith);
+        lack = row-same (rw q at (h .lack .row)) (λ j m. omega arith);
+        more = row-same (rw q at (h .more .row)) (λ j m. omega arith);
         freshLack = h .freshLack;
         freshMore = h .freshMore;
       }
@@ -125,16 +121,16 @@ module _ {F : Facts} {ev s : ℕ} {w : List ℕ} (h : Netted F ev s w) where
     more-most = rw (h .weighed .more .is s l) (ofSeller-le F s 100000 (more-le L ev))
 
   module _ {lack more : ℕ} (l : s < 16) (p : lack ≡ at w (lackRow + s)) (q : more ≡ at w (moreRow + s)) where
-    shortfall-is : {net : ℕ} → net ≡ unforced F (lack - more) → net - F .deficit ev s ≡ owed.shortfall F ev s
+    shortfall-is : unforced F (lack - more) - F .deficit ev s ≡ owed.shortfall F ev s
     unfolding shortfallOver
-    shortfall-is e = rw (e, p, q, h .weighed .lack .is s l, h .weighed .more .is s l, ← (net-is F s ev))
+    shortfall-is = rw (p, q, h .weighed .lack .is s l, h .weighed .more .is s l, ← (net-is F s ev))
 
     excess-of : more - lack ≡ owed.excess F ev s
     excess-of = rw (p, q, h .weighed .lack .is s l, h .weighed .more .is s l) (sym (excess-is F s ev))
 
-    pub netted-more : {net a b : ℕ} {m v : List ℕ} → net ≡ unforced F (lack - more) → a ≡ net - F .deficit ev s → b ≡ more - lack
-        → Stored (lackRow + (16 + s)) a w m → Stored (moreRow + (16 + s)) b m v → Netted F ev (s + 1) v
-    netted-more e f g s1 s2 =
+    pub netted-more : {a b : ℕ} {m v : List ℕ} → a ≡ unforced F (lack - more) - F .deficit ev s → b ≡ more - lack
+        → Stored (lackRow + 16 + s) a w m → Stored (moreRow + 16 + s) b m v → Netted F ev (s + 1) v
+    netted-more f g s1 s2 =
         record {
           upto = omega arith;
           weighed = record {
@@ -144,12 +140,9 @@ module _ {F : Facts} {ev s : ℕ} {w : List ℕ} (h : Netted F ev s w) where
             freshLack = row-kept (row-kept (h .weighed .freshLack) s1 (λ x y. omega arith)) s2 (λ x y. omega arith);
             freshMore = row-kept (row-kept (h .weighed .freshMore) s1 (λ x y. omega arith)) s2 (λ x y. omega arith);
           };
-          shortfall = row-kept (row-more (h .shortfall) (at-row lackRow s1) (f ∙ shortfall-is e)) s2 (λ x y. omega arith);
-          excess = row-more (row-kept (h .excess) s1 (λ x y. omega arith)) (at-row moreRow s2) (g ∙ excess-of);
+          shortfall = row-kept (row-more (h .shortfall) s1 (f ∙ shortfall-is)) s2 (λ x y. omega arith);
+          excess = row-more (row-kept (h .excess) s1 (λ x y. omega arith)) s2 (g ∙ excess-of);
         }
-      where
-        at-row : (r : ℕ) {x : ℕ} {y z : List ℕ} → Stored (r + (16 + s)) x y z → Stored (r + 16 + s) x y z
-        at-row r t = let k : r + 16 + s ≡ r + (16 + s) = omega arith in rw k t
 
 -- both allotments may begin; u, e and the marks of the entries are still 0
 pub record Ready (F : Facts) (ev : ℕ) (w : List ℕ) : Type 0 where

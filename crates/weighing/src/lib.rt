@@ -1,35 +1,59 @@
 // Pass 2 over an event's entries: what each seller's entries lack and give more, and its shortfall and excess from these.
+ghost use mathlib.Core.Path.{_≡_};
 ghost use Prim.Native.Nat.{_<_};
 ghost use Rattle.cells.specs.Layout.{Held};
 ghost use Rattle.looks.specs.Looks.{facts};
 ghost use Rattle.table.specs.Columns.{Columns};
 ghost use Rattle.table.specs.Places.{lackRow};
 ghost use Rattle.table.specs.Rows.{Aside, Row, none};
-ghost use Rattle.weighing.specs.Weighing.{Weighed, Netted, Ready};
+ghost use Rattle.weighing.specs.Weighing.{entryAt, Weighed, Netted, Ready};
 use cells::Cells;
 use table::Work;
 use units::Nominated;
+
+// An entry of an event: whether it is listed, its seller, what it lacks and what it gives more.
+pub struct Entry {
+    pub listed: bool,
+    pub seller: usize,
+    pub lack: Nominated,
+    pub more: Nominated,
+}
+
+// One look at an entry, held against what its registration committed.
+pub fn entry_at(year: &Cells, work: &Work, ev: usize, i: usize) -> Entry
+    requires { ⌜ Held (now year) ⌝ }
+    requires { ⌜ (ev < 16) × (i < 64) ⌝ }
+    requires { ⌜ Columns (facts (now year)) 64 (now work) ⌝ }
+    ensures { λ r. ⌜ r ≡ entryAt (facts (now (year .entry))) ev i ⌝ }
+{
+    let x = looks::look(year, ev, i);
+    let reduction = x.reduction;
+    let committed = Nominated::new(table::get(work, table::COMMITTED, i));
+    let lack = committed.less(reduction);
+    let more = reduction.less(committed);
+    Entry {
+        listed: x.listed,
+        seller: table::get(work, table::SELLER, i) as usize,
+        lack: lack,
+        more: more,
+    }
+}
 
 // What each seller's entries lack, and what they give more.
 fn sums(year: &Cells, work: &mut Work, ev: usize)
     requires { ⌜ Held (now year) ⌝ }
     requires { ⌜ ev < 16 ⌝ }
-    requires { ⌜ Columns (facts (now year)) (now work) ⌝ }
+    requires { ⌜ Columns (facts (now year)) 64 (now work) ⌝ }
     requires { ⌜ Row (now work) lackRow 128 none ⌝ }
     ensures weighed { λ _. ⌜ Weighed (facts (now (year .entry))) ev (now (work .exit)) ⌝ }
     ensures aside { λ _. ⌜ Aside lackRow 128 (now (work .entry)) (now (work .exit)) ⌝ }
 {
     let mut i: usize = 0;
     while i < 64 {
-        let x = looks::look(year, ev, i);
+        let x = entry_at(year, work, ev, i);
         if x.listed {
-            let s = work[table::SELLER + i] as usize;
-            let committed = Nominated::new(work[table::COMMITTED + i]);
-            let reduction = x.reduction;
-            let lack = committed.less(reduction);
-            let more = reduction.less(committed);
-            table::add_at(work, table::LACK + s, lack.0);
-            table::add_at(work, table::MORE + s, more.0);
+            table::add_at(work, table::LACK, x.seller, x.lack.0);
+            table::add_at(work, table::MORE, x.seller, x.more.0);
         }
         i += 1;
     }
@@ -45,15 +69,13 @@ fn nets(year: &Cells, work: &mut Work, ev: usize)
 {
     let mut s: usize = 0;
     while s < 16 {
-        let lack = Nominated::sum(work[table::LACK + s]);
-        let more = Nominated::sum(work[table::MORE + s]);
-        let net = lack.less(more);
-        let converted = looks::unforced(year, net);
+        let lack = Nominated::sum(table::get(work, table::LACK, s));
+        let more = Nominated::sum(table::get(work, table::MORE, s));
         let deficit = looks::deficit_of(year, ev, s);
-        let shortfall = converted.less(deficit);
+        let shortfall = looks::shortfall(year, lack, more, deficit);
         let excess = more.less(lack);
-        table::put(work, table::LACK + (abreast::AMOUNT + s), shortfall.0);
-        table::put(work, table::MORE + (abreast::AMOUNT + s), excess.0);
+        table::put(work, table::LACK + abreast::AMOUNT, s, shortfall.0);
+        table::put(work, table::MORE + abreast::AMOUNT, s, excess.0);
         s += 1;
     }
 }
@@ -62,7 +84,7 @@ fn nets(year: &Cells, work: &mut Work, ev: usize)
 pub fn weigh(year: &Cells, work: &mut Work, ev: usize)
     requires { ⌜ Held (now year) ⌝ }
     requires { ⌜ ev < 16 ⌝ }
-    requires { ⌜ Columns (facts (now year)) (now work) ⌝ }
+    requires { ⌜ Columns (facts (now year)) 64 (now work) ⌝ }
     ensures ready { λ _. ⌜ Ready (facts (now (year .entry))) ev (now (work .exit)) ⌝ }
     ensures aside { λ _. ⌜ Aside lackRow 320 (now (work .entry)) (now (work .exit)) ⌝ }
 {

@@ -1,38 +1,21 @@
 -- `charging::line_at` meets its contract: one cell of each row. Assumes nothing.
-use mathlib.Core.Path.{refl}
 use native.Mathlib.Omega.{arith}
 use Rattle.charging.proofs.line_at.Statement.{statement}
 use Rattle.charging.proofs.line_at.Tie as tie
 
 returns : tie.Need-returns
-returns c = refl
+returns c = λ j. record { seller = c .before .before .before .before .before .get3 .ensures j; product = c .before .before .before .before .get4 .ensures j; calls = c .before .before .before .get5 .ensures j; rate = c .before .before .get6 .ensures j; cap = c .before .get7 .ensures j; taken = c .get8 .ensures j; u = record { 0 = c .before .before .before .before .before .before .before .get .ensures j }; e = record { 0 = c .before .before .before .before .before .before .get2 .ensures j } }
 
 pub line-at-spec : {M : Type 1} → statement M
 line-at-spec =
     tie.close
     (tie.spec
-    (λ c. omega arith)
-    (λ c. omega arith)
-    (λ c. omega arith)
-    (λ c. omega arith)
-    (λ c. omega arith)
-    (λ c. omega arith)
-    (λ c. omega arith)
-    (λ c. omega arith)
-    (λ c. omega arith)
-    (λ c. omega arith)
-    (λ c. omega arith)
-    (λ c. omega arith)
-    (λ c. omega arith)
-    (λ c. omega arith)
-    (λ c. omega arith)
-    (λ c. omega arith)
-    (λ c. omega arith)
-    (λ c. omega arith)
-    (λ c. omega arith)
-    (λ c. omega arith)
-    (λ c. omega arith)
-    (λ c. omega arith)
-    (λ c. omega arith)
-    (λ c. omega arith)
+    (λ c κs. omega arith)
+    (λ c κs. omega arith)
+    (λ c κs. omega arith)
+    (λ c κs. omega arith)
+    (λ c κs. omega arith)
+    (λ c κs. omega arith)
+    (λ c κs. omega arith)
+    (λ c κs. omega arith)
     returns)

@@ -20,22 +20,13 @@ abbrev μ-loop : tie.MeasureT-loop
 loop-holds : tie.Need-loop-holds Inv-loop μ-loop
 loop-holds c = counts-first (c .before .before .pre .1)
 
-look-requires : tie.Need-look-requires Inv-loop μ-loop
-look-requires c κs = (c .before .before .before .before .pre .0, omega arith)
-
-put-requires : tie.Need-put-requires Inv-loop μ-loop
-put-requires c κs = (c .before .before .before .before .loop .inv .long, omega arith)
-
 add-at-requires : tie.Need-add-at-requires Inv-loop μ-loop
 add-at-requires c κs =
     let s = c .before .before .before .before .before .before .before .before .before in
     let l = c .before .before .before .before .before .before .loop in
-    let F = facts (s .args .year .now) in
     let p = c .before .put .ensures in
-    let one = c .before .before .before .before .before .before .before .as-mark .ensures in (
-      p .long ∙ l .inv .long,
-      (omega arith, omega (arith, s .pre .0, counts-next (l .inv) (omega arith) p, calls-most F (s .args .ev) (l .i), one, cond-le (c .before .before .before .before .before .before .before .before .one-or-three .result) {x = 1} {b = 1} (omega arith))),
-    )
+    let one = c .before .before .before .before .before .before .before .as-mark .ensures in
+    (omega (arith, p .long, l .inv .long), omega (arith, s .pre .0, counts-next (l .inv) (omega arith) p, calls-most (facts (s .args .year .now)) (s .args .ev) (l .i), one, cond-le (c .before .before .before .before .before .before .before .before .one-or-three .result) {x = 1} {b = 1} (omega arith)))
 
 loop-again : tie.Need-loop-again Inv-loop μ-loop
 loop-again c =
@@ -60,10 +51,8 @@ count-event-spec =
     (λ c κs. c .pre .0)
     (λ c κs. tt)
     loop-holds
-    look-requires
-    (λ c. omega arith)
-    put-requires
-    (λ c. omega arith)
+    (λ c κs. (c .before .before .before .before .pre .0, omega arith))
+    (λ c κs. omega (arith, c .before .before .before .before .loop .inv .long))
     add-at-requires
     (λ c. omega arith)
     (λ c. omega arith)

@@ -1,53 +1,49 @@
 -- `lses::credit_lses` meets its contract: share by share, and none for an id without an obligation.
 use Prim.Native.Nat.{_-_, _≤_}
-use mathlib.Core.Path.{_≡_, refl, sym, _∙_}
+use mathlib.Core.Path.{_≡_, sym, _∙_}
 use mathlib.Core.Logic.{⊎-elim}
 use native.Mathlib.Omega.{arith}
 use lib.ListN.{length}
 use Rattle.allotment.specs.Allot.{share, share-zero}
 use Rattle.allotment.specs.Stepper.{Before, before-first, share-asks, share-value, share-next, share-skip}
 use Rattle.looks.specs.Looks.{facts}
+use Rattle.owed_laws.specs.Limits.{limits}
+use Rattle.owed_laws.specs.Totals.{obligations-le}
 use Rattle.table.specs.Places.{size, lseRow}
-use Rattle.table.specs.Rows.{Aside, aside-none, aside-more, Renewed, none, renewed-first, renewed-more, renewed-none, renewed-all}
-use Rattle.lses.specs.Lses.{net}
+use Rattle.table.specs.Rows.{Aside, aside-none, aside-more, Renewed, none, renewed-first, renewed-more, renewed-none}
+use Rattle.lses.specs.Lses.{net, obligations}
 use Rattle.lses.proofs.credit_lses.Statement.{statement}
 use Rattle.lses.proofs.credit_lses.Tie as tie
 
 abbrev Inv-loop : tie.InvT-loop
-Inv-loop year work₀ total a₀ j₀ work a j =
+Inv-loop year work₀ net₀ a₀ j₀ work a j =
     (j ≤ 16) × (length work ≡ size) × Aside lseRow 16 work₀ work × Before 16 (facts year .obligation) (net work₀) j a
     × Renewed work lseRow 16 (share 16 (facts year .obligation) (net work₀)) none j
 
 abbrev μ-loop : tie.MeasureT-loop
-μ-loop year work₀ total a₀ j₀ work a j = 16 - j
+μ-loop year work₀ net₀ a₀ j₀ work a j = 16 - j
+
+sum-requires : tie.Need-sum-requires Inv-loop μ-loop
+sum-requires c κs = let s = c .before .before .before in (omega arith, omega (arith, obligations (s .args .year .now), obligations-le (limits (s .pre .0 .sound)) 0))
 
 loop-holds : tie.Need-loop-holds Inv-loop μ-loop
 loop-holds c =
-    let s = c .before .before .before .before in
-    (omega arith, s .pre .1 .1 .1 .0, aside-none, before-first (c .before .before .net-of .ensures) (c .before .obligations .ensures) (c .new .ensures), renewed-first _ (s .pre .1 .1 .1 .1))
-
-share-requires : tie.Need-share-requires Inv-loop μ-loop
-share-requires c κs =
-    let l = c .before .before .before .loop in
-    let s = c .before .before .before .before .before .before .before .before in
-    share-asks (l .inv .3) (omega arith) (c .before .obligation-of .ensures) (s .pre .1 .1 .0)
-
-put-requires : tie.Need-put-requires Inv-loop μ-loop
-put-requires c κs = (c .before .before .before .before .before .loop .inv .1, omega arith)
+    let s = c .before .before .before .before .before in
+    (omega arith, s .pre .1 .1 .1 .0, aside-none, before-first (c .before .before .before .net-of .ensures) (c .before .sum .ensures ∙ obligations (s .args .year .now)) (c .new .ensures), renewed-first _ (s .pre .1 .1 .1 .1))
 
 loop-again : tie.Need-loop-again Inv-loop μ-loop
 loop-again c =
     let l = c .before .before .before .loop in
-    let y = c .before .before .before .before .before .before .before .before .args .year .now in
+    let F = facts (c .before .before .before .before .before .before .before .before .before .args .year .now) in
     let w = c .before .obligation-of .ensures in
     ⊎-elim
     (λ a. rw (a .5, a .6) (omega arith, a .3 .ensures .long ∙ l .inv .1, aside-more (l .inv .2) (a .3 .ensures) (omega arith) (omega arith), share-next (l .inv .3) w (a .1 .ensures), renewed-more (l .inv .4) (a .3 .ensures) (share-value (l .inv .3) w (a .1 .ensures))))
-    (λ a. let z : facts y .obligation (l .j) ≡ 0 = sym w ∙ a .0 .left in
-    rw (a .1, a .2) (omega arith, l .inv .1, l .inv .2, share-skip (l .inv .3) z, renewed-none (l .inv .4) (omega arith) (sym (share-zero 16 (facts y .obligation) _ (l .j) z))))
+    (λ a. let z : F .obligation (l .j) ≡ 0 = sym w ∙ a .0 .left in
+    rw (a .1, a .2) (omega arith, l .inv .1, l .inv .2, share-skip (l .inv .3) z, renewed-none (l .inv .4) (omega arith) (sym (share-zero 16 (F .obligation) _ (l .j) z))))
     (c .if1 .came)
 
 returns : tie.Need-returns Inv-loop μ-loop
-returns c = let l = c .before .loop in let z : l .j ≡ 16 = omega arith in (renewed-all (rw z at (l .inv .4)), l .inv .2)
+returns c = let l = c .before .loop in let z : l .j ≡ 16 = omega arith in (rw z at (l .inv .4 .done), l .inv .2)
 
 pub credit-lses-spec : {M : Type 1} → statement M
 credit-lses-spec =
@@ -56,13 +52,12 @@ credit-lses-spec =
     Inv-loop
     μ-loop
     (λ c κs. c .before .pre .1 .0)
-    (λ c κs. c .before .before .pre .0)
+    sum-requires
     (λ c κs. tt)
     loop-holds
     (λ c κs. omega arith)
-    share-requires
-    (λ c. omega arith)
-    put-requires
+    (λ c κs. share-asks (c .before .before .before .loop .inv .3) (omega arith) (c .before .obligation-of .ensures) (c .before .before .before .before .before .before .before .before .before .pre .1 .1 .0))
+    (λ c κs. omega (arith, c .before .before .before .before .before .loop .inv .1))
     (λ c. omega arith)
     (λ c. omega arith)
     loop-again

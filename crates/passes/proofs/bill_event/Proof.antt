@@ -2,7 +2,8 @@
 use native.Mathlib.Omega.{arith}
 use Rattle.table.specs.Places.{callsRow}
 use Rattle.table.specs.Rows.{aside-then, row-aside}
-use Rattle.passes.specs.Passes.{run-aside, run-more, given, given-aside}
+use Rattle.charging.specs.Charging.{given-aside}
+use Rattle.passes.specs.Passes.{run-aside, run-more, given}
 use Rattle.passes.proofs.bill_event.Statement.{statement}
 use Rattle.passes.proofs.bill_event.Tie as tie
 
@@ -26,7 +27,7 @@ credit-requires c κs =
     let s = c .before .before .before .before .before .before .before .pre in
     let h = run-aside (run-aside (s .1 .1) (c .before .before .before .before .before .weigh .ensures .1)) (c .before .before .before .share .ensures .1) in
     let k = c .before .charge .ensures in
-    (s .0, (s .1 .0, (given-aside (given h (c .before .before .before .share .ensures .0)) (k .1 .1), (row-aside (h .credit) (k .1 .1) (λ j l x y. omega arith), k .1 .0))))
+    (s .0, (s .1 .0, (given-aside (given h (c .before .before .before .share .ensures .0)) (k .1 .1) (omega arith) (omega arith), (row-aside (h .credit) (k .1 .1) (λ j l x y. omega arith), k .1 .0))))
 
 returns : tie.Need-returns
 returns c =

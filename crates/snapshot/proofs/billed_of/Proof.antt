@@ -7,7 +7,7 @@ use Rattle.snapshot.proofs.numbers_at.Reads as numbers-at-reads
 
 returns : tie.Need-returns
 unfolding billedIn
-returns c = cc (c .before .before .before .numbers-at .ensures, c .before .before .numbers-at2 .ensures, c .before .numbers-at3 .ensures, c .numbers-at4 .ensures)
+returns c = cc (c .before .before .before .before .before .before .numbers-at .ensures, c .before .before .before .before .numbers-at2 .ensures, c .before .before .numbers-at3 .ensures, c .numbers-at4 .ensures)
 
 pub billed-of-spec : {M : Type 1} → statement M
 billed-of-spec =

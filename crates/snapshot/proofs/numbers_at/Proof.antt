@@ -9,10 +9,10 @@ use Rattle.snapshot.proofs.numbers_at.Statement.{statement}
 use Rattle.snapshot.proofs.numbers_at.Tie as tie
 
 abbrev Inv-loop : tie.InvT-loop
-Inv-loop year p numbers₀ i₀ numbers i = Filled 0 16 (from p year) numbers i
+Inv-loop cells p numbers₀ i₀ numbers i = Filled 0 16 (from p cells) numbers i
 
 abbrev μ-loop : tie.MeasureT-loop
-μ-loop year p numbers₀ i₀ numbers i = 16 - i
+μ-loop cells p numbers₀ i₀ numbers i = 16 - i
 
 loop-holds : tie.Need-loop-holds Inv-loop μ-loop
 loop-holds c = filled-none (length-replicate {A = ℕ} 16 0)

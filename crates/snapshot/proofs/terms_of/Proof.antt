@@ -8,7 +8,7 @@ use Rattle.snapshot.proofs.registrations_of.Reads as registrations-of-r
 
 returns : tie.Need-returns
 unfolding obligationsIn
-returns c = cc (c .before .before .before .before .registrations-of .ensures, c .before .before .before .numbers-at .ensures)
+returns c = cc (c .before .before .before .before .before .registrations-of .ensures, c .before .before .before .numbers-at .ensures)
 
 pub terms-of-spec : {M : Type 1} → statement M
 terms-of-spec =

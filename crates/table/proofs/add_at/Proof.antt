@@ -1,17 +1,20 @@
 -- `table::add_at` meets its contract. Assumes nothing.
-use Rattle.table.specs.Rows.{stored}
+use Prim.Native.Nat.{_+_}
 use native.Mathlib.Omega.{arith}
 use borrow.Author.Needs.{needs}
+use Rattle.table.specs.Rows.{stored}
 use Rattle.table.proofs.add_at.Statement.{statement}
 use Rattle.table.proofs.add_at.Tie as tie
 
 returns : tie.Need-returns
-returns c = let s = c .before in stored (s .args .work .now) (s .args .place) _ (omega arith)
+returns c = let s = c .before in stored (s .args .work .now) (s .args .row + s .args .i) _ (omega arith)
 
 pub add-at-spec : {M : Type 1} → statement M
 add-at-spec =
     tie.close
     (tie.spec
+    (λ c. search needs)
+    (λ c. search needs)
     (λ c. search needs)
     (λ c. search needs)
     (λ c. search needs)

@@ -8,13 +8,13 @@ use Rattle.weighing.proofs.weigh.Statement.{statement}
 use Rattle.weighing.proofs.weigh.Tie as tie
 
 clear-requires : tie.Need-clear-requires
-clear-requires c κs = (c .before .pre .1 .1 .long, omega arith)
+clear-requires c κs = omega (arith, c .before .pre .1 .1 .long)
 
 sums-requires : tie.Need-sums-requires
 sums-requires c κs =
     let s = c .before .before .before .pre in
     let k = c .before .clear .ensures in
-    (s .0, (s .1 .0, (columns-aside (s .1 .1) (k .1) (omega arith), row-within lackRow 128 (k .0) (omega arith) (omega arith))))
+    (s .0, (s .1 .0, (columns-aside (s .1 .1) (k .1) (omega arith) (omega arith), row-within lackRow 128 (k .0) (omega arith) (omega arith))))
 
 nets-requires : tie.Need-nets-requires
 nets-requires c κs = let s = c .before .before .before .before .before .pre in (s .0, (s .1 .0, c .before .sums .ensures .0))

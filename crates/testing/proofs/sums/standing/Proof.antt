@@ -7,7 +7,7 @@ use native.Mathlib.Omega.{arith}
 use lib.ListN.{replicate, length-replicate}
 use Rattle.ids.specs.Sets.{getD-replicate-same}
 use Rattle.ids.specs.Update.{Updated, updated-none, updated-more, updated-kept, updated-all}
-use Rattle.testing.specs.declared.sums.Entry.{Entry}
+use Rattle.looks.specs.declared.Entry.{Entry}
 use Rattle.testing.specs.Entries.{stands, stands-off, stands-on}
 use Rattle.testing.proofs.sums.standing.Statement.{statement}
 use Rattle.testing.proofs.sums.standing.Tie as tie
@@ -25,12 +25,9 @@ loop-again c =
     let y = s .args .year .now in
     let on = sym (ap (λ (x : Entry). x .listed) (c .before .look .ensures)) in
     ⊎-elim
-    (λ a. rw (a .2) (updated-more (l .inv) (omega arith) (stands-on y (l .i) (on ∙ a .0 .taken) (s .pre .called .is (l .i) (omega arith)))))
+    (λ a. rw (a .2) (updated-more (l .inv) (omega arith) (stands-on y (l .i) (on ∙ a .0 .taken) (a .1 .ensures ∙ s .pre .called .is (l .i) (omega arith)))))
     (λ a. rw (a .1) (updated-kept (l .inv) (omega arith) (getD-replicate-same 64 (l .i) false ∙ stands-off y (l .i) (on ∙ a .0 .left))))
     (c .if1 .came)
-
-returns : tie.Need-returns Inv-loop μ-loop
-returns c = updated-all (c .before .loop .inv) (omega arith)
 
 pub standing-spec : {M : Type 1} → statement M
 standing-spec =
@@ -40,11 +37,9 @@ standing-spec =
     μ-loop
     (λ c. updated-none (length-replicate 64 false))
     (λ c κs. omega arith)
-    (λ c. omega arith)
-    (λ c. omega arith)
-    (λ c. omega arith)
+    (λ c κs. omega arith)
     (λ c. omega arith)
     (λ c. omega arith)
     (λ c. omega arith)
     loop-again
-    returns)
+    (λ c. updated-all (c .before .loop .inv) (omega arith)))

@@ -1,2 +1,0 @@
--- The lent registrations in the working table.
-pub mod Entered
