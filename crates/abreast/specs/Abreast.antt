@@ -1,7 +1,7 @@
 -- An amount a seller, allotted over its registrations: sixteen allotments side by side in four rows of the working table.
 use Prim.Native.Nat.{ℕ, _+_, _*_, _/_, _≤_, _<_, _^_}
 use mathlib.Core.Path.{_≡_, refl, sym, _∙_}
-use mathlib.Core.Bool.{Bool, true, false, cond}
+use mathlib.Core.Bool.{Bool, true, false}
 use mathlib.Core.List.{List}
 use native.Mathlib.Omega.{arith}
 use native.Mathlib.Nat.{mul-zero, zero-div}
@@ -9,6 +9,7 @@ use lib.Dec.{eqb}
 use lib.ListN.{length}
 use borrow.Author.Tests.{eq-eqb, eqb-true, eqb-false}
 use Rattle.ids.specs.Ids.{at, keyed}
+use Rattle.ids.specs.Tests.{cond-le}
 use Rattle.allotment.specs.declared.Allotment.{Allotment}
 use Rattle.allotment.specs.declared.Share.{Share}
 use Rattle.allotment.specs.Stepper.{Asks, Gives, Before, before-first, share-asks, share-value, share-next, share-skip}
@@ -82,11 +83,8 @@ module _ {F : Facts} {weight amount : ℕ → ℕ} {p i : ℕ} {w : List ℕ} (h
 
   -- a registration without weight
   pub abreast-none : weight i ≡ 0 → Abreast F weight amount p (i + 1) w
-  abreast-none z = record { before = λ s l. share-skip (h .before s l) (go (eqb (F .seller i) s)) }
-    where
-      go : (b : Bool) → cond b (weight i) 0 ≡ 0
-      go true = z
-      go false = refl
+  abreast-none z =
+      record { before = λ s l. share-skip (h .before s l) (omega (arith, cond-le (eqb (F .seller i) s) {x = weight i} {b = 0} (omega arith))) }
 
   module _ {x : ℕ} (l : F .seller i < 16) (e : x ≡ weight i) where
     own : x ≡ keyed (F .seller) weight (F .seller i) i

@@ -1,6 +1,6 @@
 -- An event's charges entry by entry.
 use Prim.Native.Nat.{ℕ, _+_, _*_, _-_, _/_, _≤_, _<_, min, max}
-use mathlib.Core.Path.{_≡_, refl, sym, _∙_}
+use mathlib.Core.Path.{_≡_, refl, sym}
 use mathlib.Core.Bool.{Bool, true, false, cond}
 use mathlib.Core.List.{List}
 use native.Mathlib.Omega.{arith}
@@ -16,7 +16,7 @@ use Rattle.owed_laws.specs.Limits.{Limits}
 use Rattle.owed_laws.specs.Sellers.{ofSeller-le}
 use Rattle.owed_laws.specs.Bounds.{cap-le, charge-le}
 use Rattle.owed_laws.specs.Cap.{taken-le}
-use Rattle.owed_laws.specs.Unlisted.{daily-unlisted, charge-unlisted}
+use Rattle.owed_laws.specs.Unlisted.{u-unlisted, daily-none, charge-none}
 use Rattle.sharing.specs.Sharing.{Shares}
 use Rattle.table.specs.Columns.{Columns, columns-aside}
 use Rattle.table.specs.Places.{sellerRow, productRow, rateRow, capRow, callsRow, takenRow, complianceRow, lackRow, uRow, eRow}
@@ -107,28 +107,35 @@ taken-step : (F : Facts) (ev i : ℕ) → owed.taken F (ev + 1) i ≡ owed.taken
 unfolding owed.taken
 taken-step F ev i = rw (add-one ev)
 
--- a listed entry's charge, by its line
-module _ (F : Facts) (ev i : ℕ) (on : F .listed ev i ≡ true) where
+-- the charge of one with a share, which is listed, by its line
+module _ (F : Facts) (ev i : ℕ) (some : owed.u F ev i ≡ 0 → ⊥) where
+  listed : F .listed ev i ≡ true
+  listed = go (F .listed ev i) refl
+    where
+      go : (b : Bool) → F .listed ev i ≡ b → b ≡ true
+      go true e = refl
+      go false e = absurd (some (u-unlisted F ev i e))
+
   pub daily-is : {b : Bool} (x : ℕ) → b ≡ oneOrThree (F .period ev) → dailyOf b (lineOf F ev i x) ≡ owed.daily F ev x i
   unfolding owed.daily beforeCap
-  daily-is x p = rw (p, on)
+  daily-is x p = rw (p, listed)
 
-  pub charge-is : (k : ℕ) {d m days : ℕ} → d ≡ owed.daily F ev (owed.taken F ev i) i → m ≡ F .month ev → days ≡ D F k
-      → cond (leb (due (F .product i) m) k) (d * days / 1000) 0 ≡ owed.charge F k ev i
-  unfolding owed.charge
-  charge-is k e p q = rw (p, q, e)
+pub charge-is : (F : Facts) (k ev i : ℕ) {d m days : ℕ} → d ≡ owed.daily F ev (owed.taken F ev i) i → m ≡ F .month ev → days ≡ D F k
+    → cond (leb (due (F .product i) m) k) (d * days / 1000) 0 ≡ owed.charge F k ev i
+unfolding owed.charge
+charge-is F k ev i e p q = rw (p, q, e)
 
 module _ {F : Facts} {k ev i : ℕ} {w₀ w : List ℕ} {all : ℕ} (h : Charging F k ev i w₀ w all) where
-  -- an entry that is not listed
-  pub charging-none : i < 64 → F .listed ev i ≡ false → Charging F k ev (i + 1) w₀ w all
-  charging-none l off =
+  -- a registration without a share
+  pub charging-none : i < 64 → owed.u F ev i ≡ 0 → Charging F k ev (i + 1) w₀ w all
+  charging-none l none =
       record {
         upto = omega arith;
         given = h .given;
         aside = h .aside;
-        taken = renewed-none (h .taken) l (omega (arith, taken-step F ev i, daily-unlisted F ev i off (owed.taken F ev i)));
-        compliance = grown-none (h .compliance) (charge-unlisted F ev i off k);
-        sum = omega (arith, h .sum, sum-step i (owed.charge F k ev), charge-unlisted F ev i off k);
+        taken = renewed-none (h .taken) l (omega (arith, taken-step F ev i, daily-none F ev i none (owed.taken F ev i)));
+        compliance = grown-none (h .compliance) (charge-none F ev i none k);
+        sum = omega (arith, h .sum, sum-step i (owed.charge F k ev), charge-none F ev i none k);
       }
 
   -- limits

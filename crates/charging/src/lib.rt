@@ -96,7 +96,8 @@ fn cents(product: u64, month: u64, k: u64, days: u64, daily: u64) -> u64
     if from <= k { daily * days / 1000 } else { 0 }
 }
 
-// Event ev's charges to date at month k, added to what is taken of the caps and to the sellers' compliance; their sum.
+// Event ev's charges to date at month k, added to what is taken of the caps and to the sellers' compliance; their sum. A registration
+// without a share of its seller's shortfall is not charged.
 pub fn charge(year: &Cells, work: &mut Work, ev: usize, k: u64) -> u64
     requires { ⌜ Held (now year) ⌝ }
     requires { ⌜ (ev < 16) × (1 ≤ k) × (k ≤ 15) ⌝ }
@@ -112,7 +113,7 @@ pub fn charge(year: &Cells, work: &mut Work, ev: usize, k: u64) -> u64
     let mut all: u64 = 0;
     let mut i: usize = 0;
     while i < 64 {
-        if table::get(work, table::LISTED, i) != 0 {
+        if table::get(work, table::U, i) != 0 {
             let line = line_at(work, i);
             let daily = daily_of(peak, line);
             let due = cents(line.product, month, k, days, daily);

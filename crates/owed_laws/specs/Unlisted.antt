@@ -1,24 +1,23 @@
--- A registration that an event does not list has no share in it, is not charged and gets no credit.
-use Prim.Native.Nat.{ℕ, _/_}
-use mathlib.Core.Bool.{Bool, true, false, cond}
-use mathlib.Core.Path.{_≡_, refl}
-use native.Mathlib.Nat.{zero-mul, zero-min}
+-- A registration that an event does not list has no share in it and gets no credit; one without a share is not charged.
+use Prim.Native.Nat.{ℕ, _*_, _/_, _≤_, max}
+use mathlib.Core.Bool.{false, cond}
+use mathlib.Core.Path.{_≡_}
+use native.Mathlib.Omega.{arith}
+use native.Mathlib.Nat.{zero-mul, zero-div, zero-min}
 use lib.Dec.{eqb, leb}
 use Rattle.ids.specs.Ids.{keyed}
+use Rattle.ids.specs.Tests.{cond-le}
 use Rattle.calendar.specs.Calendar.{due}
 use Rattle.allotment.specs.Allot.{share-zero}
 use Rattle.owed.specs.Facts.{Facts, registrations}
-use Rattle.owed.specs.Owed.{D, shareOf, lack, more, shortfall, excess, u, daily, taken, charge, e, creditShare, creditLimit, creditOf}
+use Rattle.owed.specs.Owed.{oneOrThree, beforeCap, D, shareOf, calls, lack, more, shortfall, excess, u, daily, taken, charge, e, creditShare, creditLimit, creditOf}
 
 -- a weight of 0
 share-none : (F : Facts) (weight amount : ℕ → ℕ) (i : ℕ) → weight i ≡ 0 → shareOf F weight amount i ≡ 0
 unfolding shareOf
 share-none F weight amount i z =
-    share-zero registrations (keyed (F .seller) weight (F .seller i)) (amount (F .seller i)) i (go (eqb (F .seller i) (F .seller i)))
-  where
-    go : (b : Bool) → cond b (weight i) 0 ≡ 0
-    go true = z
-    go false = refl
+    share-zero registrations (keyed (F .seller) weight (F .seller i)) (amount (F .seller i)) i
+    (omega (arith, cond-le (eqb (F .seller i) (F .seller i)) {x = weight i} {b = 0} (omega arith)))
 
 module _ (F : Facts) (ev i : ℕ) (no : F .listed ev i ≡ false) where
   pub u-unlisted : u F ev i ≡ 0
@@ -29,18 +28,26 @@ module _ (F : Facts) (ev i : ℕ) (no : F .listed ev i ≡ false) where
   unfolding e
   e-unlisted = share-none F (more F ev) (excess F ev) i (rw no)
 
-  pub daily-unlisted : (x : ℕ) → daily F ev x i ≡ 0
-  unfolding daily
-  daily-unlisted x = rw no
-
-  pub charge-unlisted : (k : ℕ) → charge F k ev i ≡ 0
-  unfolding charge
-  charge-unlisted k = rw (daily-unlisted (taken F ev i), zero-mul (D F k)) (go (leb (due (F .product i) (F .month ev)) k))
-    where
-      go : (b : Bool) → cond b (0 / 1000) 0 ≡ 0
-      go true = refl
-      go false = refl
-
   pub credit-unlisted : (k : ℕ) → creditOf F k ev i ≡ 0
   unfolding creditOf creditShare
   credit-unlisted k = rw (share-zero registrations (e F ev) _ i e-unlisted) (zero-min (creditLimit F k ev i))
+
+-- one without a share of its seller's shortfall is not charged
+nothing-asked : (period n q : ℕ) → beforeCap period n 0 q ≡ 0
+unfolding beforeCap
+nothing-asked period n q = rw (zero-mul q) (zero-div (cond (oneOrThree period) (max n 2) 52))
+
+module _ (F : Facts) (ev i : ℕ) (none : u F ev i ≡ 0) where
+  pub daily-none : (x : ℕ) → daily F ev x i ≡ 0
+  unfolding daily
+  daily-none x =
+      let z : beforeCap (F .period ev) (calls F i) (u F ev i) (F .rate i) ≡ 0 = rw none (nothing-asked (F .period ev) (calls F i) (F .rate i)) in
+      let le : daily F ev x i ≤ 0 = cond-le (F .listed ev i) (omega arith) in
+      omega arith
+
+  pub charge-none : (k : ℕ) → charge F k ev i ≡ 0
+  unfolding charge
+  charge-none k =
+      let z : daily F ev (taken F ev i) i * D F k / 1000 ≡ 0 = rw (daily-none (taken F ev i), zero-mul (D F k)) in
+      let le : charge F k ev i ≤ 0 = cond-le (leb (due (F .product i) (F .month ev)) k) (omega arith) in
+      omega arith

@@ -84,10 +84,6 @@ none i = 0
 abbrev pub mark : Bool → ℕ
 mark b = cond b 1 0
 
-pub mark-true : {x : ℕ} (b : Bool) → x ≡ mark b → (x ≡ 0 → ⊥) → b ≡ true
-mark-true true e n = refl
-mark-true false e n = absurd (n e)
-
 pub mark-false : {x : ℕ} (b : Bool) → x ≡ mark b → x ≡ 0 → b ≡ false
 mark-false true e z = absurd (omega arith)
 mark-false false e z = refl
@@ -106,11 +102,8 @@ module _ {w : List ℕ} {p n : ℕ} {b key f : ℕ → ℕ} {i : ℕ} (r : Grown
 
   -- an id that adds nothing, and one that adds at its key
   pub grown-none : f i ≡ 0 → Grown w p n b key f (i + 1)
-  grown-none z = record { row = row-same (r .row) (λ k l. omega (arith, sum-step i (keyed key f k), go (eqb (key i) k))) }
-    where
-      go : (t : Bool) → cond t (f i) 0 ≡ 0
-      go true = z
-      go false = refl
+  grown-none z =
+      record { row = row-same (r .row) (λ k l. omega (arith, sum-step i (keyed key f k), cond-le (eqb (key i) k) {x = f i} {b = 0} (omega arith))) }
 
   pub grown-more : {x y : ℕ} {v : List ℕ} → Stored (p + key i) x w v → key i < n → x ≡ at w (p + key i) + y → y ≡ f i → Grown v p n b key f (i + 1)
   grown-more {x} {y} s m e d =

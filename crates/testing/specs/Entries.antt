@@ -17,7 +17,6 @@ use Rattle.year.specs.Limits.{zone-below, product-below}
 use Rattle.year.specs.Year.{pastTest, listed, reduction, deficit}
 use Rattle.cells.specs.Layout.{flag, placeIn, entryAt, yearIn, Held}
 use Rattle.cells.specs.Regions.{test-in}
-use Rattle.owed.specs.Facts.{Facts}
 use Rattle.owed.specs.Owed.{D, raised, unforced, ofSeller, called, shortfallOver, testShortfall, B, testOf}
 use Rattle.owed.specs.Owed as owed
 use Rattle.owed_laws.specs.Limits.{limits}

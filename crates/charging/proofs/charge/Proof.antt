@@ -1,16 +1,15 @@
 -- `charging::charge` meets its contract. The loop's invariant: the entries before i are charged. Assumes nothing.
-use Prim.Native.Nat.{_+_, _-_, _≤_, _<_}
-use mathlib.Core.Path.{_≡_, ap, _∙_}
-use mathlib.Core.Bool.{true}
+use Prim.Native.Nat.{_+_, _-_, _≤_}
+use mathlib.Core.Path.{_≡_, ap, sym, _∙_}
 use mathlib.Core.Logic.{⊎-elim}
 use native.Mathlib.Omega.{arith}
 use Rattle.looks.specs.Looks.{facts}
 use Rattle.owed.specs.Facts.{Facts}
-use Rattle.owed.specs.Owed.{daily, taken, charge}
+use Rattle.owed.specs.Owed.{u, daily, taken, charge}
 use Rattle.owed_laws.specs.Limits.{limits}
 use Rattle.owed_laws.specs.Bounds.{D-le, u-le, daily-le, charge-le}
 use Rattle.table.specs.Places.{complianceRow}
-use Rattle.table.specs.Rows.{mark-true, mark-false, renewed-next}
+use Rattle.table.specs.Rows.{renewed-next}
 use Rattle.charging.specs.Charging.{Charging, dailyOf, lineOf, line-is, charging-first, charging-none, charging-more, charging-all, taken-most, compliance-most, sum-most, daily-is, charge-is}
 use Rattle.charging.proofs.charge.Statement.{statement}
 use Rattle.charging.proofs.charge.Tie as tie
@@ -21,27 +20,27 @@ Inv-loop year work₀ ev k peak month days all₀ i₀ work all i = Charging (fa
 abbrev μ-loop : tie.MeasureT-loop
 μ-loop year work₀ ev k peak month days all₀ i₀ work all i = 64 - i
 
--- the entry is listed; its line, its daily charge and its charge to date, as the rules have them
+-- the registration has a share; its line, its daily charge and its charge to date, as the rules have them
 module _ (c : tie.After-line-at Inv-loop μ-loop) where
   abbrev F : Facts
   F = facts (c .before .before .before .before .before .before .before .before .before .before .args .year .now)
 
-  listed : F .listed (c .before .before .before .before .before .before .before .before .before .before .args .ev) (c .before .before .before .before .before .before .loop .i) ≡ true
-  listed = mark-true _ (c .before .before .before .get .ensures ∙ c .before .before .before .before .before .before .loop .inv .given .shares .listed .is (c .before .before .before .before .before .before .loop .i) (omega arith)) (c .before .before .if1 .taken)
+  some : u F (c .before .before .before .before .before .before .before .before .before .before .args .ev) (c .before .before .before .before .before .before .loop .i) ≡ 0 → ⊥
+  some z = c .before .before .if1 .taken (c .before .before .before .get .ensures ∙ c .before .before .before .before .before .before .loop .inv .given .shares .u .is (c .before .before .before .before .before .before .loop .i) (omega arith) ∙ z)
 
   line : c .line-at .result ≡ lineOf F (c .before .before .before .before .before .before .before .before .before .before .args .ev) (c .before .before .before .before .before .before .loop .i) (taken F (c .before .before .before .before .before .before .before .before .before .before .args .ev) (c .before .before .before .before .before .before .loop .i))
   line = c .line-at .ensures ∙ line-is (c .before .before .before .before .before .before .loop .inv .given) (omega arith) (renewed-next (c .before .before .before .before .before .before .loop .inv .taken) (omega arith))
 
 module _ (c : tie.After-daily-of Inv-loop μ-loop) where
   daily-eq : c .daily-of .result ≡ daily (F (c .before)) (c .before .before .before .before .before .before .before .before .before .before .before .args .ev) (taken (F (c .before)) (c .before .before .before .before .before .before .before .before .before .before .before .args .ev) (c .before .before .before .before .before .before .before .loop .i)) (c .before .before .before .before .before .before .before .loop .i)
-  daily-eq = c .daily-of .ensures ∙ ap (dailyOf (c .before .before .before .before .before .before .before .before .before .before .one-or-three .result)) (line (c .before)) ∙ daily-is (F (c .before)) (c .before .before .before .before .before .before .before .before .before .before .before .args .ev) (c .before .before .before .before .before .before .before .loop .i) (listed (c .before)) _ (c .before .before .before .before .before .before .before .before .before .before .one-or-three .ensures)
+  daily-eq = c .daily-of .ensures ∙ ap (dailyOf (c .before .before .before .before .before .before .before .before .before .before .one-or-three .result)) (line (c .before)) ∙ daily-is (F (c .before)) (c .before .before .before .before .before .before .before .before .before .before .before .args .ev) (c .before .before .before .before .before .before .before .loop .i) (some (c .before)) _ (c .before .before .before .before .before .before .before .before .before .before .one-or-three .ensures)
 
   daily-most : c .daily-of .result ≤ 14400000000
   daily-most = rw daily-eq (daily-le (limits (c .before .before .before .before .before .before .before .before .before .before .before .pre .0 .sound)) (c .before .before .before .before .before .before .before .before .before .before .before .args .ev) _ (c .before .before .before .before .before .before .before .loop .i))
 
 module _ (c : tie.After-cents Inv-loop μ-loop) where
   charge-eq : c .cents .result ≡ charge (F (c .before .before)) (c .before .before .before .before .before .before .before .before .before .before .before .before .args .k) (c .before .before .before .before .before .before .before .before .before .before .before .before .args .ev) (c .before .before .before .before .before .before .before .before .loop .i)
-  charge-eq = rw (line (c .before .before)) at (c .cents .ensures) ∙ charge-is (F (c .before .before)) (c .before .before .before .before .before .before .before .before .before .before .before .before .args .ev) (c .before .before .before .before .before .before .before .before .loop .i) (listed (c .before .before)) (c .before .before .before .before .before .before .before .before .before .before .before .before .args .k) (daily-eq (c .before)) (c .before .before .before .before .before .before .before .before .before .before .month-of .ensures) (c .before .before .before .before .before .before .before .before .before .days-to .ensures)
+  charge-eq = rw (line (c .before .before)) at (c .cents .ensures) ∙ charge-is (F (c .before .before)) (c .before .before .before .before .before .before .before .before .before .before .before .before .args .k) (c .before .before .before .before .before .before .before .before .before .before .before .before .args .ev) (c .before .before .before .before .before .before .before .before .loop .i) (daily-eq (c .before)) (c .before .before .before .before .before .before .before .before .before .before .month-of .ensures) (c .before .before .before .before .before .before .before .before .before .days-to .ensures)
 
   charge-most : c .cents .result ≤ 5270400000
   charge-most = rw charge-eq (charge-le (limits (c .before .before .before .before .before .before .before .before .before .before .before .before .pre .0 .sound)) (c .before .before .before .before .before .before .before .before .before .before .before .before .args .k) (c .before .before .before .before .before .before .before .before .before .before .before .before .args .ev) (c .before .before .before .before .before .before .before .before .loop .i))
@@ -55,7 +54,7 @@ loop-again c =
     let k : tie.After-cents Inv-loop μ-loop = record { before = record { before = record { before = record { before = record { before = c .before; if1 = a .0 }; line-at-arg = a .1 }; line-at = a .2 }; daily-of = a .3 }; cents = a .4 } in
     rw (a .9, a .10)
     (charging-more (l .inv) (c .before .before .before .loop-test .taken) (limits (s .pre .0 .sound) .seller (l .i)) (daily-eq (k .before)) (charge-eq k) (a .6 .ensures) (rw (line (k .before .before)) at (a .8 .ensures))))
-    (λ a. rw (a .1, a .2) (charging-none (l .inv) (c .before .before .before .loop-test .taken) (mark-false _ (c .before .get .ensures ∙ l .inv .given .shares .listed .is (l .i) (omega arith)) (a .0 .left))))
+    (λ a. rw (a .1, a .2) (charging-none (l .inv) (c .before .before .before .loop-test .taken) (sym (c .before .get .ensures ∙ l .inv .given .shares .u .is (l .i) (c .before .before .before .loop-test .taken)) ∙ a .0 .left)))
     (c .if1 .came)
 
 daily-of-requires : tie.Need-daily-of-requires Inv-loop μ-loop
