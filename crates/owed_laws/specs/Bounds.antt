@@ -65,14 +65,11 @@ module _ {F : Facts} (L : Limits F) where
       share-most registrations (keyed (F .seller) (lack F ev) s) (shortfall F ev s) i 144000
       (le-trans (mul-le-mul-left (shortfall F ev s) (cond-le (eqb s s) (lack-le ev i))) (shortfall-lack ev s))
 
-  e-more : (ev i : ℕ) → e F ev i ≤ more F ev i
-  unfolding ofSeller
-  e-more ev i =
-      let s = F .seller i in
-      rw (eq-eqb s s refl) at (e-allotted F ev s .most (excess-le ev s) i)
-
   pub e-le : (ev i : ℕ) → e F ev i ≤ 100000
-  e-le ev i = le-trans (e-more ev i) (more-le ev i)
+  unfolding ofSeller
+  e-le ev i =
+      let s = F .seller i in
+      le-trans (rw (eq-eqb s s refl) at (e-allotted F ev s .most (excess-le ev s) i)) (more-le ev i)
 
   -- a registration's cap, and what is taken of it
   pub cap-le : (i : ℕ) → cap F i ≤ 14400000000
@@ -83,33 +80,23 @@ module _ {F : Facts} (L : Limits F) where
   unfolding daily
   daily-le ev x i = cond-le (F .listed ev i) (omega (arith, cap-le i))
 
-  pub daily-days : (k ev x i : ℕ) → daily F ev x i * D F k ≤ 5270400000000
-  daily-days k ev x i = mul-le-mul (daily-le ev x i) (D-le k)
-
   pub charge-le : (k ev i : ℕ) → charge F k ev i ≤ 5270400000
   unfolding charge
-  charge-le k ev i = cond-le (leb (due (F .product i) (F .month ev)) k) (omega (arith, daily-days k ev (taken F ev i) i))
+  charge-le k ev i = cond-le (leb (due (F .product i) (F .month ev)) k) (omega (arith, mul-le-mul (daily-le ev (taken F ev i) i) (D-le k)))
 
-  -- all charges of an event, and what is allotted of them
-  pub charged-le : (k ev : ℕ) → sumTo registrations (charge F k ev) ≤ 337305600000
-  charged-le k ev = sum-bound registrations 5270400000 (charge F k ev) (λ i l. charge-le k ev i)
-
+  -- all e of an event, and what is allotted of its charges
   pub e-sum : (ev : ℕ) → sumTo registrations (e F ev) ≤ 6400000
   e-sum ev = sum-bound registrations 100000 (e F ev) (λ i l. e-le ev i)
 
   pub charged-fits : (k ev : ℕ) → sumTo registrations (charge F k ev) * sumTo registrations (e F ev) < 2 ^ 63
-  charged-fits k ev = omega (arith, mul-le-mul (charged-le k ev) (e-sum ev))
+  charged-fits k ev = omega (arith, mul-le-mul (sum-bound registrations 5270400000 (charge F k ev) (λ i l. charge-le k ev i)) (e-sum ev))
 
-  -- a credit's limit
-  pub limit-le : (k ev i : ℕ) → creditLimit F k ev i ≤ 732000000
-  unfolding creditLimit
-  limit-le k ev i =
+  -- a credit, by its limit
+  pub credit-le : (k ev i : ℕ) → creditOf F k ev i ≤ 732000000
+  unfolding creditOf creditLimit
+  credit-le k ev i =
       let h : e F ev i * F .rate i / 5 ≤ 2000000000 = omega (arith, mul-le-mul (e-le ev i) (L .rate i)) in
       omega (arith, mul-le-mul h (D-le k))
-
-  pub credit-le : (k ev i : ℕ) → creditOf F k ev i ≤ 732000000
-  unfolding creditOf
-  credit-le k ev i = omega (arith, limit-le k ev i)
 
   -- a test's base, at most the highest rate, its rate, and its charge
   pub worth-le : (p : ℕ → Bool) (s : ℕ)

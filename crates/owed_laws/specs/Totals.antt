@@ -18,6 +18,9 @@ use Rattle.owed_laws.specs.Cap.{charges-cap}
 use Rattle.owed_laws.specs.Balance.{sellers-credits}
 use Rattle.owed_laws.specs.Bounds.{D-le, cap-le, test-scaled}
 
+pub obligations-le : {F : Facts} → Limits F → sumTo lses (F .obligation) ≤ 16000000
+obligations-le {F} L = sum-bound lses 1000000 (F .obligation) (λ j l. L .obligation j)
+
 module _ {F : Facts} (L : Limits F) (k : ℕ) where
   -- compliance along the first m events: a registration's, a seller's, all sellers'
   registration-most : (m i : ℕ) → sumTo m (λ ev. charge F k ev i) ≤ 5270400000
@@ -109,10 +112,7 @@ module _ {F : Facts} (L : Limits F) (k : ℕ) where
       }
 
   -- what is left for the LSEs, allotted
-  pub obligations-le : sumTo lses (F .obligation) ≤ 16000000
-  obligations-le = sum-bound lses 1000000 (F .obligation) (λ j l. L .obligation j)
-
   pub lse-fits : (charges F k - credits F k) * sumTo lses (F .obligation) < 2 ^ 64
   lse-fits =
       let h : charges F k - credits F k ≤ 742072320000 = omega (arith, charges-le) in
-      omega (arith, mul-le-mul h obligations-le)
+      omega (arith, mul-le-mul h (obligations-le L))

@@ -24,7 +24,7 @@ abbrev μ-loop : tie.MeasureT-loop
 μ-loop year work₀ net₀ a₀ j₀ work a j = 16 - j
 
 sum-requires : tie.Need-sum-requires Inv-loop μ-loop
-sum-requires c κs = let s = c .before .before .before in (omega arith, omega (arith, obligations (s .args .year .now), obligations-le (limits (s .pre .0 .sound)) 0))
+sum-requires c κs = let s = c .before .before .before in (omega arith, omega (arith, obligations (s .args .year .now), obligations-le (limits (s .pre .0 .sound))))
 
 loop-holds : tie.Need-loop-holds Inv-loop μ-loop
 loop-holds c =
