@@ -6,9 +6,10 @@ use Rattle.layouts.specs.Questions.{kindOf}
 use Rattle.year.specs.declared.Year.{Year}
 use Rattle.year.specs.Year.{newYear}
 use Rattle.file.specs.Walk.{recordsIn}
-use Rattle.history.specs.Runs.{Call, buffered, step}
+use Rattle.history.specs.Runs.{Call}
+use Rattle.history.specs.Taking.{numberOf, buffered, step, answers}
 use Rattle.history.specs.Claim.{Demand3}
-use Rattle.history.specs.Files.{callsOf, numberOf}
+use Rattle.history.specs.Files.{callsOf}
 use Rattle.history.specs.Proof.{demand3}
 use Rattle.report.specs.Text.{answerLines, room, statementRoom}
 use Rattle.answer.specs.declared.Course.{Course}
@@ -31,7 +32,7 @@ abbrev pub billText : List ℕ → List ℕ → List ℕ
 billText file buffer = textOf 1 newYear (calls file buffer)
 
 -- demand 3 of a file that is billed
-pub bill-demand3 : (file buffer : List ℕ) → Demand3 (calls file buffer)
+pub bill-demand3 : (file buffer : List ℕ) → Demand3 (answers newYear) (calls file buffer)
 bill-demand3 file buffer = demand3 (calls file buffer)
 
 -- what a step needs: a byte, a position that can be counted on, and room for a statement and for a report

@@ -13,8 +13,9 @@ use Rattle.book.specs.Outcome.{Posts}
 use Rattle.file.specs.Walk.{ends, recordsIn}
 use Rattle.file.specs.WalkLaws.{records-in}
 use Rattle.file.specs.Window.{Alike, cut-alike, same-kind, same-consumed}
-use Rattle.history.specs.Runs.{Call, buffered, step}
-use Rattle.history.specs.Files.{callsOf, numberOf}
+use Rattle.history.specs.Runs.{Call}
+use Rattle.history.specs.Taking.{numberOf, buffered, step}
+use Rattle.history.specs.Files.{callsOf}
 use Rattle.history.specs.FileLaws.{same-post, same-year, same-buffer, ends-post}
 use Rattle.report.specs.Text.{answerLines}
 use Rattle.text.specs.Pasted.{Pasted}

@@ -11,8 +11,10 @@ use Rattle.year.specs.declared.Year.{Year}
 use Rattle.book.specs.Outcome.{postNumber}
 use Rattle.file.specs.Walk.{ends, recordsTo}
 use Rattle.file.specs.WalkLaws.{records-none, records-first}
-use Rattle.history.specs.Runs.{Call, step, statements}
-use Rattle.history.specs.Files.{callsOf, numberOf, numbers, joined}
+use Rattle.recorded.specs.Recorded.{gather}
+use Rattle.history.specs.Runs.{Call, statements}
+use Rattle.history.specs.Taking.{numberOf, step, answered, answers}
+use Rattle.history.specs.Files.{callsOf, numbers, joined}
 use Rattle.history.specs.FileLaws.{ends-post, joined-first}
 use Rattle.billing.specs.Billed.{Bill, statement, behind, consumedBy, billed, Leaves}
 use Rattle.billing.proofs.Front.{Front, front-none, set-over, front-more, front-all}
@@ -61,12 +63,12 @@ module _ {whole : Bill} {numbers₀ statements₀ numbers statements : List ℕ}
 
 -- a bill by its first record, if there is one
 billed-first : (y : Year) (c : Call) (cs : List Call) → billed y (c ∷ cs) ≡ before (numberOf y c) (consumed (c .bytes)) (statement y c) (billed (step y c) cs)
-unfolding numbers consumedBy statement
+unfolding answered gather consumedBy statement
 billed-first y c cs = rw (joined-first y c cs)
 
 unless : (b : Bool) (y : Year) (records : List (List ℕ)) (buffer : List ℕ)
     → billed y (callsOf behind y (cond b [] records) buffer) ≡ cond b nothing (billed y (callsOf behind y records buffer))
-unfolding callsOf numbers consumedBy joined statements
+unfolding callsOf answered gather consumedBy joined
 unless true y records buffer = refl
 unless false y records buffer = refl
 
@@ -89,9 +91,9 @@ module _ (n : ℕ) (y : Year) (bytes buffer : List ℕ) where
 
   -- no record more
   pub from-zero : from 0 y bytes buffer ≡ nothing
-  unfolding recordsTo callsOf numbers consumedBy joined statements
+  unfolding recordsTo callsOf answered gather consumedBy joined
   from-zero = refl
 
   pub from-none : length bytes ≡ 0 → from n y bytes buffer ≡ nothing
-  unfolding callsOf numbers consumedBy joined statements
+  unfolding callsOf answered gather consumedBy joined
   from-none e = rw (records-none n bytes e)

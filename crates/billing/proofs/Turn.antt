@@ -15,7 +15,8 @@ use Rattle.year.specs.Year.{newYear}
 use Rattle.year.specs.Sound.{Sound}
 use Rattle.book.specs.Outcome.{postNumber, Posts}
 use Rattle.file.specs.Walk.{ends}
-use Rattle.history.specs.Runs.{Call, step}
+use Rattle.history.specs.Runs.{Call}
+use Rattle.history.specs.Taking.{step}
 use Rattle.billing.specs.Billed.{statement, calls, billed, Bills}
 use Rattle.billing.proofs.Closing.{written-is, buffer-over}
 use Rattle.billing.proofs.Along.{Along, nothing, from, along-none, along-more, along-all, from-zero, from-first, from-none}

@@ -9,7 +9,8 @@ use Rattle.records.specs.Calls.{over}
 use Rattle.year.specs.declared.Year.{Year}
 use Rattle.year.specs.Year.{newYear}
 use Rattle.file.specs.Walk.{recordsTo}
-use Rattle.history.specs.Runs.{Call, closes, buffered, statements}
+use Rattle.history.specs.Runs.{Call, statements}
+use Rattle.history.specs.Taking.{closes, buffered, answers}
 use Rattle.history.specs.Claim.{Demand3}
 use Rattle.history.specs.Files.{callsOf, numbers, statementIn, joined}
 use Rattle.history.specs.Proof.{demand3}
@@ -38,7 +39,7 @@ pub record Bill : Type 0 where
   pub statements : List ℕ
 
 abbrev pub billed : Year → List Call → Bill
-billed y cs = record { numbers = numbers y cs; used = consumedBy cs; statements = joined (statements y cs) }
+billed y cs = record { numbers = numbers (answers y cs); used = consumedBy cs; statements = joined (statements (answers y cs)) }
 
 -- what a bill leaves of two buffers: its numbers and its statements in front, and the rest as it was
 pub record Leaves (b : Bill) (numbers statements : List ℕ) (answered used written : ℕ) (numbersAfter statementsAfter : List ℕ) : Type 0 where
@@ -53,5 +54,5 @@ abbrev pub Bills : List ℕ → List ℕ → List ℕ → ℕ → ℕ → ℕ �
 Bills file numbers statements = Leaves (billed newYear (calls (length numbers) file statements)) numbers statements
 
 -- demand 3 of a file that is billed
-pub bill-demand3 : (file : List ℕ) (n : ℕ) (buffer : List ℕ) → Demand3 (calls n file buffer)
+pub bill-demand3 : (file : List ℕ) (n : ℕ) (buffer : List ℕ) → Demand3 (answers newYear) (calls n file buffer)
 bill-demand3 file n buffer = demand3 (calls n file buffer)

@@ -2,29 +2,33 @@
 use Prim.Native.Nat.{ℕ, _+_, _*_, _≤_, _<_}
 use mathlib.Core.Bool.{Bool, true, false, not, _&&_, _||_, cond, and-eq-true-iff}
 use mathlib.Core.List.{List}
-use mathlib.Core.Path.{_≡_, refl}
+use mathlib.Core.Path.{_≡_, refl, ap, subst, _∙_}
 use native.Mathlib.Omega.{arith}
 use lib.Dec.{eqb}
 use lib.ListN.{getD}
 use borrow.Author.Tests.{eqb-true}
 use Rattle.ids.specs.Tests.{all-at}
+use Rattle.layouts.specs.Questions.{firstFailed, numbersOf, row}
 use Rattle.year.specs.declared.Listing.{Listing}
 use Rattle.year.specs.declared.Terms.{Terms}
 use Rattle.year.specs.declared.Year.{Year}
-use Rattle.year.specs.Year.{pastTest, listed, known, zone, product, size}
+use Rattle.year.specs.Year.{pastTest, testPlace, listed, known, zone, product, size}
 use Rattle.year.specs.Sound.{SoundRegistration, SoundListing, SoundEvent, SoundTest, SoundTerms, Factors, Sound}
 use Rattle.year.specs.Limits.{size-is}
 use Rattle.year.specs.Kept.{sound-opening, sound-registration, sound-lse, sound-event, sound-test, sound-close}
 use Rattle.heads.specs.declared.Head.{Head}
 use Rattle.heads.specs.declared.Head.the-variants.{Opening, Registration, Lse, Event, Test, Close}
+use Rattle.heads.specs.Record.{Record, recordOf}
+use Rattle.heads.specs.RecordLaws.{record-row}
 use Rattle.heads.specs.Listed.{sound-listed}
 use Rattle.heads.specs.Within.{Within}
 use Rattle.owed_laws.specs.Limits.{limits}
 use Rattle.owed_laws.specs.Totals.{sound-amounts}
 use Rattle.entries.specs.Entries.{inGroup, everyListed}
-use Rattle.questions.specs.Questions.{testPlace, inTime}
+use Rattle.recorded.specs.After.{registrationOf, eventOf, testOf, yearBy, yearWith}
+use Rattle.questions.specs.Questions.{inTime, questions}
 use Rattle.questions.specs.Admitted.{Admitted, admitted, registration-fresh, event-held, test-group, test-free, not-finished, next-month}
-use Rattle.book.specs.Outcome.{recordIn, postNumber, registrationOf, eventOf, testOf, yearBy, yearAfter}
+use Rattle.book.specs.Outcome.{recordIn, postNumber, yearAfter}
 use Rattle.book.specs.Numbers.{all-passed}
 use Rattle.book.specs.Made.{within, permits}
 
@@ -73,10 +77,12 @@ module _ {y : Year} (s : Sound y) where
   unfolding yearAfter
   sound-after bytes room = go (eqb (postNumber y bytes room) 0) refl
     where
-      go : (b : Bool) → eqb (postNumber y bytes room) 0 ≡ b → Sound (cond b (yearBy y (recordIn bytes .listing) (recordIn bytes .head)) y)
+      go : (b : Bool) → eqb (postNumber y bytes room) 0 ≡ b → Sound (cond b (yearWith y (recordIn bytes)) y)
       go true e =
           let all = all-passed y bytes room (eqb-true (postNumber y bytes room) 0 e) in
-          let r = recordIn bytes in
-          sound-by (r .listing) (r .head)
-          (suits (sound-listed (permits bytes (all .0))) (r .head) (within bytes (all .0)) (admitted inTime y r room (all .1)))
+          let r = recordOf (row (numbersOf bytes)) in
+          let named : r ≡ recordIn bytes = record-row (numbersOf bytes) in
+          subst (λ (q : Record). Sound (yearWith y q)) named
+          (sound-by (r .listing) (r .head)
+          (suits (sound-listed (permits bytes (all .0))) (r .head) (within bytes (all .0)) (admitted inTime y r room (ap (λ (q : Record). firstFailed (questions inTime y q room)) named ∙ all .1))))
       go false e = s

@@ -1,4 +1,4 @@
--- What questions 1 to 5 say of the record that bytes hold: its head within the limits, and its lists.
+-- What questions 1 to 5 say of the record that bytes hold, from its numbers in a row, as the code has them: its head within the limits, and its lists.
 use Prim.Native.Nat.{ℕ}
 use mathlib.Core.Bool.{Bool, true, false, cond}
 use mathlib.Core.List.{List}
@@ -17,7 +17,6 @@ use Rattle.heads.specs.declared.Head.{Head}
 use Rattle.heads.specs.Record.{headOf}
 use Rattle.heads.specs.Listed.{Permitted}
 use Rattle.heads.specs.Within.{Within}
-use Rattle.book.specs.Outcome.{valuesOf}
 
 either : (P : Head → Type 0) (b : Bool) {x z : Head} → (b ≡ true → P x) → (b ≡ false → P z) → P (cond b x z)
 either P true h g = h refl
@@ -25,18 +24,16 @@ either P false h g = g refl
 
 module _ (bytes : List ℕ) (a : Accepted bytes) where
   abbrev vs : List ℕ
-  vs = valuesOf bytes
+  vs = row (numbersOf bytes)
 
   pub values-long : length vs ≡ most
-  unfolding valuesOf
   values-long = length-row (numbersOf bytes) (numbers-few bytes a)
 
   kind-is : (k : ℕ) → at vs 0 ≡ k → kindOf bytes ≡ k
-  unfolding valuesOf
   kind-is k e = sym (kind-number bytes a) ∙ e
 
   pub within : Within (headOf vs)
-  unfolding valuesOf headOf Within
+  unfolding headOf Within
   within =
       let k = at vs 0 in
       either Within (eqb k 1) (λ e. let o = records.opening bytes a (kind-is 1 (eqb-true k 1 e)) in record { leap = o .leap; factor = o .factor .1; requirement = o .requirement .1 })
@@ -50,7 +47,7 @@ module _ (bytes : List ℕ) (a : Accepted bytes) where
       (λ _. omega arith))))))
 
   pub permits : Permitted vs
-  unfolding valuesOf rulesBy
+  unfolding rulesBy
   permits =
       let ns = numbersOf bytes in
       let same : rulesBy (row ns) ≡ rulesOf bytes = rw (at-row ns 0) (rules-same (at ns 0) (row ns) ns (λ j l. at-row ns j)) ∙ rules-by bytes (a .kind) in

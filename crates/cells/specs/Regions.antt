@@ -13,7 +13,7 @@ use Rattle.year.specs.declared.Event.{Event}
 use Rattle.year.specs.declared.Test.{Test}
 use Rattle.year.specs.Year.{newYear, noRegistration, noEvent, noTest, pastEvent, listed, zone, product}
 use Rattle.cells.specs.Rows.{Same, same-in, from, View, rows, numbers-kept, same-row, rows-kept, row-at, table-of}
-use Rattle.cells.specs.Layout.{flag, registrationAt, listingAt, eventAt, registrationsIn, obligationsIn, termsIn, eventsIn, placeIn, entryAt, testAt, testsIn, billedIn, yearIn}
+use Rattle.cells.specs.Layout.{flag, registrationAt, listingAt, eventAt, registrationsHeld, obligationsHeld, termsHeld, eventsHeld, placeIn, entryAt, testAt, testsHeld, billedHeld, yearIn}
 
 pub registration-view : View 7 registrationAt
 registration-view g h e =
@@ -46,41 +46,41 @@ test-same k p q g h x y row entries =
 
 -- an element of a table
 module _ (c : List ℕ) where
-  pub registration-in : {i : ℕ} (d : Registration) → i < 64 → getD (registrationsIn c) i d ≡ registrationAt (from (7 + 7 * i) c)
-  unfolding registrationsIn
+  pub registration-in : {i : ℕ} (d : Registration) → i < 64 → getD (registrationsHeld c) i d ≡ registrationAt (from (7 + 7 * i) c)
+  unfolding registrationsHeld
   registration-in {i} d l = row-at registration-view 64 7 i c d l
 
-  pub obligation-in : {j : ℕ} → j < 16 → at (obligationsIn c) j ≡ at c (455 + j)
-  unfolding obligationsIn
+  pub obligation-in : {j : ℕ} → j < 16 → at (obligationsHeld c) j ≡ at c (455 + j)
+  unfolding obligationsHeld
   obligation-in {j} l = getD-tabulate (from 455 c) 16 j 0 l
 
-  pub event-in : {e : ℕ} (d : Event) → e < 16 → getD (eventsIn c) e d ≡ eventAt (from (471 + 147 * e) c)
-  unfolding eventsIn
+  pub event-in : {e : ℕ} (d : Event) → e < 16 → getD (eventsHeld c) e d ≡ eventAt (from (471 + 147 * e) c)
+  unfolding eventsHeld
   event-in {e} d l = row-at event-view 16 471 e c d l
 
-  pub listed-in : {e i : ℕ} → e < 16 → i < 64 → listed (getD (eventsIn c) e pastEvent .listing) i ≡ flag (at c (471 + 147 * e + (3 + i)))
+  pub listed-in : {e i : ℕ} → e < 16 → i < 64 → listed (getD (eventsHeld c) e pastEvent .listing) i ≡ flag (at c (471 + 147 * e + (3 + i)))
   unfolding listed
   listed-in {e} {i} l m = rw (event-in pastEvent l) (getD-tabulate (λ k. flag (at c (471 + 147 * e + (3 + k)))) 64 i false m)
 
-  pub test-in : {k : ℕ} (d : Test) → k < 24 → getD (testsIn c) k d ≡ testAt (placeIn c) (from 3255 c) k (from (2823 + 18 * k) c)
-  unfolding testsIn
+  pub test-in : {k : ℕ} (d : Test) → k < 24 → getD (testsHeld c) k d ≡ testAt (placeIn c) (from 3255 c) k (from (2823 + 18 * k) c)
+  unfolding testsHeld
   test-in {k} d l = getD-tabulate (λ k. testAt (placeIn c) (from 3255 c) k (from (2823 + 18 * k) c)) 24 k d l
 
 -- what stays
-pub places-kept : (c d : List ℕ) → registrationsIn d ≡ registrationsIn c → (i : ℕ) → placeIn d i ≡ placeIn c i
+pub places-kept : (c d : List ℕ) → registrationsHeld d ≡ registrationsHeld c → (i : ℕ) → placeIn d i ≡ placeIn c i
 unfolding placeIn zone product
 places-kept c d e i = rw e
 
 module _ {c d : List ℕ} where
-  pub registrations-kept : Same 7 448 c d → registrationsIn d ≡ registrationsIn c
-  unfolding registrationsIn
+  pub registrations-kept : Same 7 448 c d → registrationsHeld d ≡ registrationsHeld c
+  unfolding registrationsHeld
   registrations-kept s = rows-kept registration-view 64 7 s
 
-  pub obligations-kept : Same 455 16 c d → obligationsIn d ≡ obligationsIn c
-  unfolding obligationsIn
+  pub obligations-kept : Same 455 16 c d → obligationsHeld d ≡ obligationsHeld c
+  unfolding obligationsHeld
   obligations-kept s = numbers-kept 16 455 s
 
-  pub terms-kept : Same 4 467 c d → termsIn d ≡ termsIn c
+  pub terms-kept : Same 4 467 c d → termsHeld d ≡ termsHeld c
   terms-kept s =
       cc (
         s .cell 0 (lit< tt),
@@ -90,12 +90,12 @@ module _ {c d : List ℕ} where
         obligations-kept (same-in 455 16 (lit≤ tt) (lit≤ tt) s),
       )
 
-  pub events-kept : Same 471 2352 c d → eventsIn d ≡ eventsIn c
-  unfolding eventsIn
+  pub events-kept : Same 471 2352 c d → eventsHeld d ≡ eventsHeld c
+  unfolding eventsHeld
   events-kept s = rows-kept event-view 16 471 s
 
-  pub tests-kept : registrationsIn d ≡ registrationsIn c → Same 2823 560 c d → testsIn d ≡ testsIn c
-  unfolding testsIn
+  pub tests-kept : registrationsHeld d ≡ registrationsHeld c → Same 2823 560 c d → testsHeld d ≡ testsHeld c
+  unfolding testsHeld
   tests-kept e s =
       tabulate-same 24
       (λ k l. test-same k (placeIn d) (placeIn c) (from 3255 d) (from 3255 c) (from (2823 + 18 * k) d) (from (2823 + 18 * k) c)
@@ -103,8 +103,8 @@ module _ {c d : List ℕ} where
       (λ i m. let kept = same-in 3255 128 (lit≤ tt) (lit≤ tt) s in
       rw (places-kept c d e i, kept .cell i (omega arith), kept .cell (64 + i) (omega arith)) (refl, refl)))
 
-  pub billed-kept : Same 3383 64 c d → billedIn d ≡ billedIn c
-  unfolding billedIn
+  pub billed-kept : Same 3383 64 c d → billedHeld d ≡ billedHeld c
+  unfolding billedHeld
   billed-kept s =
       cc (
         numbers-kept 16 3383 (same-in 3383 16 (lit≤ tt) (lit≤ tt) s),
@@ -115,7 +115,7 @@ module _ {c d : List ℕ} where
 
 -- where all cells are 0 there is a new year
 pub new-year : (c : List ℕ) → ((k : ℕ) → at c k ≡ 0) → yearIn c ≡ newYear
-unfolding registrationsIn obligationsIn eventsIn testsIn billedIn
+unfolding registrationsHeld obligationsHeld eventsHeld testsHeld billedHeld
 new-year c z =
     cc (
       z 0,

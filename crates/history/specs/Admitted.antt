@@ -10,11 +10,12 @@ use Rattle.questions.specs.Questions.{inTime, questions}
 use Rattle.questions.specs.Admitted.{Admitted, admitted}
 use Rattle.book.specs.Outcome.{recordIn, postNumber}
 use Rattle.book.specs.Numbers.{all-passed}
-use Rattle.history.specs.Runs.{Call, accepts}
+use Rattle.history.specs.Runs.{Call, isAccepted}
+use Rattle.history.specs.Taking.{accepts}
 
 module _ (y : Year) (c : Call) (e : accepts y c ≡ true) where
   none-failed : Accepted (c .bytes) × (firstFailed (questions inTime y (recordIn (c .bytes)) (length (c .buffer))) ≡ 0)
-  unfolding accepts
+  unfolding isAccepted
   none-failed = all-passed y (c .bytes) (length (c .buffer)) (eqb-true (postNumber y (c .bytes) (length (c .buffer))) 0 e)
 
   pub accepted-record : Accepted (c .bytes)

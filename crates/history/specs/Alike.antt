@@ -12,34 +12,22 @@ use Rattle.layouts.specs.Layout.{lists, listAt, itemsIn, itemAt, itemIn}
 use Rattle.layouts.specs.QuestionLaws.{head-kind}
 use Rattle.year.specs.declared.Listing.{Listing}
 use Rattle.year.specs.declared.Terms.{Terms}
-use Rattle.year.specs.Year.{seller, listed, reduction, deficit}
+use Rattle.year.specs.Year.{seller, reduction}
 use Rattle.heads.specs.Record.{Record, withItem, recordOf}
 use Rattle.heads.specs.RecordLaws.{same-head, listing-keeps}
 use Rattle.heads.specs.Listed.{Permitted, item-as}
 use Rattle.history.specs.Runs.{replaced}
-use Rattle.history.specs.Same.{SameListing}
+use Rattle.history.specs.Same.{SameListing, listing-refl}
 use Rattle.history.specs.Replaced.{kept-head, kept-field, kept-other, kept-id}
 
 pub record Alike (T : Terms) (s : ℕ) (r q : Record) : Type 0 where
   pub heads : r .head ≡ q .head
-  pub listed : r .listing .listed ≡ q .listing .listed
-  pub deficits : r .listing .deficits ≡ q .listing .deficits
-  pub reductions : (i : ℕ) → (seller T i ≡ s → ⊥) → reduction (r .listing) i ≡ reduction (q .listing) i
+  pub listings : SameListing T s (r .listing) (q .listing)
 
 pub alike-refl : (T : Terms) (s : ℕ) (r : Record) → Alike T s r r
-alike-refl T s r = record { heads = refl; listed = refl; deficits = refl; reductions = λ i n. refl }
+alike-refl T s r = record { heads = refl; listings = listing-refl T s (r .listing) }
 
--- another seller's view of the listing
-pub alike-listing : {T : Terms} {s t : ℕ} {r q : Record} → (t ≡ s → ⊥) → Alike T s r q → SameListing T t (r .listing) (q .listing)
-unfolding listed deficit
-alike-listing n a =
-    record {
-      listed = λ i. rw (a .listed);
-      deficit = λ j. rw (a .deficits);
-      reduction = λ i e. a .reductions i (λ q. n (sym e ∙ q));
-    }
-
--- listings that are alike
+-- listings that are alike, as a step of reading one keeps them
 record AlikeListing (T : Terms) (s : ℕ) (l n : Listing) : Type 0 where
   listed : l .listed ≡ n .listed
   deficits : l .deficits ≡ n .deficits
@@ -77,4 +65,4 @@ module _ (T : Terms) (s : ℕ) (f : ℕ → ℕ) {vs : List ℕ} (p : Permitted 
   alike-replaced =
       let first = kept-head T s f vs 0 (head-kind k (p .kind) .0) in
       let a = listing-keeps (AlikeListing T s) vs new first (kept-head T s f vs) alike-item (record { listed = refl; deficits = refl; long = refl; reductions = λ i o. refl }) in
-      record { heads = sym (same-head vs new first (kept-head T s f vs)); listed = a .listed; deficits = a .deficits; reductions = a .reductions }
+      record { heads = sym (same-head vs new first (kept-head T s f vs)); listings = record { listed = a .listed; deficits = a .deficits; reductions = a .reductions } }

@@ -7,6 +7,7 @@ use native.Mathlib.Omega.{arith}
 use lib.ListN.{length, drop}
 use lib.IntN.{pos}
 use Rattle.ids.specs.Tests.{and-parts}
+use Rattle.year.specs.declared.Listing.{Listing}
 use Rattle.year.specs.declared.Year.{Year}
 use Rattle.year.specs.Steps.{withClose}
 use Rattle.year.specs.Sound.{Sound}
@@ -18,25 +19,34 @@ use Rattle.statement.specs.Statement.{statementOf}
 use Rattle.statement.specs.Starts.{less, starts}
 use Rattle.heads.specs.declared.CloseHead.{CloseHead}
 use Rattle.heads.specs.declared.Head.{Head}
-use Rattle.heads.specs.declared.Head.the-variants.{Opening, Registration, Lse, Event, Test, Close}
+use Rattle.heads.specs.declared.Head.the-variants.{Close}
 use Rattle.heads.specs.Record.{Record, isClose, monthOf}
 use Rattle.questions.specs.Admitted.{not-finished, next-month}
-use Rattle.book.specs.Outcome.{recordIn, yearBy, bufferWith, bufferAfter, writtenWith, writtenAfter}
-use Rattle.history.specs.Runs.{Call, accepts, closes, buffered, step}
+use Rattle.recorded.specs.After.{yearBy, yearWith}
+use Rattle.book.specs.Outcome.{recordIn, bufferWith, bufferAfter, writtenWith, writtenAfter}
+use Rattle.history.specs.Runs.{Call, isAccepted, isClosing}
+use Rattle.history.specs.Taking.{accepts, closes, buffered, step}
 use Rattle.history.specs.Along.{step-by}
 use Rattle.history.specs.Admitted.{accepted-admitted}
 use Rattle.history.specs.Columns.{Column, party, column, lineIn}
 use Rattle.history.specs.ReadColumns.{reads}
 use Rattle.history.specs.Kept.{never}
+use Rattle.history.specs.Does.{Does, terms, event, test, close, does}
 
 -- a close is what passes for one
-is-close : (h : Head) → isClose h ≡ true → (c : CloseHead) × (h ≡ Close c)
-is-close (Opening o) e = never refl e
-is-close (Registration r) e = never refl e
-is-close (Lse j) e = never refl e
-is-close (Event v) e = never refl e
-is-close (Test t) e = never refl e
-is-close (Close c) e = (c, refl)
+is-close : {h : Head} → Does h → isClose h ≡ true → (c : CloseHead) × (h ≡ Close c)
+is-close (terms x) e = never (x .other) e
+is-close (event v q) e = never refl (rw q at e)
+is-close (test t q) e = never refl (rw q at e)
+is-close (close c q) e = (c, q)
+
+-- anything else leaves what is billed and the count of closes
+other-by : {h : Head} → Does h → isClose h ≡ false → (y : Year) (l : Listing) → (yearBy y l h .billed ≡ y .billed) × (yearBy y l h .closed ≡ y .closed)
+unfolding yearBy
+other-by (terms x) e y l = rw (x .is y l) (refl, refl)
+other-by (event v q) e y l = rw q (refl, refl)
+other-by (test t q) e y l = rw q (refl, refl)
+other-by (close c q) e y l = never (rw q at e) refl
 
 module _ (y : Year) (c : Call) where
   abbrev record-of : Record
@@ -46,10 +56,10 @@ module _ (y : Year) (c : Call) where
   month = monthOf (record-of .head)
 
   close-parts : closes y c ≡ true → (accepts y c ≡ true) × ((k : CloseHead) × (record-of .head ≡ Close k))
-  unfolding closes
+  unfolding isClosing
   close-parts e =
       let p = and-parts (accepts y c) (isClose (record-of .head)) e in
-      (p .0, is-close (record-of .head) (p .1))
+      (p .0, is-close (does (record-of .head)) (p .1))
 
   pub close-step : closes y c ≡ true → step y c ≡ withClose y (amounts (factsOf y) month)
   unfolding yearBy
@@ -67,13 +77,13 @@ module _ (y : Year) (c : Call) where
       → buffered y c
       ≡ statementOf (y .terms) month (amounts (factsOf y) month) (y .billed)
       ++ drop (length (statementOf (y .terms) month (amounts (factsOf y) month) (y .billed))) (c .buffer)
-  unfolding buffered bufferAfter bufferWith accepts
+  unfolding buffered bufferAfter bufferWith isAccepted
   close-buffer e =
       let p = close-parts e in
       rw (p .0, p .1 .1)
 
   pub close-written : closes y c ≡ true → writtenAfter y (c .bytes) (length (c .buffer)) ≡ length (statementOf (y .terms) month (amounts (factsOf y) month) (y .billed))
-  unfolding writtenAfter writtenWith accepts
+  unfolding writtenAfter writtenWith isAccepted
   close-written e =
       let p = close-parts e in
       rw (p .0, p .1 .1)
@@ -87,30 +97,20 @@ module _ (y : Year) (c : Call) where
       (reads (starts (amounts (factsOf y) month) (y .billed) _ (S .terms) (close-month e)) (S .terms) (sound-amounts (limits S) month) (S .billed) col i)
 
   pub other-same : closes y c ≡ false → (step y c .billed ≡ y .billed) × (step y c .closed ≡ y .closed)
-  unfolding closes yearBy
-  other-same e = rw (step-by y c) (go (accepts y c) (record-of .head) e)
+  unfolding isClosing
+  other-same e = rw (step-by y c) (go (accepts y c) e)
     where
-      go : (a : Bool) (h : Head) → (a && isClose h) ≡ false
-          → let z = cond a (yearBy y (record-of .listing) h) y in (z .billed ≡ y .billed) × (z .closed ≡ y .closed)
-      go false h e = (refl, refl)
-      go true (Opening o) e = (refl, refl)
-      go true (Registration r) e = (refl, refl)
-      go true (Lse j) e = (refl, refl)
-      go true (Event v) e = (refl, refl)
-      go true (Test t) e = (refl, refl)
-      go true (Close k) e = never e refl
+      go : (a : Bool) → (a && isClose (record-of .head)) ≡ false
+          → let z = cond a (yearWith y record-of) y in (z .billed ≡ y .billed) × (z .closed ≡ y .closed)
+      go false e = (refl, refl)
+      go true e = other-by (does (record-of .head)) e y (record-of .listing)
 
   -- any other call leaves the buffer, and writes no statement
   pub other-leaves : closes y c ≡ false → (bufferAfter y (c .bytes) (c .buffer) ≡ c .buffer) × (writtenAfter y (c .bytes) (length (c .buffer)) ≡ 0)
-  unfolding closes accepts bufferAfter bufferWith writtenAfter writtenWith
-  other-leaves e = go (accepts y c) (record-of .head) e
+  unfolding isClosing isAccepted bufferAfter bufferWith writtenAfter writtenWith
+  other-leaves e = go (accepts y c) e
     where
-      go : (a : Bool) (h : Head) → (a && isClose h) ≡ false
-          → let r : Record = record { head = h; listing = record-of .listing } in (cond a (bufferWith y r (c .buffer)) (c .buffer) ≡ c .buffer) × (cond a (writtenWith y r) 0 ≡ 0)
-      go false h e = (refl, refl)
-      go true (Opening o) e = (refl, refl)
-      go true (Registration r) e = (refl, refl)
-      go true (Lse j) e = (refl, refl)
-      go true (Event v) e = (refl, refl)
-      go true (Test t) e = (refl, refl)
-      go true (Close k) e = never e refl
+      go : (a : Bool) → (a && isClose (record-of .head)) ≡ false
+          → (cond a (bufferWith y record-of (c .buffer)) (c .buffer) ≡ c .buffer) × (cond a (writtenWith y record-of) 0 ≡ 0)
+      go false e = (refl, refl)
+      go true e = rw e (refl, refl)

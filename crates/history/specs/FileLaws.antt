@@ -23,18 +23,20 @@ use Rattle.statement.specs.ReadBack.{sellersIn, lsesIn}
 use Rattle.statement.specs.Starts.{starts}
 use Rattle.heads.specs.Record.{Record, monthOf}
 use Rattle.questions.specs.Questions.{inTime, questions}
-use Rattle.book.specs.Outcome.{valuesOf, recordIn, postNumber, yearWith, yearAfter, bufferAfter}
+use Rattle.recorded.specs.After.{yearWith}
+use Rattle.recorded.specs.Recorded.{gather, alone}
+use Rattle.book.specs.Outcome.{recordIn, postNumber, yearAfter, bufferAfter}
 use Rattle.book.specs.Numbers.{record-refused, record-accepted}
 use Rattle.file.specs.Walk.{ends}
 use Rattle.file.specs.Window.{Alike, same-number, same-numbers}
-use Rattle.history.specs.Runs.{Call, closes, buffered, step, statements}
+use Rattle.history.specs.Runs.{Call, statements}
+use Rattle.history.specs.Taking.{closes, buffered, step, answered, answers}
 use Rattle.history.specs.Closes.{close-month, close-buffer}
 use Rattle.history.specs.Files.{statementIn, joined}
 
 -- a window answers as the whole rest of a file does
 module _ {xs ys : List ℕ} (e : Alike xs ys) where
   same-record : recordIn xs ≡ recordIn ys
-  unfolding valuesOf
   same-record = rw (same-numbers e)
 
   module _ (y : Year) where
@@ -94,10 +96,10 @@ close-statement y c S e =
 
 -- the statements of a list by its first call
 pub joined-first : (y : Year) (c : Call) (cs : List Call)
-    → joined (statements y (c ∷ cs)) ≡ cond (closes y c) (statementIn (buffered y c)) [] ++ joined (statements (step y c) cs)
-unfolding joined statements
+    → joined (statements (answers y (c ∷ cs))) ≡ cond (closes y c) (statementIn (buffered y c)) [] ++ joined (statements (answers (step y c) cs))
+unfolding joined answered gather
 joined-first y c cs = go (closes y c)
   where
-    go : (b : Bool) → joined (cond b (buffered y c ∷ statements (step y c) cs) (statements (step y c) cs)) ≡ cond b (statementIn (buffered y c)) [] ++ joined (statements (step y c) cs)
+    go : (b : Bool) → joined (alone b (buffered y c) ++ statements (answers (step y c) cs)) ≡ cond b (statementIn (buffered y c)) [] ++ joined (statements (answers (step y c) cs))
     go true = refl
     go false = refl

@@ -1,12 +1,13 @@
 -- A record file as a list of calls, one for each of its records, and the numbers and statements of such a list. Demand 3 holds of it as of every list.
 use Prim.Native.Nat.{ℕ}
 use mathlib.Core.List.{List, [], _∷_, _++_}
-use lib.ListN.{length, take}
+use lib.ListN.{take}
 use Rattle.bits.specs.Pack.{bytesFor}
 use Rattle.year.specs.declared.Year.{Year}
 use Rattle.statement.specs.ReadBack.{lsesIn, lseLine}
-use Rattle.book.specs.Outcome.{postNumber}
-use Rattle.history.specs.Runs.{Call, step}
+use Rattle.recorded.specs.Recorded.{gather}
+use Rattle.history.specs.Runs.{Call, Answered}
+use Rattle.history.specs.Taking.{step}
 
 -- each record's bytes, from its start on, with the buffer that it is lent; the one behind it is lent what `next` says
 unfoldable pub callsOf : (Year → Call → List ℕ) → Year → List (List ℕ) → List ℕ → List Call
@@ -15,13 +16,9 @@ callsOf next y (bytes ∷ records) buffer =
     let c : Call = record { bytes = bytes; buffer = buffer } in
     c ∷ callsOf next (step y c) records (next y c)
 
--- a call's number, and the numbers of a list's calls
-abbrev pub numberOf : Year → Call → ℕ
-numberOf y c = postNumber y (c .bytes) (length (c .buffer))
-
-unfoldable pub numbers : Year → List Call → List ℕ
-numbers y [] = []
-numbers y (c ∷ cs) = numberOf y c ∷ numbers (step y c) cs
+-- the numbers of a list's calls
+abbrev pub numbers : List Answered → List ℕ
+numbers = gather (λ x. x .number ∷ [])
 
 -- of a buffer: the bytes of the statement in its front, up to the end of its last line by the counts in it
 unfoldable pub statementIn : List ℕ → List ℕ

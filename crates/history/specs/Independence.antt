@@ -1,8 +1,9 @@
--- Replacing one seller's reductions changes neither which records are accepted nor another seller's charge lines.
+-- Replacing one seller's reductions changes neither which records are accepted nor another seller's charge lines: two runs whose years are the same for all sellers but that one.
 use Prim.Native.Nat.{ℕ}
 use mathlib.Core.Bool.{Bool, true, false, cond}
-use mathlib.Core.List.{List, _∷_}
+use mathlib.Core.List.{List, [], _∷_}
 use mathlib.Core.Path.{_≡_, refl, ap, sym, _∙_}
+use native.Mathlib.Omega.{arith}
 use lib.Dec.{eqb}
 use lib.ListN.{length}
 use borrow.Author.Tests.{eqb-true, eqb-false}
@@ -10,47 +11,55 @@ use Rattle.ids.specs.Ids.{at}
 use Rattle.layouts.specs.Questions.{firstFailed, recordNumber}
 use Rattle.year.specs.declared.Listing.{Listing}
 use Rattle.year.specs.declared.Year.{Year}
+use Rattle.year.specs.Year.{newYear}
 use Rattle.owed.specs.Facts.{factsOf}
 use Rattle.owed.specs.Owed.{amounts}
-use Rattle.statement.specs.ReadBack.{complianceIn, testIn}
 use Rattle.heads.specs.declared.Head.{Head}
-use Rattle.heads.specs.declared.Head.the-variants.{Opening, Registration, Lse, Event, Test, Close}
-use Rattle.heads.specs.Record.{monthOf}
+use Rattle.heads.specs.Record.{Record, monthOf}
+use Rattle.recorded.specs.After.{yearBy, yearWith}
+use Rattle.recorded.specs.Recorded.{gather, alone, termsIn, recorded}
+use Rattle.recorded.specs.Booked.{booked, booked-new}
 use Rattle.questions.specs.Questions.{inTime, questions}
-use Rattle.questions.specs.Admitted.{Admitted, registration-fresh, event-held}
-use Rattle.book.specs.Outcome.{recordIn, postNumber, yearBy, yearWith}
+use Rattle.questions.specs.Admitted.{Admitted, event-held}
+use Rattle.questions.specs.Blind.{records-blind}
+use Rattle.book.specs.Outcome.{recordIn, postNumber}
 use Rattle.book.specs.Numbers.{record-refused, record-accepted}
-use Rattle.history.specs.Runs.{Call, accepts, closes, buffered, step, acceptances, Variant, done, refused, accepted}
-use Rattle.history.specs.Claim.{chargeLines}
-use Rattle.history.specs.Along.{step-by}
+use Rattle.history.specs.Runs.{Call, Answered, isAccepted, isClosing, acceptances, Variant, done, next}
+use Rattle.history.specs.Taking.{buffered, shown, step, answered, answers, accepts, closes}
+use Rattle.history.specs.Claim.{chargeLine, chargeLines}
+use Rattle.history.specs.Along.{step-by, step-booked}
 use Rattle.history.specs.Admitted.{accepted-admitted}
-use Rattle.history.specs.Moves.{unopened, unobliged}
+use Rattle.history.specs.Does.{Does, terms, event, test, close, does}
 use Rattle.history.specs.Columns.{Column, pays, tests, column, lineIn}
-use Rattle.history.specs.Kept.{Kept, kept-step}
+use Rattle.history.specs.Kept.{Kept, kept-new, kept-step}
 use Rattle.history.specs.Closes.{close-line}
-use Rattle.history.specs.Alike.{alike-listing}
-use Rattle.history.specs.Same.{SameListing, Same, same-terms, same-event, same-test, same-close}
-use Rattle.history.specs.Blind.{records-blind, years-blind}
-use Rattle.history.specs.Paired.{Paired, paired-refused, paired-accepted}
+use Rattle.history.specs.Same.{SameListing, Same, same-new, same-terms, same-event, same-test, same-close}
+use Rattle.history.specs.Blind.{years-blind}
+use Rattle.history.specs.Paired.{Paired, paired}
+use Rattle.history.specs.TwoRuns.{Abreast, none, both, two-runs}
 
-module _ {s r : ℕ} (other : r ≡ s → ⊥) {y z : Year} (h : Same r y z) (ky : Kept y) (kz : Kept z) where
-  -- records that are alike
-  module _ {l m : Listing} where
-    same-record : {room : ℕ} (k : Head) → Admitted inTime y (record { head = k; listing = l }) room → SameListing (y .terms) r l m → Same r (yearBy y l k) (yearBy z m k)
-    unfolding yearBy
-    same-record (Opening o) a q = rw (← (h .terms)) (same-terms h (ky .sound) (kz .sound) (unopened (ky .begun) a) _ _)
-    same-record (Registration p) a q = rw (← (h .terms), ← (h .opened)) (same-terms h (ky .sound) (kz .sound) (registration-fresh a) _ _)
-    same-record (Lse j) a q = rw (← (h .terms), ← (h .opened)) (same-terms h (ky .sound) (kz .sound) (unobliged a) _ _)
-    same-record (Event e) a q = same-event h (ky .sound) (kz .sound) (event-held a) (record { month = refl; period = refl; listing = q })
-    same-record (Test t) a q = same-test h (ky .sound) (kz .sound) _ (record { taken = refl; listing = q })
-    same-record (Close c) a q = same-close h (c .month)
+-- the relation: two years that are the same for all sellers but s, along two runs
+record Related (s : ℕ) (y z : Year) : Type 0 where
+  same : Same s y z
+  left : Kept y
+  right : Kept z
 
-  -- a call and its variant: accepted alike, the years after them the same, and the same lines
+module _ {s : ℕ} {y z : Year} (h : Related s y z) where
+  -- accepted records that are alike
+  same-record : {l m : Listing} {room : ℕ} {k : Head} → Does k → Admitted inTime y (record { head = k; listing = l }) room → SameListing (y .terms) s l m → Same s (yearBy y l k) (yearBy z m k)
+  unfolding yearBy
+  same-record {l} {m} (terms x) = λ a q.
+      rw (x .is y l, x .is z m, ← (h .same .terms), ← (h .same .opened)) (same-terms (h .same) (h .left .sound) (h .right .sound) (x .fresh (h .left .begun) a) _ _)
+  same-record (event e n) = rw n (λ a q. same-event (h .same) (h .left .sound) (h .right .sound) (event-held a) (record { month = refl; period = refl; listing = q }))
+  same-record (test t n) = rw n (λ a q. same-test (h .same) (h .left .sound) (h .right .sound) _ (record { taken = refl; listing = q }))
+  same-record (close c n) = rw n (λ a q. same-close (h .same) (c .month))
+
+  -- a call and its variant: accepted alike, the years after them related, and the same lines
   module _ {c d : Call} (p : Paired s y c d) where
     same-questions : questions inTime y (recordIn (c .bytes)) (length (c .buffer)) ≡ questions inTime z (recordIn (d .bytes)) (length (d .buffer))
     same-questions =
-        records-blind inTime (length (c .buffer)) y (recordIn (c .bytes)) (recordIn (d .bytes)) (p .alike .heads) (p .alike .listed) (p .alike .deficits)
-        ∙ rw (p .room) (years-blind inTime (length (d .buffer)) h (recordIn (d .bytes)))
+        records-blind inTime (length (c .buffer)) y (recordIn (c .bytes)) (recordIn (d .bytes)) (p .alike .heads) (p .alike .listings .listed) (p .alike .listings .deficits)
+        ∙ rw (p .room) (years-blind inTime (length (d .buffer)) (h .same) (recordIn (d .bytes)))
 
     same-number : postNumber z (d .bytes) (length (d .buffer)) ≡ postNumber y (c .bytes) (length (c .buffer))
     same-number = go (eqb (recordNumber (c .bytes)) 0) refl
@@ -64,52 +73,70 @@ module _ {s r : ℕ} (other : r ≡ s → ⊥) {y z : Year} (h : Same r y z) (ky
             let n : recordNumber (c .bytes) ≡ 0 → ⊥ = eqb-false (recordNumber (c .bytes)) 0 q in
             record-refused z (d .bytes) (length (d .buffer)) (λ e. n (p .number ∙ e)) ∙ sym (p .number) ∙ sym (record-refused y (c .bytes) (length (c .buffer)) n)
 
-    same-accepts : accepts z d ≡ accepts y c
-    unfolding accepts
-    same-accepts = ap (λ n. eqb n 0) same-number
+    same-accepts : accepts y c ≡ accepts z d
+    unfolding isAccepted
+    same-accepts = ap (λ n. eqb n 0) (sym same-number)
 
-    same-step : Same r (step y c) (step z d)
-    same-step = rw (step-by y c, step-by z d, same-accepts) (go (accepts y c) refl)
-      where
-        go : (b : Bool) → accepts y c ≡ b → Same r (cond b (yearWith y (recordIn (c .bytes))) y) (cond b (yearWith z (recordIn (d .bytes))) z)
-        go false e = h
-        go true e = rw (← (p .alike .heads)) (same-record (recordIn (c .bytes) .head) (accepted-admitted y c e) (alike-listing other (p .alike)))
-
-    same-closes : closes z d ≡ closes y c
-    unfolding closes
+    same-closes : closes y c ≡ closes z d
+    unfolding isClosing
     same-closes = rw (same-accepts, p .alike .heads)
 
-    -- what a close says in a column
-    same-line : (col : Column) → closes y c ≡ true
-        → at (column col (amounts (factsOf y) (monthOf (recordIn (c .bytes) .head)))) r ≡ at (column col (amounts (factsOf z) (monthOf (recordIn (c .bytes) .head)))) r
-        → at (column col (y .billed)) r ≡ at (column col (z .billed)) r → lineIn col (buffered z d) r ≡ lineIn col (buffered y c) r
-    same-line col o now before =
-        rw (close-line y c (ky .sound) o col r, close-line z d (kz .sound) (same-closes ∙ o) col r, ← (p .alike .heads), now, before, h .terms)
-
-    same-lines : closes y c ≡ true → (complianceIn (buffered z d) r ≡ complianceIn (buffered y c) r) × (testIn (buffered z d) r ≡ testIn (buffered y c) r)
-    unfolding lineIn column
-    same-lines o =
-        let n = same-close h (monthOf (recordIn (c .bytes) .head)) in
-        (same-line pays o (n .pays) (h .pays), same-line tests o (n .fails) (h .fails))
-
-    both : (cs ds : List Call) → (acceptances (step z d) ds ≡ acceptances (step y c) cs) × (chargeLines r (step z d) ds ≡ chargeLines r (step y c) cs)
-        → (acceptances z (d ∷ ds) ≡ acceptances y (c ∷ cs)) × (chargeLines r z (d ∷ ds) ≡ chargeLines r y (c ∷ cs))
-    unfolding acceptances chargeLines
-    both cs ds ih = (cc (same-accepts, ih .0), rw same-closes (go (closes y c) refl))
+    related-step : Related s (step y c) (step z d)
+    related-step = record { same = rw (step-by y c, step-by z d, ← same-accepts) (go (accepts y c) refl); left = kept-step (h .left) c; right = kept-step (h .right) d }
       where
-        go : (b : Bool) → closes y c ≡ b
-            → cond b ((complianceIn (buffered z d) r, testIn (buffered z d) r) ∷ chargeLines r (step z d) ds) (chargeLines r (step z d) ds)
-            ≡ cond b ((complianceIn (buffered y c) r, testIn (buffered y c) r) ∷ chargeLines r (step y c) cs) (chargeLines r (step y c) cs)
-        go false e = ih .1
-        go true e = cc (same-lines e .0, same-lines e .1, ih .1)
+        go : (b : Bool) → accepts y c ≡ b → Same s (cond b (yearWith y (recordIn (c .bytes))) y) (cond b (yearWith z (recordIn (d .bytes))) z)
+        go false e = h .same
+        go true e = rw (← (p .alike .heads)) (same-record (does (recordIn (c .bytes) .head)) (accepted-admitted y c e) (p .alike .listings))
 
-pub independent : {s r : ℕ} → (r ≡ s → ⊥) → {y z : Year} → Same r y z → Kept y → Kept z → {H G : List Call} → Variant s y H G
-    → (acceptances z G ≡ acceptances y H) × (chargeLines r z G ≡ chargeLines r y H)
-unfolding acceptances chargeLines
-independent n h ky kz done = (refl, refl)
-independent {s} n {y} h ky kz (refused {c = c} {d = d} {cs = cs} {ds = ds} e b l v) =
-    let p = paired-refused s y c d b l in
-    both n h ky kz p cs ds (independent n (same-step n h ky kz p) (kept-step ky c) (kept-step kz d) v)
-independent {s} n {y} h ky kz (accepted {c = c} {d = d} {cs = cs} {ds = ds} e f small b l v) =
-    let p = paired-accepted s y c d e f small b l in
-    both n h ky kz p cs ds (independent n (same-step n h ky kz p) (kept-step ky c) (kept-step kz d) v)
+    -- what a close says of another seller
+    module _ {r : ℕ} (n : r ≡ s → ⊥) where
+      same-line : (col : Column) → closes y c ≡ true
+          → at (column col (amounts (factsOf y) (monthOf (recordIn (c .bytes) .head)))) r ≡ at (column col (amounts (factsOf z) (monthOf (recordIn (c .bytes) .head)))) r
+          → at (column col (y .billed)) r ≡ at (column col (z .billed)) r → lineIn col (buffered y c) r ≡ lineIn col (buffered z d) r
+      same-line col o now before =
+          rw (close-line y c (h .left .sound) o col r, close-line z d (h .right .sound) (sym same-closes ∙ o) col r, ← (p .alike .heads), now, before, h .same .terms)
+
+      same-lines : alone (closes y c) (chargeLine r (buffered y c)) ≡ alone (closes z d) (chargeLine r (buffered z d))
+      unfolding lineIn column
+      same-lines = rw (← same-closes) (go (closes y c) refl)
+        where
+          go : (b : Bool) → closes y c ≡ b → alone b (chargeLine r (buffered y c)) ≡ alone b (chargeLine r (buffered z d))
+          go false o = refl
+          go true o =
+              let k = same-close (h .same) (monthOf (recordIn (c .bytes) .head)) in
+              cc (same-line pays o (k .pays r n) (h .same .pays r n), same-line tests o (k .fails r n) (h .same .fails r n))
+
+booked-terms : (rs : List Record) {y : Year} → y ≡ booked rs → y .terms ≡ termsIn rs
+unfolding booked recorded
+booked-terms rs b = rw b
+
+module _ (s : ℕ) where
+  abbrev P : Year → Year → Call → Call → Type 0
+  P y z c d = Paired s y c d
+
+  -- G's calls are paired with H's
+  abreast : {rs : List Record} {xs : List Answered} {G : List Call} → Variant s rs xs G → (H : List Call) (y z : Year) → y ≡ booked rs → xs ≡ answers y H
+      → Abreast shown shown step step (Related s) P y z H G
+  unfolding answered
+  abreast done [] y z b e = none
+  abreast done (c ∷ cs) y z b e = absurd (let n : _≡_ {A = ℕ} 0 1 = cc in omega arith)
+  abreast (next v w) [] y z b e = absurd (let n : _≡_ {A = ℕ} 0 1 = cc in omega arith)
+  abreast (next {rs = rs} {x = x} {d = d} {xs = xs} v w) (c ∷ cs) y z b e =
+      let first : x ≡ shown y c = cc in
+      let rest : xs ≡ answers (step y c) cs = cc in
+      both (paired (booked-terms rs b) (rw first at v)) (abreast w cs (step y c) (step z d) (rw (first, b) (step-booked rs c)) rest)
+
+  module _ (H : List Call) {G : List Call} (v : Variant s [] (answers newYear H) G) where
+    related : Related s newYear newYear
+    related = record { same = same-new s; left = kept-new; right = kept-new }
+
+    alike : {X : Type 0} (f : Answered → List X) → ((y z : Year) (c d : Call) → Related s y z → Paired s y c d → f (shown y c) ≡ f (shown z d))
+        → gather f (answers newYear H) ≡ gather f (answers newYear G)
+    alike f same =
+        two-runs shown shown step step (Related s) P (λ y z c d h p. related-step h p) f f same related (abreast v H newYear newYear (sym booked-new) refl)
+
+    pub accepted-alike : acceptances (answers newYear G) ≡ acceptances (answers newYear H)
+    accepted-alike = sym (alike (λ x. isAccepted x ∷ []) (λ y z c d h p. rw (same-accepts h p)))
+
+    pub charged-alike : (r : ℕ) → (r ≡ s → ⊥) → chargeLines r (answers newYear G) ≡ chargeLines r (answers newYear H)
+    charged-alike r n = sym (alike (λ x. alone (isClosing x) (chargeLine r (x .after))) (λ y z c d h p. same-lines h p n))

@@ -12,19 +12,25 @@ use Rattle.year.specs.declared.Event.{Event}
 use Rattle.year.specs.declared.Test.{Test}
 use Rattle.year.specs.declared.Terms.{Terms}
 use Rattle.year.specs.declared.Year.{Year}
-use Rattle.year.specs.Year.{newYear, noAmounts, noTest, listed, known, pastEvent, pastTest}
+use Rattle.year.specs.Year.{newYear, noAmounts, noTest, testPlace, listed, known, pastEvent, pastTest}
 use Rattle.ids.specs.Sets.{kept-set, related-next, getD-replicate-same}
+use Rattle.year.specs.Steps.{withTerms}
 use Rattle.year.specs.Sound.{SoundTerms, Sound}
 use Rattle.year.specs.Kept.{sound-new}
 use Rattle.year.specs.Limits.{each-anywhere, size-is, lses-is}
 use Rattle.owed.specs.Facts.{factsOf, registrations, places}
 use Rattle.owed_laws.specs.Parties.{Known}
-use Rattle.book.specs.Outcome.{recordIn, yearWith}
+use Rattle.heads.specs.declared.Head.{Head}
+use Rattle.questions.specs.Questions.{inTime}
+use Rattle.questions.specs.Admitted.{Admitted, event-held}
+use Rattle.recorded.specs.After.{eventOf, yearBy, yearWith}
+use Rattle.book.specs.Outcome.{recordIn, yearAfter}
 use Rattle.book.specs.Kept.{sound-after}
-use Rattle.history.specs.Runs.{Call, accepts, step, run}
+use Rattle.history.specs.Runs.{Call, isAccepted}
+use Rattle.history.specs.Taking.{accepts, step, run}
 use Rattle.history.specs.Along.{step-by}
 use Rattle.history.specs.Admitted.{accepted-admitted}
-use Rattle.history.specs.Moves.{Knows, Move, stay, terms, called, tested, closed, moved}
+use Rattle.history.specs.Does.{Knows, Does, terms, event, test, close, does, event-open, event-knows, test-open, test-knows, close-open, close-obliged}
 use Rattle.history.specs.Billed.{Billed, billed-none, billed-amounts}
 
 -- sound; opened before the first event, test or close; nothing billed before them; every listed registration known; what is billed balances
@@ -59,72 +65,90 @@ kept-new =
       billed = billed-none (newYear .terms);
     }
 
-kept-move : {y z : Year} → Kept y → Sound z → Move y z → Kept z
-kept-move h s stay = h
-kept-move {y} h s (terms opened T e) =
-    let f = h .sound .fresh e in
-    record {
-      sound = s;
-      begun = λ t. never e t;
-      unbilled = h .unbilled;
-      known = record { events = λ ev l. absurd (omega (arith, f .0)); tests = λ p l. knows (s .terms) _ (blank-tests T (f .2) p) };
-      billed = rw (h .unbilled e) (billed-none T);
-    }
-kept-move {y} h s (called e o l k) =
-    let P : Event → Event → Type 0 = λ x z. (i : ℕ) → i < registrations → listed (x .listing) i ≡ true → known (y .terms) i ≡ true in
-    let m : y .held < length (y .events) = omega (arith, h .sound .events .long) in
-    record {
-      sound = s;
-      begun = λ t. o;
-      unbilled = λ t. never t refl;
-      known = record { events = related-next P pastEvent (y .events) (y .events) (y .held) {v = e} {w = e} m m (knows (s .terms) (e .listing) k) (h .known .events); tests = h .known .tests };
-      billed = h .billed;
-    }
-kept-move {y} h s (tested place t o k) =
-    let P : ℕ → Test → Type 0 = λ p x. p < places → (i : ℕ) → i < registrations → listed (x .listing) i ≡ true → known (y .terms) i ≡ true in
-    record {
-      sound = s;
-      begun = λ t. o;
-      unbilled = λ t. never t refl;
-      known = record { events = h .known .events; tests = kept-set P pastTest (y .tests) place (λ l. knows (s .terms) (t .listing) k) (h .known .tests) };
-      billed = h .billed;
-    }
-kept-move {y} h s (closed k o l) =
-    record {
-      sound = s;
-      begun = λ t. o;
-      unbilled = λ t. never t refl;
-      known = record { events = h .known .events; tests = h .known .tests };
-      billed = billed-amounts (h .sound) (h .known) (rw (lses-is (h .sound .terms)) at l) k;
-    }
+-- soundness of the year after an accepted record
+accepted-sound : {y : Year} → Sound y → (c : Call) → accepts y c ≡ true → Sound (yearWith y (recordIn (c .bytes)))
+unfolding isAccepted yearAfter
+accepted-sound S c e = rw e at (sound-after S (c .bytes) (length (c .buffer)))
 
-pub moves : {y : Year} → Kept y → (c : Call) → Move y (step y c)
-moves {y} h c = rw (step-by y c) (go (accepts y c) refl)
-  where
-    go : (b : Bool) → accepts y c ≡ b → Move y (cond b (yearWith y (recordIn (c .bytes))) y)
-    go false e = stay
-    go true e = moved (h .begun) (recordIn (c .bytes) .head) (accepted-admitted y c e)
+-- an accepted record keeps it
+module _ {y : Year} (k : Kept y) {l : Listing} {room : ℕ} where
+  kept-by : {h : Head} → Does h → Admitted inTime y (record { head = h; listing = l }) room → Sound (yearBy y l h) → Kept (yearBy y l h)
+  unfolding yearBy
+  kept-by (terms x) = λ a s.
+      let T = x .new (y .terms) in
+      let e = x .fresh (k .begun) a in
+      let f = k .sound .fresh e in
+      let t : Sound (withTerms y (x .opened (y .opened)) T) = rw (x .is y l) at s in
+      rw (x .is y l)
+      (record {
+        sound = t;
+        begun = λ b. never e b;
+        unbilled = k .unbilled;
+        known = record { events = λ ev m. absurd (omega (arith, f .0)); tests = λ p m. knows (t .terms) _ (blank-tests T (f .2) p) };
+        billed = rw (k .unbilled e) (billed-none T);
+      })
+  kept-by (event e q) = rw q (λ a s.
+      let P : Event → Event → Type 0 = λ x z. (i : ℕ) → i < registrations → listed (x .listing) i ≡ true → known (y .terms) i ≡ true in
+      let m : y .held < length (y .events) = omega (arith, event-held a, k .sound .events .long) in
+      record {
+        sound = s;
+        begun = λ b. event-open a;
+        unbilled = λ b. never b refl;
+        known = record { events = related-next P pastEvent (y .events) (y .events) (y .held) {v = eventOf e l} {w = eventOf e l} m m (knows (k .sound .terms) l (event-knows a)) (k .known .events); tests = k .known .tests };
+        billed = k .billed;
+      })
+  kept-by (test t q) = rw q (λ a s.
+      let P : ℕ → Test → Type 0 = λ p x. p < places → (i : ℕ) → i < registrations → listed (x .listing) i ≡ true → known (y .terms) i ≡ true in
+      record {
+        sound = s;
+        begun = λ b. test-open a;
+        unbilled = λ b. never b refl;
+        known = record { events = k .known .events; tests = kept-set P pastTest (y .tests) (testPlace (t .zone) (t .product)) (λ m. knows (k .sound .terms) l (test-knows a)) (k .known .tests) };
+        billed = k .billed;
+      })
+  kept-by (close c q) = rw q (λ a s.
+      record {
+        sound = s;
+        begun = λ b. close-open a;
+        unbilled = λ b. never b refl;
+        known = record { events = k .known .events; tests = k .known .tests };
+        billed = billed-amounts (k .sound) (k .known) (rw (lses-is (k .sound .terms)) at (close-obliged a)) (c .month);
+      })
 
-pub kept-step : {y : Year} → Kept y → (c : Call) → Kept (step y c)
-unfolding step
-kept-step h c = kept-move h (sound-after (h .sound) (c .bytes) (length (c .buffer))) (moves h c)
+  -- once begun, the terms stay
+  frozen-by : {h : Head} → Does h → Admitted inTime y (record { head = h; listing = l }) room → y .started ≡ true
+      → (yearBy y l h .started ≡ true) × (yearBy y l h .terms ≡ y .terms)
+  unfolding yearBy
+  frozen-by (terms x) a b = never (x .fresh (k .begun) a) b
+  frozen-by (event e q) a b = rw q (refl, refl)
+  frozen-by (test t q) a b = rw q (refl, refl)
+  frozen-by (close c q) a b = rw q (refl, refl)
+
+-- what a call does
+module _ {y : Year} (k : Kept y) (c : Call) where
+  pub kept-step : Kept (step y c)
+  kept-step = rw (step-by y c) (go (accepts y c) refl)
+    where
+      go : (b : Bool) → accepts y c ≡ b → Kept (cond b (yearWith y (recordIn (c .bytes))) y)
+      go false e = k
+      go true e = kept-by k (does (recordIn (c .bytes) .head)) (accepted-admitted y c e) (accepted-sound (k .sound) c e)
+
+  frozen-step : y .started ≡ true → (step y c .started ≡ true) × (step y c .terms ≡ y .terms)
+  frozen-step t = rw (step-by y c) (go (accepts y c) refl)
+    where
+      go : (b : Bool) → accepts y c ≡ b
+          → let z = cond b (yearWith y (recordIn (c .bytes))) y in (z .started ≡ true) × (z .terms ≡ y .terms)
+      go false e = (t, refl)
+      go true e = frozen-by k (does (recordIn (c .bytes) .head)) (accepted-admitted y c e) t
 
 pub kept-run : {y : Year} → Kept y → (cs : List Call) → Kept (run y cs)
 unfolding run
 kept-run h [] = h
 kept-run h (c ∷ cs) = kept-run (kept-step h c) cs
 
--- once begun, the terms stay
-frozen-move : {y z : Year} → Move y z → y .started ≡ true → (z .started ≡ true) × (z .terms ≡ y .terms)
-frozen-move stay t = (t, refl)
-frozen-move (terms opened T e) t = never e t
-frozen-move (called e o l k) t = (refl, refl)
-frozen-move (tested place t o k) b = (refl, refl)
-frozen-move (closed k o l) t = (refl, refl)
-
 pub frozen : {y : Year} → Kept y → y .started ≡ true → (cs : List Call) → run y cs .terms ≡ y .terms
 unfolding run
-frozen h t [] = refl
-frozen h t (c ∷ cs) =
-    let m = frozen-move (moves h c) t in
-    frozen (kept-step h c) (m .0) cs ∙ m .1
+frozen k t [] = refl
+frozen k t (c ∷ cs) =
+    let m = frozen-step k c t in
+    frozen (kept-step k c) (m .0) cs ∙ m .1

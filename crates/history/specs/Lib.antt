@@ -1,9 +1,10 @@
 -- Demand 3: the claim, and its proof.
 pub mod Runs
 pub mod Claim
-pub mod Along
+pub mod Taking
 pub mod Admitted
-pub mod Moves
+pub mod Along
+pub mod Does
 pub mod Columns
 pub mod ReadColumns
 pub mod Blank
@@ -13,12 +14,15 @@ pub mod Closes
 pub mod Telescope
 pub mod Balanced
 pub mod AtClose
+pub mod Answers
 pub mod Replaced
-pub mod Alike
 pub mod Same
+pub mod Alike
 pub mod Blind
 pub mod Paired
+pub mod TwoRuns
 pub mod Independence
 pub mod Proof
+pub mod Itself
 pub mod Files
 pub mod FileLaws

@@ -1,25 +1,30 @@
--- Demand 3, proved of every list of calls.
-use Prim.Native.Nat.{suc}
+-- Demand 3, proved of every list of calls that a new book answers.
+use mathlib.Core.Bool.{true}
 use mathlib.Core.List.{List}
-use native.Mathlib.Omega.{arith}
+use mathlib.Core.Path.{_≡_}
+use lib.ListN.{length}
 use Rattle.year.specs.Year.{newYear}
-use Rattle.history.specs.Runs.{Call, accepts}
-use Rattle.history.specs.Claim.{Demand3}
-use Rattle.history.specs.Along.{run-years}
-use Rattle.history.specs.Kept.{kept-new}
+use Rattle.recorded.specs.Recorded.{recorded}
+use Rattle.book.specs.Outcome.{postNumber}
+use Rattle.history.specs.Runs.{Call, Answered, isClosing, acceptedIn}
+use Rattle.history.specs.Claim.{AtClose, Demand3}
+use Rattle.history.specs.Taking.{answers}
 use Rattle.history.specs.AtClose.{at-close}
-use Rattle.history.specs.Same.{same-new}
-use Rattle.history.specs.Independence.{independent}
+use Rattle.history.specs.Answers.{answers-each, Split, split, numbered}
+use Rattle.history.specs.Independence.{accepted-alike, charged-alike}
 
-pub demand3 : (H : List Call) → Demand3 H
-unfolding accepts
+module _ {before : List Answered} {x : Answered} (s : Split newYear before x) where
+  number-is : x .number ≡ postNumber (recorded (acceptedIn before)) (x .call .bytes) (length (x .call .buffer))
+  number-is = rw (s .before-is, s .own-is) (numbered (s .earlier) (s .own))
+
+  close-is : isClosing x ≡ true → AtClose before x
+  close-is = rw (s .before-is, s .own-is) (at-close (s .earlier) (s .own))
+
+pub demand3 : (H : List Call) → Demand3 (answers newYear) H
 demand3 H =
     record {
-      years = λ before after e. run-years newYear before;
-      accepted = λ before c after e. rw (run-years newYear before);
-      closed = λ before c after e. at-close before c;
-      independent = λ s G v. (
-        independent {s = s} {r = suc s} (λ e. omega arith) (same-new (suc s)) kept-new kept-new v .0,
-        λ r n. independent n (same-new r) kept-new kept-new v .1,
-      );
+      each = answers-each newYear H;
+      numbered = λ before x after e. number-is (split newYear H before x after e);
+      closed = λ before x after e. close-is (split newYear H before x after e);
+      independent = λ s G v. (accepted-alike s H v, charged-alike s H v);
     }

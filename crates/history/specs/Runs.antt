@@ -1,5 +1,5 @@
--- Lists of calls that take a record (document 01, 'The lists of demand 3'), and what happens along them.
-use Prim.Native.Nat.{ℕ, _≤_}
+-- Calls that take a record (document 01, 'The lists of demand 3'), and what is read off a list of calls that are answered.
+use Prim.Native.Nat.{ℕ}
 use mathlib.Core.Bool.{Bool, true, false, _&&_, cond}
 use mathlib.Core.List.{List, [], _∷_, _++_}
 use mathlib.Core.Path.{_≡_}
@@ -8,55 +8,43 @@ use lib.Dec.{eqb}
 use lib.IntN.{ℤ, pos, _+ℤ_}
 use Rattle.ids.specs.Ids.{at, tabulate}
 use Rattle.layouts.specs.Reductions.{isReduction}
-use Rattle.layouts.specs.Questions.{numbersOf, consumed}
-use Rattle.records.specs.Calls.{bytesBy}
+use Rattle.layouts.specs.Questions.{numbersOf, recordNumber, consumed}
 use Rattle.year.specs.declared.Terms.{Terms}
-use Rattle.year.specs.declared.Year.{Year}
 use Rattle.year.specs.Year.{seller}
 use Rattle.heads.specs.Record.{Record, isClose}
-use Rattle.book.specs.Outcome.{recordIn, postNumber, yearWith, yearAfter, bufferAfter}
+use Rattle.recorded.specs.Recorded.{gather, alone, termsIn}
+use Rattle.book.specs.Outcome.{recordIn}
 
 -- a call: any bytes, none too, and a lent buffer of any length and contents
 pub record Call : Type 0 where
   pub bytes : List ℕ
   pub buffer : List ℕ
 
--- of a call that gets the year y: is its record accepted, is that a close, and what the buffer holds afterwards
-unfoldable pub accepts : Year → Call → Bool
-accepts y c = eqb (postNumber y (c .bytes) (length (c .buffer))) 0
+-- a call that is answered: with a number, and with what the buffer holds afterwards
+pub record Answered : Type 0 where
+  pub call : Call
+  pub number : ℕ
+  pub after : List ℕ
 
-unfoldable pub closes : Year → Call → Bool
-closes y c = accepts y c && isClose (recordIn (c .bytes) .head)
+-- is its record accepted, and is that a close
+unfoldable pub isAccepted : Answered → Bool
+isAccepted x = eqb (x .number) 0
 
-unfoldable pub buffered : Year → Call → List ℕ
-buffered y c = bufferAfter y (c .bytes) (c .buffer)
+unfoldable pub isClosing : Answered → Bool
+isClosing x = isAccepted x && isClose (recordIn (x .call .bytes) .head)
 
-unfoldable pub step : Year → Call → Year
-step y c = yearAfter y (c .bytes) (length (c .buffer))
+-- of a list: which calls are accepted, by position; the accepted records; the statements, which stand in the buffer after each accepted close
+abbrev pub acceptances : List Answered → List Bool
+acceptances = gather (λ x. isAccepted x ∷ [])
 
--- each call gets the year that the one before left, accepted or refused; the first gets a new book
-unfoldable pub run : Year → List Call → Year
-run y [] = y
-run y (c ∷ cs) = run (step y c) cs
+abbrev pub recordFrom : Answered → List Record
+recordFrom x = alone (isAccepted x) (recordIn (x .call .bytes))
 
--- the accepted records, in order; and the year that such records make
-unfoldable pub acceptedIn : Year → List Call → List Record
-acceptedIn y [] = []
-acceptedIn y (c ∷ cs) = cond (accepts y c) (recordIn (c .bytes) ∷ acceptedIn (step y c) cs) (acceptedIn (step y c) cs)
+abbrev pub acceptedIn : List Answered → List Record
+acceptedIn = gather recordFrom
 
-unfoldable pub yearOf : Year → List Record → Year
-yearOf y [] = y
-yearOf y (r ∷ rs) = yearOf (yearWith y r) rs
-
--- which calls are accepted, by position
-unfoldable pub acceptances : Year → List Call → List Bool
-acceptances y [] = []
-acceptances y (c ∷ cs) = accepts y c ∷ acceptances (step y c) cs
-
--- the statements: what stands in the buffer after each accepted close
-unfoldable pub statements : Year → List Call → List (List ℕ)
-statements y [] = []
-statements y (c ∷ cs) = cond (closes y c) (buffered y c ∷ statements (step y c) cs) (statements (step y c) cs)
+abbrev pub statements : List Answered → List (List ℕ)
+statements = gather (λ x. alone (isClosing x) (x .after))
 
 -- an amount that is read from each statement, summed
 unfoldable pub soFar : (List ℕ → ℤ) → List (List ℕ) → ℤ
@@ -67,18 +55,21 @@ soFar f (x ∷ xs) = f x +ℤ soFar f xs
 abbrev pub isOwn : Terms → ℕ → ℕ → Bool
 isOwn T s i = eqb (seller T i) s
 
--- G for H: in those entries of an accepted record whose registration is seller s's, each reduction, number j of the record, is f j; all else as it was
+-- in those entries whose registration is seller s's each reduction, number j of the record, is f j; all else as it was
 unfoldable pub replaced : Terms → ℕ → (ℕ → ℕ) → List ℕ → List ℕ
 replaced T s f vs = tabulate (length vs) (λ j. cond (isReduction (isOwn T s) vs j) (f j) (at vs j))
 
--- each new reduction is 0 to 100,000; the bytes after a record, the other records and the buffers' lengths are as in H
-pub data Variant (s : ℕ) : Year → List Call → List Call → Type 0 where
-  done : {y : Year} → Variant s y [] []
-  refused : {y : Year} {c d : Call} {cs ds : List Call} → accepts y c ≡ false
-      → d .bytes ≡ c .bytes → length (d .buffer) ≡ length (c .buffer)
-      → Variant s (step y c) cs ds → Variant s y (c ∷ cs) (d ∷ ds)
-  accepted : {y : Year} {c d : Call} {cs ds : List Call} → accepts y c ≡ true
-      → (f : ℕ → ℕ) → ((j : ℕ) → f j ≤ 100000)
-      → d .bytes ≡ bytesBy (replaced (y .terms) s f (numbersOf (c .bytes))) ++ drop (consumed (c .bytes)) (c .bytes)
-      → length (d .buffer) ≡ length (c .buffer)
-      → Variant s (step y c) cs ds → Variant s y (c ∷ cs) (d ∷ ds)
+-- a call of G for the call x of H, which comes after the accepted records rs: an accepted record has other reductions, such as questions 1 to 5 let pass (0 to 100,000);
+-- the bytes after it, the other records and the buffers' lengths are as in H
+pub data Varied (s : ℕ) (rs : List Record) (x : Answered) (d : Call) : Type 0 where
+  refused : isAccepted x ≡ false → d .bytes ≡ x .call .bytes → length (d .buffer) ≡ length (x .call .buffer) → Varied s rs x d
+  accepted : isAccepted x ≡ true → recordNumber (d .bytes) ≡ 0
+      → (f : ℕ → ℕ) → numbersOf (d .bytes) ≡ replaced (termsIn rs) s f (numbersOf (x .call .bytes))
+      → drop (consumed (d .bytes)) (d .bytes) ≡ drop (consumed (x .call .bytes)) (x .call .bytes)
+      → length (d .buffer) ≡ length (x .call .buffer) → Varied s rs x d
+
+-- G for H, call by call
+pub data Variant (s : ℕ) : List Record → List Answered → List Call → Type 0 where
+  done : {rs : List Record} → Variant s rs [] []
+  next : {rs : List Record} {x : Answered} {d : Call} {xs : List Answered} {ds : List Call}
+      → Varied s rs x d → Variant s (rs ++ recordFrom x) xs ds → Variant s rs (x ∷ xs) (d ∷ ds)

@@ -1,4 +1,4 @@
--- Two years that are the same for seller r: all but the reductions, and the amounts, of the others. Steps that are the same for r keep them so.
+-- Two years that are the same for all sellers but s. Steps that are the same for these keep them so.
 use Prim.Native.Nat.{ℕ, _+_, _<_}
 use mathlib.Core.Bool.{Bool, false}
 use mathlib.Core.Path.{_≡_, refl, ap, sym, _∙_}
@@ -22,12 +22,12 @@ use Rattle.owed.specs.Facts.{factsOf, sellers}
 use Rattle.owed.specs.Owed.{called, compliance, test, amounts}
 use Rattle.owed_laws.specs.Independent as independent
 
--- what two records list is the same but for the reductions of registrations that are not seller r's
-module _ (T : Terms) (r : ℕ) where
+-- what two records list is the same but for the reductions of seller s's registrations
+module _ (T : Terms) (s : ℕ) where
   pub record SameListing (a b : Listing) : Type 0 where
-    pub listed : (i : ℕ) → listed a i ≡ listed b i
-    pub deficit : (s : ℕ) → deficit a s ≡ deficit b s
-    pub reduction : (i : ℕ) → seller T i ≡ r → reduction a i ≡ reduction b i
+    pub listed : a .listed ≡ b .listed
+    pub deficits : a .deficits ≡ b .deficits
+    pub reductions : (i : ℕ) → (seller T i ≡ s → ⊥) → reduction a i ≡ reduction b i
 
   pub record SameEvent (a b : Event) : Type 0 where
     pub month : a .month ≡ b .month
@@ -38,24 +38,27 @@ module _ (T : Terms) (r : ℕ) where
     pub taken : a .taken ≡ b .taken
     pub listing : SameListing (a .listing) (b .listing)
 
-  pub test-refl : (a : Test) → SameTest a a
-  test-refl a =
-      record { taken = refl; listing = record { listed = λ i. refl; deficit = λ s. refl; reduction = λ i e. refl } }
+  pub listing-refl : (a : Listing) → SameListing a a
+  listing-refl a = record { listed = refl; deficits = refl; reductions = λ i n. refl }
 
-pub record Same (r : ℕ) (y z : Year) : Type 0 where
+  test-refl : (a : Test) → SameTest a a
+  test-refl a = record { taken = refl; listing = listing-refl (a .listing) }
+
+-- and so are two years, but for seller s's amounts, and all credits
+pub record Same (s : ℕ) (y z : Year) : Type 0 where
   pub opened : y .opened ≡ z .opened
   pub started : y .started ≡ z .started
   pub closed : y .closed ≡ z .closed
   pub held : y .held ≡ z .held
   pub terms : y .terms ≡ z .terms
-  pub events : (ev : ℕ) → ev < y .held → SameEvent (y .terms) r (getD (y .events) ev pastEvent) (getD (z .events) ev pastEvent)
-  pub tests : (p : ℕ) → SameTest (y .terms) r (getD (y .tests) p pastTest) (getD (z .tests) p pastTest)
-  pub pays : at (y .billed .compliance) r ≡ at (z .billed .compliance) r
-  pub fails : at (y .billed .test) r ≡ at (z .billed .test) r
+  pub events : (ev : ℕ) → ev < y .held → SameEvent (y .terms) s (getD (y .events) ev pastEvent) (getD (z .events) ev pastEvent)
+  pub tests : (p : ℕ) → SameTest (y .terms) s (getD (y .tests) p pastTest) (getD (z .tests) p pastTest)
+  pub pays : (r : ℕ) → (r ≡ s → ⊥) → at (y .billed .compliance) r ≡ at (z .billed .compliance) r
+  pub fails : (r : ℕ) → (r ≡ s → ⊥) → at (y .billed .test) r ≡ at (z .billed .test) r
 
-pub same-new : (r : ℕ) → Same r newYear newYear
-same-new r =
-    record { opened = refl; started = refl; closed = refl; held = refl; terms = refl; events = λ ev l. absurd (not-suc-le-zero l); tests = λ p. test-refl (newYear .terms) r (getD (newYear .tests) p pastTest); pays = refl; fails = refl }
+pub same-new : (s : ℕ) → Same s newYear newYear
+same-new s =
+    record { opened = refl; started = refl; closed = refl; held = refl; terms = refl; events = λ ev l. absurd (not-suc-le-zero l); tests = λ p. test-refl (newYear .terms) s (getD (newYear .tests) p pastTest); pays = λ r n. refl; fails = λ r n. refl }
 
 -- two tables at one place
 table-at : (n : ℕ) (f g : ℕ → ℕ) (i : ℕ) → f i ≡ g i → at (tabulate n f) i ≡ at (tabulate n g) i
@@ -64,10 +67,15 @@ table-at n f g i e = elim (decLt i n) [
   | no l ↦ List·getD-eq-default (tabulate n f) 0 (omega (arith, length-tabulate f n)) ∙ sym (List·getD-eq-default (tabulate n g) 0 (omega (arith, length-tabulate g n)))
 ]
 
-module _ {r : ℕ} {y z : Year} (h : Same r y z) where
-  -- their facts agree in what is seller r's
-  same-facts : independent.Same r (factsOf y) (factsOf z)
-  same-facts =
+module _ {s : ℕ} {y z : Year} (h : Same s y z) where
+  listed-same : (ev : ℕ) → ev < y .held → (i : ℕ) → factsOf y .listed ev i ≡ factsOf z .listed ev i
+  unfolding listed
+  listed-same ev l i = rw (h .events ev l .listing .listed)
+
+  -- their facts agree in what is another seller's
+  same-facts : (r : ℕ) → (r ≡ s → ⊥) → independent.Same r (factsOf y) (factsOf z)
+  unfolding listed deficit
+  same-facts r n =
       record {
         leap = rw (h .terms);
         factor = rw (h .terms);
@@ -76,26 +84,26 @@ module _ {r : ℕ} {y z : Year} (h : Same r y z) where
         events = h .held;
         month = λ ev l. h .events ev l .month;
         period = λ ev l. h .events ev l .period;
-        deficit = λ ev l. h .events ev l .listing .deficit r;
-        testDeficit = λ p. h .tests p .listing .deficit r;
+        deficit = λ ev l. rw (h .events ev l .listing .deficits);
+        testDeficit = λ p. rw (h .tests p .listing .deficits);
         product = λ i own. rw (h .terms);
         committed = λ i own. rw (h .terms);
         rate = λ i own. rw (h .terms);
-        listed = λ ev l i own. h .events ev l .listing .listed i;
-        reduction = λ ev l i own. h .events ev l .listing .reduction i own;
-        tested = λ p i own. h .tests p .listing .listed i;
-        testReduction = λ p i own. h .tests p .listing .reduction i own;
+        listed = λ ev l i own. listed-same ev l i;
+        reduction = λ ev l i own. h .events ev l .listing .reductions i (λ q. n (sym own ∙ q));
+        tested = λ p i own. rw (h .tests p .listing .listed);
+        testReduction = λ p i own. h .tests p .listing .reductions i (λ q. n (sym own ∙ q));
       }
 
   -- every registration is called in both or in neither
   pub same-called : (i : ℕ) → called (factsOf y) i ≡ called (factsOf z) i
   unfolding called
   same-called i =
-      any-same (y .held) {q = λ ev. factsOf z .listed ev i} (λ ev l. h .events ev l .listing .listed i)
+      any-same (y .held) {q = λ ev. factsOf z .listed ev i} (λ ev l. listed-same ev l i)
       ∙ ap (λ n. anyTo n (λ ev. factsOf z .listed ev i)) (h .held)
 
   -- before the first event, test or close
-  pub same-terms : Sound y → Sound z → y .started ≡ false → (o : Bool) (T : Terms) → Same r (withTerms y o T) (withTerms z o T)
+  pub same-terms : Sound y → Sound z → y .started ≡ false → (o : Bool) (T : Terms) → Same s (withTerms y o T) (withTerms z o T)
   same-terms S U e o T =
       let f = S .fresh e in
       let g = U .fresh (sym (h .started) ∙ e) in
@@ -106,12 +114,12 @@ module _ {r : ℕ} {y z : Year} (h : Same r y z) where
         held = h .held;
         terms = refl;
         events = λ ev l. absurd (omega (arith, f .0));
-        tests = rw (f .2, g .2) (λ p. test-refl T r (getD (replicate 24 noTest) p pastTest));
+        tests = rw (f .2, g .2) (λ p. test-refl T s (getD (replicate 24 noTest) p pastTest));
         pays = h .pays;
         fails = h .fails;
       }
 
-  pub same-event : Sound y → Sound z → y .held < 16 → {e g : Event} → SameEvent (y .terms) r e g → Same r (withEvent y e) (withEvent z g)
+  pub same-event : Sound y → Sound z → y .held < 16 → {e g : Event} → SameEvent (y .terms) s e g → Same s (withEvent y e) (withEvent z g)
   same-event S U l {e} {g} q =
       record {
         opened = h .opened;
@@ -121,13 +129,13 @@ module _ {r : ℕ} {y z : Year} (h : Same r y z) where
         terms = h .terms;
         events =
             rw (← (h .held))
-            (related-next (SameEvent (y .terms) r) pastEvent (y .events) (z .events) (y .held) (omega (arith, S .events .long)) (omega (arith, U .events .long)) q (h .events));
+            (related-next (SameEvent (y .terms) s) pastEvent (y .events) (z .events) (y .held) (omega (arith, S .events .long)) (omega (arith, U .events .long)) q (h .events));
         tests = h .tests;
         pays = h .pays;
         fails = h .fails;
       }
 
-  pub same-test : Sound y → Sound z → (place : ℕ) {t u : Test} → SameTest (y .terms) r t u → Same r (withTest y place t) (withTest z place u)
+  pub same-test : Sound y → Sound z → (place : ℕ) {t u : Test} → SameTest (y .terms) s t u → Same s (withTest y place t) (withTest z place u)
   same-test S U place q =
       record {
         opened = h .opened;
@@ -136,12 +144,12 @@ module _ {r : ℕ} {y z : Year} (h : Same r y z) where
         held = h .held;
         terms = h .terms;
         events = h .events;
-        tests = related-set (SameTest (y .terms) r) pastTest (y .tests) (z .tests) place (S .places ∙ sym (U .places)) q (h .tests);
+        tests = related-set (SameTest (y .terms) s) pastTest (y .tests) (z .tests) place (S .places ∙ sym (U .places)) q (h .tests);
         pays = h .pays;
         fails = h .fails;
       }
 
-  pub same-close : (k : ℕ) → Same r (withClose y (amounts (factsOf y) k)) (withClose z (amounts (factsOf z) k))
+  pub same-close : (k : ℕ) → Same s (withClose y (amounts (factsOf y) k)) (withClose z (amounts (factsOf z) k))
   unfolding amounts
   same-close k =
       record {
@@ -152,6 +160,6 @@ module _ {r : ℕ} {y z : Year} (h : Same r y z) where
         terms = h .terms;
         events = h .events;
         tests = h .tests;
-        pays = table-at sellers (compliance (factsOf y) k) (compliance (factsOf z) k) r (independent.same-compliance same-facts k);
-        fails = table-at sellers (test (factsOf y) k) (test (factsOf z) k) r (independent.same-test same-facts k);
+        pays = λ r n. table-at sellers (compliance (factsOf y) k) (compliance (factsOf z) k) r (independent.same-compliance (same-facts r n) k);
+        fails = λ r n. table-at sellers (test (factsOf y) k) (test (factsOf z) k) r (independent.same-test (same-facts r n) k);
       }

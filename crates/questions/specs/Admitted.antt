@@ -9,7 +9,7 @@ use Rattle.layouts.specs.Questions.{firstFailed}
 use Rattle.records.specs.Accepted.{passed}
 use Rattle.year.specs.declared.Listing.{Listing}
 use Rattle.year.specs.declared.Year.{Year}
-use Rattle.year.specs.Year.{pastTest}
+use Rattle.year.specs.Year.{pastTest, testPlace}
 use Rattle.heads.specs.declared.RegistrationHead.{RegistrationHead}
 use Rattle.heads.specs.declared.EventHead.{EventHead}
 use Rattle.heads.specs.declared.TestHead.{TestHead}
@@ -17,7 +17,7 @@ use Rattle.heads.specs.declared.CloseHead.{CloseHead}
 use Rattle.heads.specs.declared.Head.the-variants.{Registration, Event, Test, Close}
 use Rattle.heads.specs.Record.{Record}
 use Rattle.entries.specs.Entries.{inGroup, everyListed, deficitsListed}
-use Rattle.questions.specs.Questions.{q6, q7, q8, q9, q10, q11, q12, q13, q14, q15, q16, questions, testPlace}
+use Rattle.questions.specs.Questions.{q6, q7, q8, q9, q10, q11, q12, q13, q14, q15, q16, questions}
 
 pub record Admitted (rule : ℕ → ℕ → Bool) (y : Year) (r : Record) (room : ℕ) : Type 0 where
   pub six : q6 y (r .head) ≡ true

@@ -1,5 +1,5 @@
 -- Questions 6 to 16 (document 01, 'Questions at the counter'), of a year and a record. A record that a question is not put to passes it.
-use Prim.Native.Nat.{ℕ, _+_, _*_, max}
+use Prim.Native.Nat.{ℕ, _+_, max}
 use mathlib.Core.Bool.{Bool, true, not, _&&_}
 use mathlib.Core.List.{List, [], _∷_}
 use lib.ListN.{getD}
@@ -9,16 +9,12 @@ use Rattle.calendar.specs.Calendar.{callable, testable}
 use Rattle.year.specs.declared.Listing.{Listing}
 use Rattle.year.specs.declared.Terms.{Terms}
 use Rattle.year.specs.declared.Year.{Year}
-use Rattle.year.specs.Year.{known, product, obligation, size, lses, pastTest}
+use Rattle.year.specs.Year.{known, product, obligation, size, lses, pastTest, testPlace}
 use Rattle.owed.specs.Facts.{factsOf}
 use Rattle.owed.specs.Owed.{called}
 use Rattle.heads.specs.declared.Head.{Head}
 use Rattle.heads.specs.Record.{Record, forOpening, forRegistration, forLse, forEvent, forTest, forClose}
 use Rattle.entries.specs.Entries.{inArea, inGroup, everyListed, deficitsListed, listsExactly}
-
--- the place of the test of a zone and product
-abbrev pub testPlace : ℕ → ℕ → ℕ
-testPlace z p = 3 * z + p
 
 -- may an event of month m be taken with z months closed: the time rule in force
 unfoldable pub inTime : ℕ → ℕ → Bool

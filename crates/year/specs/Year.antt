@@ -1,5 +1,5 @@
 -- A new year, and what the rules read of a year.
-use Prim.Native.Nat.{ℕ}
+use Prim.Native.Nat.{ℕ, _+_, _*_}
 use mathlib.Core.List.{List, []}
 use mathlib.Core.Bool.{Bool, false}
 use lib.ListN.{getD, length, take, replicate}
@@ -97,6 +97,10 @@ module _ (T : Terms) where
 
   abbrev pub lses : ℕ
   lses = length (T .obligations)
+
+-- the place of the test of a zone and product
+abbrev pub testPlace : ℕ → ℕ → ℕ
+testPlace z p = 3 * z + p
 
 -- the ids of sellers are below this
 abbrev pub sellers : ℕ

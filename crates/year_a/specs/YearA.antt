@@ -3,6 +3,7 @@ use Prim.Native.Nat.{ℕ}
 use Prim.Native.Char.{code}
 use Prim.Native.String.{String, [] as none, _∷_ as _then_}
 use mathlib.Core.List.{List, [], _∷_, _++_, map}
+use mathlib.Core.Bool.{true}
 use mathlib.Core.Path.{_≡_, refl}
 use lib.ListN.{replicate}
 use Rattle.ids.specs.Ids.{sumTo, anyTo, allTo, tabulate}
@@ -13,19 +14,24 @@ use Rattle.bits.specs.Bits.{bitAt, number}
 use Rattle.bits.specs.Table.{times}
 use Rattle.bits.specs.Pack.{bitsOf, spell, byteOf, bytesOf, pack, encode}
 use Rattle.layouts.specs.Layout.{itemsIn, rulesTo, rulesFor}
-use Rattle.layouts.specs.Questions.{recordQuestions, firstFailed, kindOf, headOf, rulesOf, numbersOf, isKind, isWhole, permits, permitted, isFilled, rises, idsRise, recordNumber, consumed, row}
+use Rattle.layouts.specs.Questions.{recordQuestions, firstFailed, kindOf, headOf, rulesOf, numbersOf, isKind, isWhole, permits, permitted, isFilled, rises, idsRise, recordNumber, consumed}
 use Rattle.year.specs.Year.{newYear, listed, reduction, deficit, known, seller, area, zone, product, committed, rate, obligation}
-use Rattle.owed.specs.Facts.{factsOf}
 use Rattle.owed.specs.Owed.{beforeCap, raised, unforced, ofSeller, shareOf, called, calls, shortfallOver, u, cap, daily, taken, charge, excess, e, creditShare, creditLimit, creditOf, B, testOf, compliance, test, credit, charges, credits, lse, amounts}
 use Rattle.statement.specs.Statement.{countTo, difference, hasRegistration, hasObligation, sellerColumns, lineFields, linesTo, statementFields, statementOf}
 use Rattle.statement.specs.Value42.{value42}
 use Rattle.heads.specs.Record.{headOf as namedHead, withItem, withItems, listingTo, listingIn}
 use Rattle.questions.specs.Questions.{inTime, q6, q7, q8, q9, q10, q11, q12, q13, q14, q15, q16, questions}
 use Rattle.entries.specs.Entries.{inArea, inGroup, everyListed, deficitsListed, listsExactly}
-use Rattle.book.specs.Outcome.{valuesOf, postNumber, yearBy, bufferWith, yearAfter, bufferAfter}
+use Rattle.recorded.specs.After.{yearBy}
+use Rattle.recorded.specs.Recorded.{gather, lastOr, termsIn, eventsIn, testsIn, recorded, factsIn}
+use Rattle.book.specs.Outcome.{postNumber, bufferWith, yearAfter, bufferAfter}
 use Rattle.text.specs.Lines.{digitsTo, decimal}
 use Rattle.file.specs.Walk.{recordsTo}
-use Rattle.history.specs.Runs.{accepts, closes, buffered, step, run, statements}
+use Rattle.history.specs.Runs.{Call, Answered, isAccepted, isClosing, acceptedIn, statements}
+use Rattle.history.specs.Taking.{buffered, step, shown, answered, answers, run}
+use Rattle.history.specs.Claim.{AtClose}
+use Rattle.history.specs.Along.{answers-more}
+use Rattle.history.specs.Proof.{demand3}
 use Rattle.history.specs.Files.{callsOf, numbers}
 use Rattle.answer.specs.Answer.{answerText, textOf, calls as callsIn, billText}
 use Rattle.report.specs.Text.{cents, refusalLine, linesFrom, monthLine, partyLine, statementLines, answerLines}
@@ -92,18 +98,18 @@ withEvents = parties ++ ((0x61 ∷ 0x62 ∷ 0x63 ∷ 0x64 ∷ []) ++ (juneEvent 
 
 -- what the bill program prints of a file. What computes it is named here, once for all figures.
 bill : List ℕ → List ℕ
-unfolding sumTo anyTo allTo tabulate convert days due callable testable share bitAt number bitsOf spell byteOf bytesOf pack encode itemsIn times rulesTo rulesFor recordQuestions firstFailed kindOf headOf rulesOf numbersOf isKind isWhole permits permitted isFilled rises idsRise row listed reduction deficit known seller area zone product committed rate obligation beforeCap raised unforced ofSeller shareOf called calls shortfallOver u cap daily taken charge excess e creditShare creditLimit creditOf B testOf compliance test credit charges credits lse amounts countTo difference hasRegistration hasObligation sellerColumns lineFields linesTo statementFields statementOf value42 namedHead withItem withItems listingTo listingIn inArea inGroup everyListed deficitsListed listsExactly inTime q6 q7 q8 q9 q10 q11 q12 q13 q14 q15 q16 questions valuesOf postNumber yearBy bufferWith yearAfter bufferAfter digitsTo decimal cents refusalLine linesFrom monthLine partyLine statementLines answerLines bytes recordNumber consumed recordsTo accepts closes buffered step run statements callsOf numbers answerText textOf
+unfolding sumTo anyTo allTo tabulate convert days due callable testable share bitAt number bitsOf spell byteOf bytesOf pack encode itemsIn times rulesTo rulesFor recordQuestions firstFailed kindOf headOf rulesOf numbersOf isKind isWhole permits permitted isFilled rises idsRise listed reduction deficit known seller area zone product committed rate obligation beforeCap raised unforced ofSeller shareOf called calls shortfallOver u cap daily taken charge excess e creditShare creditLimit creditOf B testOf compliance test credit charges credits lse amounts countTo difference hasRegistration hasObligation sellerColumns lineFields linesTo statementFields statementOf value42 namedHead withItem withItems listingTo listingIn inArea inGroup everyListed deficitsListed listsExactly inTime q6 q7 q8 q9 q10 q11 q12 q13 q14 q15 q16 questions postNumber yearBy bufferWith yearAfter bufferAfter digitsTo decimal cents refusalLine linesFrom monthLine partyLine statementLines answerLines bytes recordNumber consumed recordsTo isAccepted isClosing buffered step run answered gather lastOr termsIn eventsIn testsIn recorded callsOf answerText textOf
 bill file = billText file blank
 
 -- Year A: each record's number, the buffer that each is lent (as the one before left it; one record more shows what the last leaves), the
 -- statement, and the printed lines. Of the others: 400 kW convert to 396, less 100 is 296:
 -- × 10,000 / 52 = 56,923 a day, × 366 / 1,000 = 20,833; 500 kW convert to 495, less 50 is 445: × 18,000 × 366 / 1,000 = 2,931,660.
-figures : (numbers newYear (callsIn yearA blank) ≡ 0 ∷ 0 ∷ 0 ∷ 0 ∷ 0 ∷ 0 ∷ 0 ∷ 15 ∷ [])
+figures : (numbers (answers newYear (callsIn yearA blank)) ≡ 0 ∷ 0 ∷ 0 ∷ 0 ∷ 0 ∷ 0 ∷ 0 ∷ 15 ∷ [])
     × (map (λ c. c .buffer) (callsIn (yearA ++ (0x61 ∷ [])) blank) ≡ blank ∷ blank ∷ blank ∷ blank ∷ blank ∷ blank ∷ blank ∷ stated ∷ stated ∷ [])
-    × (statements newYear (callsIn yearA blank) ≡ stated ∷ [])
+    × (statements (answers newYear (callsIn yearA blank)) ≡ stated ∷ [])
     × (bill yearA ≡ bytes "M 1\nS 0 0 147600 0\nS 1 0 0 0\nL 0 110700\nL 1 36900\nN 8 15\n")
     × (bill others ≡ [])
-    × (compliance (factsOf (run newYear (callsIn others blank))) 13 3 ≡ 20833) × (test (factsOf (run newYear (callsIn others blank))) 13 4 ≡ 2931660) × (lse (factsOf (run newYear (callsIn others blank))) 13 5 ≡ 2952493)
+    × (compliance (factsIn (acceptedIn (answers newYear (callsIn others blank)))) 13 3 ≡ 20833) × (test (factsIn (acceptedIn (answers newYear (callsIn others blank)))) 13 4 ≡ 2931660) × (lse (factsIn (acceptedIn (answers newYear (callsIn others blank)))) 13 5 ≡ 2952493)
 unfolding bill
 figures = (refl, refl, refl, refl, refl, refl, refl, refl)
 
@@ -115,3 +121,25 @@ event-figures : bill withEvents
     ++ bytes "M 6\nS 0 -63551 0 0\nS 1 0 0 9000\nL 0 -54413\nL 1 -18138\n"
 unfolding bill
 event-figures = refl
+
+-- Year A's close, after the six records before it: it is accepted, so demand 3's claims at a close are made of it; and what they say there.
+abbrev earlier : List Call
+earlier = callsIn (parties ++ juneTest) blank
+
+abbrev close : Call
+close = record { bytes = 0x61 ∷ []; buffer = blank }
+
+abbrev before : List Answered
+before = answers newYear earlier
+
+closed : isClosing (shown (run newYear earlier) close) ≡ true
+unfolding bill
+closed = refl
+
+claimed : AtClose before (shown (run newYear earlier) close)
+claimed = demand3 (earlier ++ close ∷ []) .closed before (shown (run newYear earlier) close) [] (answers-more newYear earlier close) closed
+
+claim-figures : (test (factsIn (acceptedIn before)) 1 0 ≡ 147600) × (lse (factsIn (acceptedIn before)) 1 0 ≡ 110700) × (lse (factsIn (acceptedIn before)) 1 1 ≡ 36900)
+    × (hasRegistration (termsIn (acceptedIn before)) 0 ≡ true) × (hasObligation (termsIn (acceptedIn before)) 1 ≡ true)
+unfolding bill
+claim-figures = (refl, refl, refl, refl, refl)

@@ -1,19 +1,22 @@
 -- `book::post` meets its contract: a thin join of the parts. Assumes nothing.
 use borrow.Author.Needs.{needs}
-use mathlib.Core.Path.{_≡_, refl, sym, _∙_}
+use mathlib.Core.Path.{_≡_, refl, sym, ap, _∙_}
 use native.Mathlib.Omega.{arith}
 use lib.ListN.{length}
 use Rattle.ids.specs.Ids.{at}
 use Rattle.layouts.specs.Layout.{most}
-use Rattle.layouts.specs.Questions.{recordNumber}
+use Rattle.layouts.specs.Questions.{firstFailed, numbersOf, recordNumber, row}
 use Rattle.records.specs.Accepted.{accepted}
 use Rattle.year.specs.Sound.{SoundListing}
 use Rattle.cells.specs.Layout.{listingAt, yearIn}
+use Rattle.heads.specs.Record.{Record}
+use Rattle.heads.specs.RecordLaws.{record-row}
 use Rattle.heads.specs.Listed.{sound-listed}
 use Rattle.heads.specs.Within.{Within}
-use Rattle.questions.specs.Questions.{inTime}
+use Rattle.questions.specs.Questions.{inTime, questions}
 use Rattle.questions.specs.Admitted.{admitted}
-use Rattle.book.specs.Outcome.{valuesOf, postNumber}
+use Rattle.recorded.specs.After.{yearWith}
+use Rattle.book.specs.Outcome.{postNumber, bufferWith, writtenWith}
 use Rattle.book.specs.Numbers.{record-refused, record-accepted}
 use Rattle.book.specs.Made.{values-long, within, permits}
 use Rattle.book.specs.Kept.{suits}
@@ -30,8 +33,7 @@ use Rattle.records.proofs.parse.Reads as parse-reads
 quiet : (c : tie.Else1) → recordNumber (c .before .before .before .before .before .before .before .args .bytes .now) ≡ 0
 quiet c = sym (c .before .before .before .parse .ensures .numbers) ∙ c .if1 .left
 
-rows : (c : tie.Else1) → c .before .before .before .parse .last .1 .0 ≡ valuesOf (c .before .before .before .before .before .before .before .args .bytes .now)
-unfolding valuesOf
+rows : (c : tie.Else1) → c .before .before .before .parse .last .1 .0 ≡ row (numbersOf (c .before .before .before .before .before .before .before .args .bytes .now))
 rows c = c .before .before .before .parse .ensures .rows (quiet c)
 
 long : (c : tie.Else1) → length (c .before .before .before .parse .last .1 .0) ≡ most
@@ -43,6 +45,7 @@ answered c =
     let a = c .before .before .before .before .before .before .before .before .before .before .before .before .before .before .before .args in
     let one = c .before .before .before .before .before .before .before .before in
     rw (c .before .before .before .before .before .before .head-of .ensures, c .before .before .before .spread .ensures .lists, rows one) at (c .number-of .ensures)
+    ∙ ap (λ (r : Record). firstFailed (questions inTime (yearIn (a .year .now)) r (length (a .buffer .now)))) (record-row (numbersOf (a .bytes .now)))
     ∙ sym (record-accepted (yearIn (a .year .now)) (a .bytes .now) (length (a .buffer .now)) (quiet one))
 
 returns : tie.Need-returns
@@ -96,9 +99,13 @@ returns-3 c =
     let named = c .before .before .before .before .before .before .before .before .before .before .before .before .before .head-of .ensures in
     let one = c .before .before .before .before .before .before .before .before .before .before .before .before .before .before .before in
     let a = one .before .before .before .before .before .before .before .args in
+    let y = yearIn (a .year .now) in
+    let same = record-row (numbersOf (a .bytes .now)) in
     let posts =
-    accepts (yearIn (a .year .now)) (a .bytes .now) (a .buffer .now) (sym (c .before .before .before .before .before .before .if2 .left) ∙ answered (c .before .before .before .before .before .before .before)) (one .before .before .before .parse .ensures .uses)
-    (rw (named, spread, rows one) at (taken .1 .1 .1)) (rw (named, spread, rows one) at (taken .0)) (rw (named, spread, rows one) at (taken .1 .1 .0)) in
+    accepts y (a .bytes .now) (a .buffer .now) (sym (c .before .before .before .before .before .before .if2 .left) ∙ answered (c .before .before .before .before .before .before .before)) (one .before .before .before .parse .ensures .uses)
+    ((rw (named, spread, rows one) at (taken .1 .1 .1)) ∙ ap (λ (r : Record). writtenWith y r) same)
+    ((rw (named, spread, rows one) at (taken .0)) ∙ ap (λ (r : Record). yearWith y r) same)
+    ((rw (named, spread, rows one) at (taken .1 .1 .0)) ∙ ap (λ (r : Record). bufferWith y r (a .buffer .now)) same) in
     (posts, ((λ n. absurd (n refl)), taken .1 .0))
 
 pub post-spec : {M : Type 1} → statement M

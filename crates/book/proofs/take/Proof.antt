@@ -3,7 +3,8 @@ use borrow.Author.Needs.{needs}
 use native.Mathlib.Omega.{arith}
 use borrow.Author.Tests.{leb-true}
 use Rattle.questions.specs.Questions.{q16}
-use Rattle.book.specs.Outcome.{yearBy, bufferWith, writtenWith}
+use Rattle.recorded.specs.After.{yearBy}
+use Rattle.book.specs.Outcome.{bufferWith, writtenWith}
 use Rattle.book.specs.Kept.{Suits}
 use Rattle.book.proofs.take.Statement.{statement}
 use Rattle.book.proofs.take.Tie as tie

@@ -1,0 +1,64 @@
+-- Demand 3 speaks of variants that there are: H is one of itself, and for every choice of reductions from 0 to 100,000 the record that writing gives is one.
+use Prim.Native.Nat.{ℕ, _≤_}
+use mathlib.Core.Bool.{Bool, true, false, cond}
+use mathlib.Core.List.{List, [], _∷_, _++_}
+use mathlib.Core.Path.{_≡_, refl, sym, ap, _∙_}
+use lib.ListN.{length, drop}
+use lib.Seq.{drop-at}
+use Rattle.ids.specs.Ids.{at}
+use Rattle.ids.specs.Tables.{is-tabulate}
+use Rattle.layouts.specs.Layout.{sizeOf}
+use Rattle.layouts.specs.Reductions.{isReduction}
+use Rattle.layouts.specs.Questions.{numbersOf, rulesBy, consumed}
+use Rattle.layouts.specs.QuestionLaws.{rules-by}
+use Rattle.records.specs.Calls.{bytesBy}
+use Rattle.records.specs.Accepted.{not-failed, numbers-count}
+use Rattle.records.specs.RoundTrip.{write-reads}
+use Rattle.year.specs.declared.Terms.{Terms}
+use Rattle.year.specs.declared.Year.{Year}
+use Rattle.year.specs.Year.{newYear}
+use Rattle.heads.specs.Record.{Record}
+use Rattle.recorded.specs.Recorded.{termsIn}
+use Rattle.history.specs.Runs.{Call, recordFrom, isOwn, replaced, Varied, refused, accepted, Variant, done, next}
+use Rattle.history.specs.Taking.{shown, step, answered, answers, accepts}
+use Rattle.history.specs.Admitted.{accepted-record}
+use Rattle.history.specs.Replaced.{writes}
+use Rattle.history.specs.Paired.{permitted-numbers}
+
+-- each number in its own place
+same-numbers : (T : Terms) (s : ℕ) (vs : List ℕ) → vs ≡ replaced T s (at vs) vs
+unfolding replaced
+same-numbers T s vs = is-tabulate _ (length vs) 0 vs refl (λ j l. go j (isReduction (isOwn T s) vs j))
+  where
+    go : (j : ℕ) (b : Bool) → at vs j ≡ cond b (at vs j) (at vs j)
+    go j true = refl
+    go j false = refl
+
+module _ (s : ℕ) (rs : List Record) (y : Year) (c : Call) where
+  itself : Varied s rs (shown y c) c
+  itself = go (accepts y c) refl
+    where
+      go : (t : Bool) → accepts y c ≡ t → Varied s rs (shown y c) c
+      go false e = refused e refl refl
+      go true e =
+          accepted e (not-failed (c .bytes) (accepted-record y c e)) (at (numbersOf (c .bytes))) (same-numbers (termsIn rs) s (numbersOf (c .bytes))) refl refl
+
+  -- the record with the reductions f, written
+  pub chosen : accepts y c ≡ true → (f : ℕ → ℕ) → ((j : ℕ) → f j ≤ 100000) → (buffer : List ℕ) → length buffer ≡ length (c .buffer)
+      → Varied s rs (shown y c) (record { bytes = bytesBy (replaced (termsIn rs) s f (numbersOf (c .bytes))) ++ drop (consumed (c .bytes)) (c .bytes); buffer = buffer })
+  chosen e f small buffer l =
+      let a = accepted-record y c e in
+      let r = rules-by (c .bytes) (a .kind) in
+      let ws = replaced (termsIn rs) s f (numbersOf (c .bytes)) in
+      let rest = drop (consumed (c .bytes)) (c .bytes) in
+      let ok = writes (termsIn rs) s f (numbersOf (c .bytes)) (permitted-numbers (c .bytes) a) small (numbers-count (c .bytes) ∙ ap length (sym r)) (a .rise) in
+      let back = write-reads ws (sizeOf (rulesBy ws)) ok rest in
+      accepted e (back .accepts) f (back .numbers) (drop-at (bytesBy ws) rest (consumed (bytesBy ws ++ rest)) (sym (back .uses))) l
+
+pub variant-itself : (s : ℕ) (H : List Call) → Variant s [] (answers newYear H) H
+unfolding answered
+variant-itself s H = go [] newYear H
+  where
+    go : (rs : List Record) (y : Year) (cs : List Call) → Variant s rs (answers y cs) cs
+    go rs y [] = done
+    go rs y (c ∷ cs) = next (itself s rs y c) (go (rs ++ recordFrom (shown y c)) (step y c) cs)

@@ -1,0 +1,40 @@
+-- The year after an accepted record, by its kind.
+use Prim.Native.Nat.{ℕ}
+use mathlib.Core.Bool.{true}
+use Rattle.year.specs.declared.Registration.{Registration}
+use Rattle.year.specs.declared.Listing.{Listing}
+use Rattle.year.specs.declared.Event.{Event}
+use Rattle.year.specs.declared.Test.{Test}
+use Rattle.year.specs.declared.Year.{Year}
+use Rattle.year.specs.Year.{testPlace}
+use Rattle.year.specs.Steps.{withOpening, withRegistration, withLse, withEvent, withTest, withClose}
+use Rattle.owed.specs.Facts.{factsOf}
+use Rattle.owed.specs.Owed.{amounts}
+use Rattle.heads.specs.declared.RegistrationHead.{RegistrationHead}
+use Rattle.heads.specs.declared.EventHead.{EventHead}
+use Rattle.heads.specs.declared.TestHead.{TestHead}
+use Rattle.heads.specs.declared.Head.{Head}
+use Rattle.heads.specs.declared.Head.the-variants as head
+use Rattle.heads.specs.Record.{Record}
+
+-- what a registration registers, and what an event and a test are with what they list
+abbrev pub registrationOf : RegistrationHead → Registration
+registrationOf r =
+    record { known = true; seller = r .seller; area = r .area; zone = r .zone; product = r .product; committed = record { 0 = r .committed }; rate = r .rate }
+
+abbrev pub eventOf : EventHead → Listing → Event
+eventOf e l = record { area = e .area; month = e .month; period = e .period; listing = l }
+
+abbrev pub testOf : TestHead → Listing → Test
+testOf t l = record { taken = true; month = t .month; listing = l }
+
+unfoldable pub yearBy : Year → Listing → Head → Year
+yearBy y l (head.Opening o) = withOpening y (o .leap) (o .factor) (o .requirement)
+yearBy y l (head.Registration r) = withRegistration y (r .id) (registrationOf r)
+yearBy y l (head.Lse j) = withLse y (j .id) (j .obligation)
+yearBy y l (head.Event e) = withEvent y (eventOf e l)
+yearBy y l (head.Test t) = withTest y (testPlace (t .zone) (t .product)) (testOf t l)
+yearBy y l (head.Close c) = withClose y (amounts (factsOf y) (c .month))
+
+abbrev pub yearWith : Year → Record → Year
+yearWith y r = yearBy y (r .listing) (r .head)

@@ -1,0 +1,86 @@
+-- The year that the book keeps after a list of accepted records has just what they say.
+use Prim.Native.Nat.{ℕ, zero, suc, _+_, _-_, _<_}
+use mathlib.Core.Bool.{Bool, true, false, cond}
+use mathlib.Core.List.{List, [], _∷_, _++_, append-assoc, append-nil}
+use mathlib.Core.Path.{_≡_, refl, sym, ap, _∙_, fun-ext}
+use native.Mathlib.Omega.{arith}
+use lib.ListN.{length, getD, replicate}
+use Rattle.ids.specs.Ids.{tabulate}
+use Rattle.ids.specs.Sets.{getD-replicate-same}
+use Rattle.year.specs.declared.Listing.{Listing}
+use Rattle.year.specs.declared.Event.{Event}
+use Rattle.year.specs.declared.Amounts.{Amounts}
+use Rattle.year.specs.declared.Year.{Year}
+use Rattle.year.specs.Year.{newYear, noEvent, noAmounts, pastEvent, listed, reduction, deficit}
+use Rattle.owed.specs.Facts.{factsOf}
+use Rattle.owed.specs.Owed.{amounts}
+use Rattle.heads.specs.declared.EventHead.{EventHead}
+use Rattle.heads.specs.declared.Head.{Head}
+use Rattle.heads.specs.declared.Head.the-variants as head
+use Rattle.heads.specs.Record.{Record, forClose}
+use Rattle.recorded.specs.After.{eventOf, yearBy}
+use Rattle.recorded.specs.Recorded.{gather, lastOr, event, termsIn, eventsIn, testsIn, factsIn, recorded}
+use Rattle.recorded.specs.Gathered.{gather-more, some-more, last-more, last-alone, set-table, set-filled, length-more}
+
+-- the amounts to date at a close, by the records before it, and at each close among records
+abbrev billedAt : List Record → Record → List Amounts
+billedAt before r = forClose (λ c. amounts (factsIn before) (c .month) ∷ []) (λ h. []) (r .head)
+
+unfoldable pub billedIn : List Record → List Record → List Amounts
+billedIn before [] = []
+billedIn before (r ∷ rs) = billedAt before r ++ billedIn (before ++ r ∷ []) rs
+
+billed-more : (before rs : List Record) (r : Record) → billedIn before (rs ++ r ∷ []) ≡ billedIn before rs ++ billedAt (before ++ rs) r
+unfolding billedIn
+billed-more before [] r = rw (append-nil before) (append-nil (billedAt before r))
+billed-more before (x ∷ rs) r =
+    rw (billed-more (before ++ x ∷ []) rs r, append-assoc before (x ∷ []) rs)
+    (sym (append-assoc (billedAt before x) (billedIn (before ++ x ∷ []) rs) (billedAt (before ++ x ∷ rs) r)))
+
+-- a year as the book keeps it: with sixteen places for events, and with what was billed last
+abbrev laid : Year → Amounts → Year
+laid y billed =
+    record { opened = y .opened; started = y .started; closed = y .closed; terms = y .terms; events = y .events ++ replicate (16 - y .held) noEvent; held = y .held; tests = y .tests; billed = billed }
+
+unfoldable pub booked : List Record → Year
+booked rs = laid (recorded rs) (lastOr noAmounts (billedIn [] rs))
+
+-- the places behind the events say nothing
+module _ {X : Type 0} (f : Event → X) (blank : f noEvent ≡ f pastEvent) where
+  behind : (n ev : ℕ) → f (getD (replicate n noEvent) ev pastEvent) ≡ f pastEvent
+  behind zero ev = refl
+  behind (suc n) zero = blank
+  behind (suc n) (suc ev) = behind n ev
+
+  padded : (es : List Event) (n ev : ℕ) → f (getD (es ++ replicate n noEvent) ev pastEvent) ≡ f (getD es ev pastEvent)
+  padded [] n ev = behind n ev
+  padded (x ∷ es) n zero = refl
+  padded (x ∷ es) n (suc ev) = padded es n ev
+
+pub facts-booked : (rs : List Record) → factsOf (booked rs) ≡ factsIn rs
+unfolding booked recorded listed reduction deficit
+facts-booked rs =
+    let es = eventsIn rs in
+    let n = 16 - length es in
+    let month = fun-ext (padded (λ e. e .month) refl es n) in
+    let period = fun-ext (padded (λ e. e .period) refl es n) in
+    let listed = fun-ext (padded (λ e. listed (e .listing)) (fun-ext (λ i. getD-replicate-same 64 i false)) es n) in
+    let reduction = fun-ext (padded (λ e. reduction (e .listing)) (fun-ext (λ i. getD-replicate-same 64 i 0)) es n) in
+    let deficit = fun-ext (padded (λ e. deficit (e .listing)) (fun-ext (λ s. getD-replicate-same 16 s 0)) es n) in
+    cc
+
+module _ (rs : List Record) (l : Listing) where
+  pub booked-more : (h : Head) → ((e : EventHead) → h ≡ head.Event e → booked rs .held < 16)
+      → yearBy (booked rs) l h ≡ booked (rs ++ record { head = h; listing = l } ∷ [])
+  unfolding yearBy booked recorded termsIn eventsIn testsIn
+  booked-more (head.Opening o) room = simp (gather-more, billed-more, append-nil, some-more, last-more)
+  booked-more (head.Registration r) room = simp (gather-more, billed-more, append-nil, last-alone, set-table)
+  booked-more (head.Lse j) room = simp (gather-more, billed-more, append-nil, last-alone, set-table)
+  booked-more (head.Event e) room =
+      simp (gather-more, billed-more, append-nil, some-more, set-filled (gather event rs) 16 noEvent (eventOf e l) (room e refl)) (simp length-more)
+  booked-more (head.Test t) room = simp (gather-more, billed-more, append-nil, some-more, last-alone, set-table)
+  booked-more (head.Close c) room = simp (gather-more, billed-more, append-nil, some-more, last-more, facts-booked) (simp length-more)
+
+pub booked-new : booked [] ≡ newYear
+unfolding booked recorded termsIn eventsIn testsIn billedIn gather lastOr tabulate
+booked-new = refl

@@ -1,0 +1,98 @@
+-- What a list of accepted records says (document 01, 'The lists of demand 3'), read off the list: terms, events, tests, and the year that has just these.
+use Prim.Native.Nat.{ℕ}
+use mathlib.Core.Bool.{Bool, true, cond}
+use mathlib.Core.List.{List, [], _∷_, _++_}
+use lib.Dec.{eqb, ltb}
+use lib.ListN.{length}
+use Rattle.ids.specs.Ids.{tabulate}
+use Rattle.year.specs.declared.Registration.{Registration}
+use Rattle.year.specs.declared.Event.{Event}
+use Rattle.year.specs.declared.Test.{Test}
+use Rattle.year.specs.declared.Terms.{Terms}
+use Rattle.year.specs.declared.Year.{Year}
+use Rattle.year.specs.Year.{noRegistration, noTest, noAmounts, testPlace}
+use Rattle.owed.specs.Facts.{Facts, registrations, lses, places, factsOf}
+use Rattle.heads.specs.declared.OpeningHead.{OpeningHead}
+use Rattle.heads.specs.declared.CloseHead.{CloseHead}
+use Rattle.heads.specs.declared.Head.{Head}
+use Rattle.heads.specs.Record.{Record, forOpening, forRegistration, forLse, forEvent, forTest, forClose}
+use Rattle.recorded.specs.After.{registrationOf, eventOf, testOf}
+
+-- what f takes out of each element, in order
+unfoldable pub gather : {A B : Type 0} → (A → List B) → List A → List B
+gather f [] = []
+gather f (x ∷ xs) = f x ++ gather f xs
+
+-- the last of a list, or d
+unfoldable pub lastOr : {A : Type 0} → A → List A → A
+lastOr d [] = d
+lastOr d (x ∷ xs) = lastOr x xs
+
+-- x alone if b, else nothing
+abbrev pub alone : {A : Type 0} → Bool → A → List A
+alone b x = cond b (x ∷ []) []
+
+abbrev none : {A : Type 0} → Head → List A
+none h = []
+
+-- of one record: an opening, the registration of id i, LSE j's obligation, an event, the test at a place, a close
+abbrev pub opening : Record → List OpeningHead
+opening r = forOpening (λ o. o ∷ []) none (r .head)
+
+abbrev pub registrationFor : ℕ → Record → List Registration
+registrationFor i r = forRegistration (λ q. alone (eqb (q .id) i) (registrationOf q)) none (r .head)
+
+abbrev pub obligationFor : ℕ → Record → List ℕ
+obligationFor j r = forLse (λ q. alone (eqb (q .id) j) (q .obligation)) none (r .head)
+
+abbrev pub event : Record → List Event
+event r = forEvent (λ e. eventOf e (r .listing) ∷ []) none (r .head)
+
+abbrev pub testFor : ℕ → Record → List Test
+testFor p r = forTest (λ t. alone (eqb (testPlace (t .zone) (t .product)) p) (testOf t (r .listing))) none (r .head)
+
+abbrev pub close : Record → List CloseHead
+close r = forClose (λ c. c ∷ []) none (r .head)
+
+-- is it an event, a test or a close
+abbrev pub begins : Record → List Bool
+begins r = forEvent (λ e. true ∷ []) (forTest (λ t. true ∷ []) (forClose (λ c. true ∷ []) none)) (r .head)
+
+-- of a list of accepted records. Ids are new where they are accepted, and so is a test's zone and product, so there is at most one of each
+module _ (rs : List Record) where
+  unfoldable pub termsIn : Terms
+  termsIn =
+      let o = lastOr (record { leap = 0; factor = 0; requirement = 0 }) (gather opening rs) in
+      record {
+        leap = o .leap;
+        factor = o .factor;
+        requirement = o .requirement;
+        registrations = tabulate registrations (λ i. lastOr noRegistration (gather (registrationFor i) rs));
+        obligations = tabulate lses (λ j. lastOr 0 (gather (obligationFor j) rs));
+      }
+
+  -- in order of acceptance
+  unfoldable pub eventsIn : List Event
+  eventsIn = gather event rs
+
+  -- by place
+  unfoldable pub testsIn : List Test
+  testsIn = tabulate places (λ p. lastOr noTest (gather (testFor p) rs))
+
+  -- the year of these; what is billed, which neither the questions nor the rules read, stays out
+  unfoldable pub recorded : Year
+  recorded =
+      record {
+        opened = ltb 0 (length (gather opening rs));
+        started = ltb 0 (length (gather begins rs));
+        closed = length (gather close rs);
+        terms = termsIn;
+        events = eventsIn;
+        held = length eventsIn;
+        tests = testsIn;
+        billed = noAmounts;
+      }
+
+  -- what the rules read of it
+  abbrev pub factsIn : Facts
+  factsIn = factsOf recorded

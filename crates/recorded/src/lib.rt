@@ -1,0 +1,1 @@
+// What accepted records say: definitions and laws, in specs/.
