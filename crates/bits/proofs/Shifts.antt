@@ -7,7 +7,7 @@ use native.Mathlib.Omega.{arith}
 use lib.ListN.{getD}
 use lib.Pow.{pow-add, shl-exact, shl-lt, shl-shr, shr-shr, low, field}
 use lib.Bits.{bitAnd, bitOr, and-mask, or-shifted}
-use Rattle.bits.specs.Bits.{number, fieldAt}
+use Rattle.bits.specs.Bits.{fieldAt}
 use Rattle.bits.specs.BitLaws.{field-lt, field-split, field-mid, byte-field}
 
 -- a one shifted left

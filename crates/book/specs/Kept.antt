@@ -1,13 +1,13 @@
 -- Every call leaves a sound year sound.
 use Prim.Native.Nat.{ℕ, _+_, _*_, _≤_, _<_}
-use mathlib.Core.Bool.{Bool, true, false, not, _&&_, _||_, cond, and-eq-true-iff}
+use mathlib.Core.Bool.{Bool, true, false, not, _&&_, _||_, cond}
 use mathlib.Core.List.{List}
 use mathlib.Core.Path.{_≡_, refl, ap, subst, _∙_}
 use native.Mathlib.Omega.{arith}
 use lib.Dec.{eqb}
 use lib.ListN.{getD}
 use borrow.Author.Tests.{eqb-true}
-use Rattle.ids.specs.Tests.{all-at}
+use Rattle.ids.specs.Tests.{and-parts, all-at}
 use Rattle.layouts.specs.Questions.{firstFailed, numbersOf, row}
 use Rattle.year.specs.declared.Listing.{Listing}
 use Rattle.year.specs.declared.Terms.{Terms}
@@ -48,8 +48,8 @@ own-place : {T : Terms} → SoundTerms T → (l : Listing) (z p : ℕ) → every
 unfolding everyListed inGroup
 own-place {T} s l z p e i m t =
     let here : inGroup T z p i ≡ true = rw t at (all-at (size T) (λ j. not (listed l j) || inGroup T z p j) e i (omega (arith, size-is s))) in
-    let places = and-eq-true-iff (known T i) (eqb (zone T i) z && eqb (product T i) p) .0 here .1 in
-    let both = and-eq-true-iff (eqb (zone T i) z) (eqb (product T i) p) .0 places in
+    let places = and-parts (known T i) (eqb (zone T i) z && eqb (product T i) p) here .1 in
+    let both = and-parts (eqb (zone T i) z) (eqb (product T i) p) places in
     omega (arith, eqb-true (zone T i) z (both .0), eqb-true (product T i) p (both .1))
 
 module _ {y : Year} (s : Sound y) where

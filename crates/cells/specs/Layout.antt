@@ -33,22 +33,22 @@ abbrev pub eventAt : (ℕ → ℕ) → Event
 eventAt g = record { area = g 0; month = g 1; period = g 2; listing = listingAt (λ k. g (3 + k)) }
 
 -- the terms
-unfoldable pub registrationsHeld : List ℕ → List Registration
-registrationsHeld c = rows registrationAt 7 64 7 c
+unfoldable pub cellRegistrations : List ℕ → List Registration
+cellRegistrations c = rows registrationAt 7 64 7 c
 
-unfoldable pub obligationsHeld : List ℕ → List ℕ
-obligationsHeld c = tabulate 16 (from 455 c)
+unfoldable pub cellObligations : List ℕ → List ℕ
+cellObligations c = tabulate 16 (from 455 c)
 
-abbrev pub termsHeld : List ℕ → Terms
-termsHeld c =
-    record { leap = at c 4; factor = at c 5; requirement = at c 6; registrations = registrationsHeld c; obligations = obligationsHeld c }
+abbrev pub cellTerms : List ℕ → Terms
+cellTerms c =
+    record { leap = at c 4; factor = at c 5; requirement = at c 6; registrations = cellRegistrations c; obligations = cellObligations c }
 
-unfoldable pub eventsHeld : List ℕ → List Event
-eventsHeld c = rows eventAt 147 16 471 c
+unfoldable pub cellEvents : List ℕ → List Event
+cellEvents c = rows eventAt 147 16 471 c
 
 -- the place of registration i's test
 unfoldable pub placeIn : List ℕ → ℕ → ℕ
-placeIn c i = 3 * zone (termsHeld c) i + product (termsHeld c) i
+placeIn c i = 3 * zone (cellTerms c) i + product (cellTerms c) i
 
 -- the test at place k: a row of 18 cells, and of the entries of all tests those whose registrations have this place
 module _ (place : ℕ → ℕ) (entries : ℕ → ℕ) (k : ℕ) where
@@ -59,17 +59,17 @@ module _ (place : ℕ → ℕ) (entries : ℕ → ℕ) (k : ℕ) where
   testAt g =
       record { taken = flag (g 0); month = g 1; listing = record { listed = tabulate 64 entryAt; reductions = tabulate 64 (λ i. cond (entryAt i) (entries (64 + i)) 0); deficits = tabulate 16 (λ j. g (2 + j)) } }
 
-unfoldable pub testsHeld : List ℕ → List Test
-testsHeld c = tabulate 24 (λ k. testAt (placeIn c) (from 3255 c) k (from (2823 + 18 * k) c))
+unfoldable pub cellTests : List ℕ → List Test
+cellTests c = tabulate 24 (λ k. testAt (placeIn c) (from 3255 c) k (from (2823 + 18 * k) c))
 
-unfoldable pub billedHeld : List ℕ → Amounts
-billedHeld c =
+unfoldable pub cellBilled : List ℕ → Amounts
+cellBilled c =
     record { compliance = tabulate 16 (from 3383 c); test = tabulate 16 (from 3399 c); credit = tabulate 16 (from 3415 c); lse = tabulate 16 (from 3431 c) }
 
 -- the year in the cells
 abbrev pub yearIn : List ℕ → Year
 yearIn c =
-    record { opened = flag (at c 3); started = flag (at c 1); closed = at c 0; terms = termsHeld c; events = eventsHeld c; held = at c 2; tests = testsHeld c; billed = billedHeld c }
+    record { opened = flag (at c 3); started = flag (at c 1); closed = at c 0; terms = cellTerms c; events = cellEvents c; held = at c 2; tests = cellTests c; billed = cellBilled c }
 
 -- what is asked and kept of the cells: there are 3447, and their year is sound
 pub record Held (c : List ℕ) : Type 0 where

@@ -1,19 +1,19 @@
 -- The parts of the year in its cells: each element of a table, what stays where the cells do, and the year where all cells are 0.
 use Prim.Native.Nat.{ℕ, _+_, _*_, _<_}
 use mathlib.Core.Path.{_≡_, refl, _∙_}
-use mathlib.Core.Bool.{Bool, false, _&&_, cond}
-use mathlib.Core.List.{List, [], _∷_}
+use mathlib.Core.Bool.{false, cond}
+use mathlib.Core.List.{List}
 use native.Mathlib.Omega.{arith}
-use lib.Dec.{eqb, lit<, lit≤}
+use lib.Dec.{lit<, lit≤}
 use lib.ListN.{getD, replicate}
 use Rattle.ids.specs.Ids.{at, tabulate}
 use Rattle.ids.specs.Tables.{tabulate-same, getD-tabulate}
 use Rattle.year.specs.declared.Registration.{Registration}
 use Rattle.year.specs.declared.Event.{Event}
 use Rattle.year.specs.declared.Test.{Test}
-use Rattle.year.specs.Year.{newYear, noRegistration, noEvent, noTest, pastEvent, listed, zone, product}
-use Rattle.cells.specs.Rows.{Same, same-in, from, View, rows, numbers-kept, same-row, rows-kept, row-at, table-of}
-use Rattle.cells.specs.Layout.{flag, registrationAt, listingAt, eventAt, registrationsHeld, obligationsHeld, termsHeld, eventsHeld, placeIn, entryAt, testAt, testsHeld, billedHeld, yearIn}
+use Rattle.year.specs.Year.{newYear, noEvent, noTest, pastEvent, listed, zone, product}
+use Rattle.cells.specs.Rows.{Same, same-in, from, View, numbers-kept, same-row, rows-kept, row-at, table-of}
+use Rattle.cells.specs.Layout.{flag, registrationAt, listingAt, eventAt, cellRegistrations, cellObligations, cellTerms, cellEvents, placeIn, entryAt, testAt, cellTests, cellBilled, yearIn}
 
 pub registration-view : View 7 registrationAt
 registration-view g h e =
@@ -46,41 +46,41 @@ test-same k p q g h x y row entries =
 
 -- an element of a table
 module _ (c : List ℕ) where
-  pub registration-in : {i : ℕ} (d : Registration) → i < 64 → getD (registrationsHeld c) i d ≡ registrationAt (from (7 + 7 * i) c)
-  unfolding registrationsHeld
+  pub registration-in : {i : ℕ} (d : Registration) → i < 64 → getD (cellRegistrations c) i d ≡ registrationAt (from (7 + 7 * i) c)
+  unfolding cellRegistrations
   registration-in {i} d l = row-at registration-view 64 7 i c d l
 
-  pub obligation-in : {j : ℕ} → j < 16 → at (obligationsHeld c) j ≡ at c (455 + j)
-  unfolding obligationsHeld
+  pub obligation-in : {j : ℕ} → j < 16 → at (cellObligations c) j ≡ at c (455 + j)
+  unfolding cellObligations
   obligation-in {j} l = getD-tabulate (from 455 c) 16 j 0 l
 
-  pub event-in : {e : ℕ} (d : Event) → e < 16 → getD (eventsHeld c) e d ≡ eventAt (from (471 + 147 * e) c)
-  unfolding eventsHeld
+  pub event-in : {e : ℕ} (d : Event) → e < 16 → getD (cellEvents c) e d ≡ eventAt (from (471 + 147 * e) c)
+  unfolding cellEvents
   event-in {e} d l = row-at event-view 16 471 e c d l
 
-  pub listed-in : {e i : ℕ} → e < 16 → i < 64 → listed (getD (eventsHeld c) e pastEvent .listing) i ≡ flag (at c (471 + 147 * e + (3 + i)))
+  pub listed-in : {e i : ℕ} → e < 16 → i < 64 → listed (getD (cellEvents c) e pastEvent .listing) i ≡ flag (at c (471 + 147 * e + (3 + i)))
   unfolding listed
   listed-in {e} {i} l m = rw (event-in pastEvent l) (getD-tabulate (λ k. flag (at c (471 + 147 * e + (3 + k)))) 64 i false m)
 
-  pub test-in : {k : ℕ} (d : Test) → k < 24 → getD (testsHeld c) k d ≡ testAt (placeIn c) (from 3255 c) k (from (2823 + 18 * k) c)
-  unfolding testsHeld
+  pub test-in : {k : ℕ} (d : Test) → k < 24 → getD (cellTests c) k d ≡ testAt (placeIn c) (from 3255 c) k (from (2823 + 18 * k) c)
+  unfolding cellTests
   test-in {k} d l = getD-tabulate (λ k. testAt (placeIn c) (from 3255 c) k (from (2823 + 18 * k) c)) 24 k d l
 
 -- what stays
-pub places-kept : (c d : List ℕ) → registrationsHeld d ≡ registrationsHeld c → (i : ℕ) → placeIn d i ≡ placeIn c i
+pub places-kept : (c d : List ℕ) → cellRegistrations d ≡ cellRegistrations c → (i : ℕ) → placeIn d i ≡ placeIn c i
 unfolding placeIn zone product
 places-kept c d e i = rw e
 
 module _ {c d : List ℕ} where
-  pub registrations-kept : Same 7 448 c d → registrationsHeld d ≡ registrationsHeld c
-  unfolding registrationsHeld
+  pub registrations-kept : Same 7 448 c d → cellRegistrations d ≡ cellRegistrations c
+  unfolding cellRegistrations
   registrations-kept s = rows-kept registration-view 64 7 s
 
-  pub obligations-kept : Same 455 16 c d → obligationsHeld d ≡ obligationsHeld c
-  unfolding obligationsHeld
+  pub obligations-kept : Same 455 16 c d → cellObligations d ≡ cellObligations c
+  unfolding cellObligations
   obligations-kept s = numbers-kept 16 455 s
 
-  pub terms-kept : Same 4 467 c d → termsHeld d ≡ termsHeld c
+  pub terms-kept : Same 4 467 c d → cellTerms d ≡ cellTerms c
   terms-kept s =
       cc (
         s .cell 0 (lit< tt),
@@ -90,12 +90,12 @@ module _ {c d : List ℕ} where
         obligations-kept (same-in 455 16 (lit≤ tt) (lit≤ tt) s),
       )
 
-  pub events-kept : Same 471 2352 c d → eventsHeld d ≡ eventsHeld c
-  unfolding eventsHeld
+  pub events-kept : Same 471 2352 c d → cellEvents d ≡ cellEvents c
+  unfolding cellEvents
   events-kept s = rows-kept event-view 16 471 s
 
-  pub tests-kept : registrationsHeld d ≡ registrationsHeld c → Same 2823 560 c d → testsHeld d ≡ testsHeld c
-  unfolding testsHeld
+  pub tests-kept : cellRegistrations d ≡ cellRegistrations c → Same 2823 560 c d → cellTests d ≡ cellTests c
+  unfolding cellTests
   tests-kept e s =
       tabulate-same 24
       (λ k l. test-same k (placeIn d) (placeIn c) (from 3255 d) (from 3255 c) (from (2823 + 18 * k) d) (from (2823 + 18 * k) c)
@@ -103,8 +103,8 @@ module _ {c d : List ℕ} where
       (λ i m. let kept = same-in 3255 128 (lit≤ tt) (lit≤ tt) s in
       rw (places-kept c d e i, kept .cell i (omega arith), kept .cell (64 + i) (omega arith)) (refl, refl)))
 
-  pub billed-kept : Same 3383 64 c d → billedHeld d ≡ billedHeld c
-  unfolding billedHeld
+  pub billed-kept : Same 3383 64 c d → cellBilled d ≡ cellBilled c
+  unfolding cellBilled
   billed-kept s =
       cc (
         numbers-kept 16 3383 (same-in 3383 16 (lit≤ tt) (lit≤ tt) s),
@@ -115,7 +115,7 @@ module _ {c d : List ℕ} where
 
 -- where all cells are 0 there is a new year
 pub new-year : (c : List ℕ) → ((k : ℕ) → at c k ≡ 0) → yearIn c ≡ newYear
-unfolding registrationsHeld obligationsHeld eventsHeld testsHeld billedHeld
+unfolding cellRegistrations cellObligations cellEvents cellTests cellBilled
 new-year c z =
     cc (
       z 0,

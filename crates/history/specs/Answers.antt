@@ -1,12 +1,10 @@
 -- What a list of answered calls is made of: each was shown in the year that the calls before it left, and answers the first question that fails, put to the records
 -- accepted before it.
 use Prim.Native.Nat.{ℕ}
-use mathlib.Core.Bool.{Bool}
 use mathlib.Core.List.{List, [], _∷_, _++_, map}
-use mathlib.Core.Path.{_≡_, refl, ap, sym, _∙_}
+use mathlib.Core.Path.{_≡_, refl, ap}
 use native.Mathlib.Omega.{arith}
 use lib.ListN.{length}
-use Rattle.layouts.specs.Questions.{firstFailed}
 use Rattle.year.specs.declared.Year.{Year}
 use Rattle.year.specs.Year.{newYear}
 use Rattle.heads.specs.Record.{Record}

@@ -10,7 +10,7 @@ use Rattle.owed.specs.Facts.{Facts}
 use Rattle.owed.specs.Owed.{compliance, test, credit, lse, revenue}
 use Rattle.statement.specs.Statement.{hasRegistration, hasObligation}
 use Rattle.statement.specs.ReadBack.{complianceIn, testIn, creditIn, lseIn, chargesIn, creditsIn}
-use Rattle.heads.specs.Record.{Record, monthOf}
+use Rattle.heads.specs.Record.{monthOf}
 use Rattle.recorded.specs.Recorded.{gather, alone, termsIn, factsIn, recorded}
 use Rattle.book.specs.Outcome.{recordIn, postNumber}
 use Rattle.history.specs.Runs.{Call, Answered, isClosing, acceptances, acceptedIn, statements, soFar, Variant}

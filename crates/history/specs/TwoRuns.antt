@@ -1,5 +1,5 @@
 -- One law for two runs: years that are related stay so over calls that are paired, and what such calls show is the same.
-use mathlib.Core.List.{List, [], _∷_, _++_}
+use mathlib.Core.List.{List, [], _∷_}
 use mathlib.Core.Path.{_≡_, refl}
 use Rattle.year.specs.declared.Year.{Year}
 use Rattle.recorded.specs.Recorded.{gather}

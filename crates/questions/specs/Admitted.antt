@@ -1,10 +1,11 @@
 -- What a record that passes questions 6 to 16 has: each question's yes, and what it says of the year.
 use Prim.Native.Nat.{ℕ, _+_, _≤_, _<_}
 use mathlib.Core.Path.{_≡_}
-use mathlib.Core.Bool.{Bool, true, false, and-eq-true-iff}
+use mathlib.Core.Bool.{Bool, true, false}
 use lib.Dec.{ltb}
 use lib.ListN.{getD}
 use borrow.Author.Tests.{not-true, ltb-true, leb-true, eqb-true}
+use Rattle.ids.specs.Tests.{and-parts}
 use Rattle.layouts.specs.Questions.{firstFailed}
 use Rattle.records.specs.Accepted.{passed}
 use Rattle.year.specs.declared.Listing.{Listing}
@@ -61,7 +62,7 @@ module _ {rule : ℕ → ℕ → Bool} {y : Year} {l : Listing} {room : ℕ} whe
 
   pub test-group : {t : TestHead} → Admitted rule y (record { head = Test t; listing = l }) room → everyListed (y .terms) l (inGroup (y .terms) (t .zone) (t .product)) ≡ true
   unfolding q10
-  test-group {t} a = and-eq-true-iff (everyListed (y .terms) l (inGroup (y .terms) (t .zone) (t .product))) (deficitsListed (y .terms) l) .0 (a .ten) .0
+  test-group {t} a = and-parts (everyListed (y .terms) l (inGroup (y .terms) (t .zone) (t .product))) (deficitsListed (y .terms) l) (a .ten) .0
 
   pub test-free : {t : TestHead} → Admitted rule y (record { head = Test t; listing = l }) room → getD (y .tests) (testPlace (t .zone) (t .product)) pastTest .taken ≡ false
   unfolding q13
@@ -70,7 +71,7 @@ module _ {rule : ℕ → ℕ → Bool} {y : Year} {l : Listing} {room : ℕ} whe
   module _ {c : CloseHead} (a : Admitted rule y (record { head = Close c; listing = l }) room) where
     pub not-finished : y .closed < 15
     unfolding q6
-    not-finished = ltb-true (y .closed) 15 (and-eq-true-iff (y .opened) (ltb (y .closed) 15) .0 (a .six) .1)
+    not-finished = ltb-true (y .closed) 15 (and-parts (y .opened) (ltb (y .closed) 15) (a .six) .1)
 
     pub next-month : c .month ≡ y .closed + 1
     unfolding q15

@@ -1,5 +1,4 @@
 -- The year after an accepted record, by its kind.
-use Prim.Native.Nat.{ℕ}
 use mathlib.Core.Bool.{true}
 use Rattle.year.specs.declared.Registration.{Registration}
 use Rattle.year.specs.declared.Listing.{Listing}

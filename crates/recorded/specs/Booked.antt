@@ -1,9 +1,8 @@
 -- The year that the book keeps after a list of accepted records has just what they say.
-use Prim.Native.Nat.{ℕ, zero, suc, _+_, _-_, _<_}
-use mathlib.Core.Bool.{Bool, true, false, cond}
+use Prim.Native.Nat.{ℕ, zero, suc, _-_, _<_}
+use mathlib.Core.Bool.{false}
 use mathlib.Core.List.{List, [], _∷_, _++_, append-assoc, append-nil}
-use mathlib.Core.Path.{_≡_, refl, sym, ap, _∙_, fun-ext}
-use native.Mathlib.Omega.{arith}
+use mathlib.Core.Path.{_≡_, refl, sym, fun-ext}
 use lib.ListN.{length, getD, replicate}
 use Rattle.ids.specs.Ids.{tabulate}
 use Rattle.ids.specs.Sets.{getD-replicate-same}
@@ -37,13 +36,20 @@ billed-more before (x ∷ rs) r =
     rw (billed-more (before ++ x ∷ []) rs r, append-assoc before (x ∷ []) rs)
     (sym (append-assoc (billedAt before x) (billedIn (before ++ x ∷ []) rs) (billedAt (before ++ x ∷ rs) r)))
 
--- a year as the book keeps it: with sixteen places for events, and with what was billed last
-abbrev laid : Year → Amounts → Year
-laid y billed =
-    record { opened = y .opened; started = y .started; closed = y .closed; terms = y .terms; events = y .events ++ replicate (16 - y .held) noEvent; held = y .held; tests = y .tests; billed = billed }
-
+-- the year as the book keeps it after these records: with sixteen places for events, and with what was billed last
 unfoldable pub booked : List Record → Year
-booked rs = laid (recorded rs) (lastOr noAmounts (billedIn [] rs))
+booked rs =
+    let y = recorded rs in
+    record {
+      opened = y .opened;
+      started = y .started;
+      closed = y .closed;
+      terms = y .terms;
+      events = y .events ++ replicate (16 - y .held) noEvent;
+      held = y .held;
+      tests = y .tests;
+      billed = lastOr noAmounts (billedIn [] rs);
+    }
 
 -- the places behind the events say nothing
 module _ {X : Type 0} (f : Event → X) (blank : f noEvent ≡ f pastEvent) where

@@ -1,14 +1,14 @@
 -- The year in cells into which the rows of a step were laid: one fact a part, kept or laid anew.
 use Prim.Native.Nat.{ℕ, _+_, _*_, _≤_, _<_}
-use mathlib.Core.Path.{_≡_, refl, sym, _∙_}
-use mathlib.Core.Bool.{Bool, true, false, cond}
+use mathlib.Core.Path.{_≡_, refl, _∙_}
+use mathlib.Core.Bool.{true, false, cond}
 use mathlib.Core.List.{List, [], _∷_, _++_}
 use mathlib.Core.Logic.{_≢_}
 use native.Mathlib.Omega.{arith}
 use native.Mathlib.Nat.{zero-add}
 use native.Mathlib.Decide.{decLt}
 use lib.Dec.{lit<, lit≤}
-use lib.ListN.{length, getD, set, replicate, take, drop, length-append, length-drop}
+use lib.ListN.{length, getD, take, drop, length-append, length-drop}
 use lib.Seq.{getD-append-add, getD-take, getD-drop, length-take-le}
 use Rattle.ids.specs.Tables.{length-tabulate, getD-tabulate}
 use Rattle.ids.specs.Ids.{at, tabulate}
@@ -21,7 +21,7 @@ use Rattle.year.specs.Year.{pastTest}
 use Rattle.year.specs.Steps.{withOpening, withRegistration, withLse, withEvent, withTest, withClose}
 use Rattle.year.specs.Sound.{SoundTest, SoundAmounts, Sound}
 use Rattle.cells.specs.Rows.{Laid, laid-on, Same, same-on, same-in, same-before, same-behind, rows-laid, cells-laid, numbers-kept, numbers-anew}
-use Rattle.cells.specs.Layout.{flag, registrationAt, listingAt, eventAt, registrationsHeld, obligationsHeld, termsHeld, eventsHeld, testsHeld, billedHeld, yearIn, Held}
+use Rattle.cells.specs.Layout.{flag, registrationAt, listingAt, eventAt, cellRegistrations, cellObligations, cellTerms, cellEvents, cellTests, cellBilled, yearIn, Held}
 use Rattle.cells.specs.Regions.{registration-view, listing-view, event-view, registrations-kept, obligations-kept, terms-kept, events-kept, places-kept, tests-kept, billed-kept}
 use Rattle.steps.specs.Tests.{testOf, untaken-free, unmarked, tests-unmarked, Tested, tests-laid}
 
@@ -59,7 +59,7 @@ module _ {c d : List ℕ} where
   -- before any test, since the place of a listed registration is never to change
   pub registration-laid : Sound (yearIn c) → yearIn c .started ≡ false → (id : ℕ) (r : Registration) → id < 64 → r .known ≡ true
       → Laid (7 + 7 * id) (1 ∷ r .seller ∷ r .area ∷ r .zone ∷ r .product ∷ r .committed .0 ∷ r .rate ∷ []) c d → yearIn d ≡ withRegistration (yearIn c) id r
-  unfolding registrationsHeld
+  unfolding cellRegistrations
   registration-laid s e id r l k h =
       let marks = same-before h 0 7 (omega arith) in
       cc (
@@ -79,7 +79,7 @@ module _ {c d : List ℕ} where
       )
 
   pub lse-laid : (id : ℕ) {kw : ℕ} → id < 16 → Laid (455 + id) (kw ∷ []) c d → yearIn d ≡ withLse (yearIn c) id kw
-  unfolding obligationsHeld
+  unfolding cellObligations
   lse-laid id l h =
       let marks = same-before h 0 7 (omega arith) in
       let registrations = registrations-kept (same-before h 7 448 (omega arith)) in
@@ -102,7 +102,7 @@ module _ {c d : List ℕ} where
 pub call-laid : {a b c d l : List ℕ} (n : ℕ) {area month period : ℕ} → n ≡ at a 2 → n < 16 → length l ≡ 144
     → Laid (471 + 147 * n) (area ∷ month ∷ period ∷ []) a b → Laid (471 + 147 * n + 3) l b c → Laid 1 (1 ∷ (n + 1) ∷ []) c d
     → yearIn d ≡ withEvent (yearIn a) (eventOf area month period (listingAt (at l)))
-unfolding eventsHeld
+unfolding cellEvents
 call-laid {a} {b} {c} {d} {l} n {area} {month} {period} q m e g h i =
     let row : Laid (471 + 147 * n) ((area ∷ month ∷ period ∷ []) ++ l) a c = laid-on g h in
     let long : length ((area ∷ month ∷ period ∷ []) ++ l) ≡ 147 = omega (arith, length-append (area ∷ month ∷ period ∷ []) l) in
@@ -175,7 +175,7 @@ module _ {a b c d e f : List ℕ} (l : List ℕ) (place : ℕ) {month : ℕ} (p 
       apart k m x (yes y) = same-before row (2823 + 18 * k) 18 (omega arith)
       apart k m x (no y) = same-behind row (2823 + 18 * k) 18 (omega (arith, eighteen))
 
-  pub test-laid : Held a → getD (testsHeld a) place pastTest .taken ≡ false → SoundTest (termsHeld a) place (testOf month (listingAt (at l)))
+  pub test-laid : Held a → getD (cellTests a) place pastTest .taken ≡ false → SoundTest (cellTerms a) place (testOf month (listingAt (at l)))
       → yearIn f ≡ withTest (yearIn a) place (testOf month (listingAt (at l)))
   test-laid k x s =
       let kept = between 2 2821 (lit≤ tt) (lit≤ tt) in
@@ -194,10 +194,10 @@ module _ {a b c d e f : List ℕ} (l : List ℕ) (place : ℕ) {month : ℕ} (p 
       )
 
 -- four rows of amounts
-billed-laid : {b c d e f : List ℕ} (x : Amounts) → SoundAmounts x → Laid 3383 (x .compliance) b c → Laid 3399 (x .test) c d → Laid 3415 (x .credit) d e → Laid 3431 (x .lse) e f → billedHeld f ≡ x
-unfolding billedHeld
+billed-laid : {b c d e f : List ℕ} (x : Amounts) → SoundAmounts x → Laid 3383 (x .compliance) b c → Laid 3399 (x .test) c d → Laid 3415 (x .credit) d e → Laid 3431 (x .lse) e f → cellBilled f ≡ x
+unfolding cellBilled
 billed-laid {f = f} x s h i j k =
-    let parts : billedHeld f ≡ record { compliance = x .compliance; test = x .test; credit = x .credit; lse = x .lse } = cc (
+    let parts : cellBilled f ≡ record { compliance = x .compliance; test = x .test; credit = x .credit; lse = x .lse } = cc (
       numbers-anew (x .compliance) (s .compliance .long) h,
       numbers-kept 16 3383 (same-on (same-on (same-before i 3383 16 (lit≤ tt)) (same-before j 3383 16 (lit≤ tt))) (same-before k 3383 16 (lit≤ tt))),
       numbers-anew (x .test) (s .test .long) i,

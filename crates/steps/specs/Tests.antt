@@ -10,15 +10,15 @@ use lib.Dec.{eqb, lit≤}
 use lib.ListN.{getD, set, replicate, length-set, getD-replicate}
 use lib.Seq.{getD-set-same, getD-set-other}
 use borrow.Author.Tests.{eq-eqb, ne-eqb}
-use Rattle.ids.specs.Ids.{at, holds, tabulate}
+use Rattle.ids.specs.Ids.{at}
 use Rattle.ids.specs.Tables.{length-tabulate, getD-tabulate, is-tabulate, tabulate-same}
 use Rattle.year.specs.declared.Listing.{Listing}
 use Rattle.year.specs.declared.Test.{Test}
-use Rattle.year.specs.Year.{noTest, pastTest, listed, zone, product}
+use Rattle.year.specs.Year.{noTest, pastTest, listed}
 use Rattle.year.specs.Sound.{SoundTest, Sound}
 use Rattle.year.specs.Limits.{zone-below, product-below}
 use Rattle.cells.specs.Rows.{from, Same, same-row, same-in}
-use Rattle.cells.specs.Layout.{flag, listingAt, termsHeld, placeIn, entryAt, testAt, testsHeld, yearIn}
+use Rattle.cells.specs.Layout.{flag, listingAt, cellTerms, placeIn, entryAt, testAt, cellTests, yearIn}
 use Rattle.cells.specs.Regions.{test-same, test-in}
 
 -- a test that was taken
@@ -26,7 +26,7 @@ abbrev pub testOf : ℕ → Listing → Test
 testOf month l = record { taken = true; month = month; listing = l }
 
 -- what the test at a place lists
-listed-at : (c : List ℕ) {k i : ℕ} → k < 24 → i < 64 → listed (getD (testsHeld c) k pastTest .listing) i ≡ entryAt (placeIn c) (from 3255 c) k i
+listed-at : (c : List ℕ) {k i : ℕ} → k < 24 → i < 64 → listed (getD (cellTests c) k pastTest .listing) i ≡ entryAt (placeIn c) (from 3255 c) k i
 unfolding listed
 listed-at c {k} {i} l m = rw (test-in c pastTest l) (getD-tabulate (entryAt (placeIn c) (from 3255 c) k) 64 i false m)
 
@@ -36,11 +36,11 @@ module _ (c : List ℕ) (s : Sound (yearIn c)) where
   place-below i = omega (arith, zone-below (s .terms) i, product-below (s .terms) i)
 
   -- a place without a test lists nothing
-  pub untaken-free : {k : ℕ} → k < 24 → getD (testsHeld c) k pastTest .taken ≡ false → (i : ℕ) → i < 64 → entryAt (placeIn c) (from 3255 c) k i ≡ false
+  pub untaken-free : {k : ℕ} → k < 24 → getD (cellTests c) k pastTest .taken ≡ false → (i : ℕ) → i < 64 → entryAt (placeIn c) (from 3255 c) k i ≡ false
   untaken-free {k} l e i m = sym (listed-at c l m) ∙ s .tests k l .untaken e i m
 
   -- before any test no entry is marked
-  pub unmarked : testsHeld c ≡ replicate 24 noTest → (i : ℕ) → i < 64 → flag (at c (3255 + i)) ≡ false
+  pub unmarked : cellTests c ≡ replicate 24 noTest → (i : ℕ) → i < 64 → flag (at c (3255 + i)) ≡ false
   unfolding listed
   unmarked e i m =
       let k = placeIn c i in
@@ -49,8 +49,8 @@ module _ (c : List ℕ) (s : Sound (yearIn c)) where
       sym (and-true (flag (at c (3255 + i)))) ∙ (rw (eq-eqb k k refl) at here)
 
 -- where no entry is marked, no registration's place matters
-pub tests-unmarked : {c d : List ℕ} → ((i : ℕ) → i < 64 → flag (at c (3255 + i)) ≡ false) → Same 2823 560 c d → testsHeld d ≡ testsHeld c
-unfolding testsHeld
+pub tests-unmarked : {c d : List ℕ} → ((i : ℕ) → i < 64 → flag (at c (3255 + i)) ≡ false) → Same 2823 560 c d → cellTests d ≡ cellTests c
+unfolding cellTests
 tests-unmarked {c} {d} u s =
     tabulate-same 24
     (λ k l. test-same k (placeIn d) (placeIn c) (from 3255 d) (from 3255 c) (from (2823 + 18 * k) d) (from (2823 + 18 * k) c)
@@ -67,7 +67,7 @@ pub record Tested (place m : ℕ) (l c d : List ℕ) : Type 0 where
   pub reductions : (i : ℕ) → i < 64 → at d (3255 + (64 + i)) ≡ cond (flag (at l i)) (at l (64 + i)) (at c (3255 + (64 + i)))
 
 module _ {place month : ℕ} {l c d : List ℕ} (h : Tested place month l c d) (p : place < 24) (places : (i : ℕ) → placeIn d i ≡ placeIn c i)
-    (s : SoundTest (termsHeld c) place (testOf month (listingAt (at l)))) (free : (i : ℕ) → i < 64 → entryAt (placeIn c) (from 3255 c) place i ≡ false) where
+    (s : SoundTest (cellTerms c) place (testOf month (listingAt (at l)))) (free : (i : ℕ) → i < 64 → entryAt (placeIn c) (from 3255 c) place i ≡ false) where
   -- a listed registration has this place
   own-place : (i : ℕ) → i < 64 → flag (at l i) ≡ true → placeIn d i ≡ place
   unfolding listed placeIn
@@ -91,20 +91,20 @@ module _ {place month : ℕ} {l c d : List ℕ} (h : Tested place month l c d) (
       rw (places i, other, and-false (flag (at d (3255 + i))), and-false (flag (at c (3255 + i)))) (refl, refl)
   entries-there k n i m false e = rw (h .marks i m, h .reductions i m, e, places i) (refl, refl)
 
-  pub tests-laid : testsHeld d ≡ set (testsHeld c) place (testOf month (listingAt (at l)))
-  unfolding testsHeld
+  pub tests-laid : cellTests d ≡ set (cellTests c) place (testOf month (listingAt (at l)))
+  unfolding cellTests
   tests-laid =
-      sym (is-tabulate (λ k. testAt (placeIn d) (from 3255 d) k (from (2823 + 18 * k) d)) 24 pastTest (set (testsHeld c) place new)
-      (length-set (testsHeld c) place new ∙ length-tabulate (λ k. testAt (placeIn c) (from 3255 c) k (from (2823 + 18 * k) c)) 24)
+      sym (is-tabulate (λ k. testAt (placeIn d) (from 3255 d) k (from (2823 + 18 * k) d)) 24 pastTest (set (cellTests c) place new)
+      (length-set (cellTests c) place new ∙ length-tabulate (λ k. testAt (placeIn c) (from 3255 c) k (from (2823 + 18 * k) c)) 24)
       (λ k m. go k m (ℕ-discrete k place)))
     where
       new : Test
       new = testOf month (listingAt (at l))
 
-      go : (k : ℕ) → k < 24 → Dec (k ≡ place) → getD (set (testsHeld c) place new) k pastTest ≡ testAt (placeIn d) (from 3255 d) k (from (2823 + 18 * k) d)
+      go : (k : ℕ) → k < 24 → Dec (k ≡ place) → getD (set (cellTests c) place new) k pastTest ≡ testAt (placeIn d) (from 3255 d) k (from (2823 + 18 * k) d)
       go k m (yes e) =
           let here : (i : ℕ) → i < 64 → _ = λ i b. entries-here i b (flag (at l i)) refl in
-          rw e (getD-set-same (testsHeld c) place new pastTest (omega (arith, length-tabulate (λ k. testAt (placeIn c) (from 3255 c) k (from (2823 + 18 * k) c)) 24))
+          rw e (getD-set-same (cellTests c) place new pastTest (omega (arith, length-tabulate (λ k. testAt (placeIn c) (from 3255 c) k (from (2823 + 18 * k) c)) 24))
           ∙ sym (cc (
             h .taken,
             h .month,
@@ -113,6 +113,6 @@ module _ {place month : ℕ} {l c d : List ℕ} (h : Tested place month l c d) (
             tabulate-same 16 {f = λ j. at d (2823 + 18 * place + (2 + j))} {g = λ j. at l (128 + j)} (h .deficits),
           )))
       go k m (no n) =
-          getD-set-other (testsHeld c) place k new pastTest n ∙ test-in c pastTest m
+          getD-set-other (cellTests c) place k new pastTest n ∙ test-in c pastTest m
           ∙ sym (test-same k (placeIn d) (placeIn c) (from 3255 d) (from 3255 c) (from (2823 + 18 * k) d) (from (2823 + 18 * k) c)
           (h .others k m n .cell) (λ i b. entries-there k n i b (flag (at l i)) refl))

@@ -1,6 +1,5 @@
 -- `file::ends` meets its contract.
 use borrow.Author.Tests.{eq-eqb, ne-eqb}
-use Rattle.file.specs.Walk.{ends}
 use Rattle.file.proofs.ends.Statement.{statement}
 use Rattle.file.proofs.ends.Tie as tie
 

@@ -1,5 +1,4 @@
 -- The parts of a kind stand in a row.
-use Prim.Native.Nat.{_+_}
 use borrow.Author.Needs.{needs}
 use native.Mathlib.Omega.{arith}
 use Rattle.layouts.specs.Parts.{join, kinds, parts}

@@ -1,12 +1,12 @@
 -- `snapshot::billed_of` meets its contract: four rows of amounts. Assumes nothing.
 use borrow.Author.Needs.{needs}
-use Rattle.cells.specs.Layout.{billedHeld}
+use Rattle.cells.specs.Layout.{cellBilled}
 use Rattle.snapshot.proofs.billed_of.Statement.{statement}
 use Rattle.snapshot.proofs.billed_of.Tie as tie
 use Rattle.snapshot.proofs.numbers_at.Reads as numbers-at-reads
 
 returns : tie.Need-returns
-unfolding billedHeld
+unfolding cellBilled
 returns c = cc (c .before .before .before .before .before .before .numbers-at .ensures, c .before .before .before .before .numbers-at2 .ensures, c .before .before .numbers-at3 .ensures, c .numbers-at4 .ensures)
 
 pub billed-of-spec : {M : Type 1} → statement M

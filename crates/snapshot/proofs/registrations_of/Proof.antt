@@ -6,7 +6,7 @@ use lib.ListN.{length-replicate}
 use Rattle.ids.specs.Fill.{Filled, filled-none, filled-more, filled-all}
 use Rattle.year.specs.Year.{noRegistration}
 use Rattle.cells.specs.Rows.{from}
-use Rattle.cells.specs.Layout.{registrationAt, registrationsHeld}
+use Rattle.cells.specs.Layout.{registrationAt, cellRegistrations}
 use Rattle.cells.specs.Regions.{registration-in}
 use Rattle.snapshot.proofs.registrations_of.Statement.{statement}
 use Rattle.snapshot.proofs.registrations_of.Tie as tie
@@ -27,7 +27,7 @@ loop-again c =
     filled-more (c .before .before .loop .inv) (omega arith) (c .registration-at2 .ensures ∙ registration-in year noRegistration (omega arith))
 
 returns : tie.Need-returns Inv-loop μ-loop
-unfolding registrationsHeld
+unfolding cellRegistrations
 returns c = filled-all (c .before .loop .inv) (omega arith)
 
 pub registrations-of-spec : {M : Type 1} → statement M

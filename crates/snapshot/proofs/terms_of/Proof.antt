@@ -1,13 +1,13 @@
 -- `snapshot::terms_of` meets its contract. Assumes nothing.
 use borrow.Author.Needs.{needs}
-use Rattle.cells.specs.Layout.{obligationsHeld}
+use Rattle.cells.specs.Layout.{cellObligations}
 use Rattle.snapshot.proofs.terms_of.Statement.{statement}
 use Rattle.snapshot.proofs.terms_of.Tie as tie
 use Rattle.snapshot.proofs.numbers_at.Reads as numbers-at-reads
 use Rattle.snapshot.proofs.registrations_of.Reads as registrations-of-reads
 
 returns : tie.Need-returns
-unfolding obligationsHeld
+unfolding cellObligations
 returns c = cc (c .before .before .before .before .before .registrations-of .ensures, c .before .before .before .numbers-at .ensures)
 
 pub terms-of-spec : {M : Type 1} → statement M

@@ -9,7 +9,7 @@ use lib.Dec.{eqb}
 use Rattle.ids.specs.Ids.{at, holds, allTo}
 use Rattle.ids.specs.Tests.{all-more, all-fails}
 use Rattle.year.specs.Year.{deficit}
-use Rattle.cells.specs.Layout.{listingAt, termsHeld}
+use Rattle.cells.specs.Layout.{listingAt, cellTerms}
 use Rattle.entries.specs.Passes.{row-deficit, deficits-listed}
 use Rattle.entries.proofs.listings.deficits_listed.Statement.{statement}
 use Rattle.entries.proofs.listings.deficits_listed.Tie as tie
@@ -33,7 +33,7 @@ returns c =
     let s = c .before .before .before .before .loop .s in
     sym (all-fails 16 (λ k. eqb (deficit (listingAt (at row)) k) 0 || holds (marks .result) k) s (omega arith)
     (rw (row-deficit row {s = s} (omega arith), ne-eqb (at row (128 + s)) 0 (c .before .if1 .taken), not-true (holds (marks .result) s) (c .if2 .taken))))
-    ∙ deficits-listed (termsHeld (a .year .now)) (listingAt (at row)) (marks .ensures)
+    ∙ deficits-listed (cellTerms (a .year .now)) (listingAt (at row)) (marks .ensures)
 
 loop-again : tie.Need-loop-again Inv-loop μ-loop
 loop-again c =
@@ -51,7 +51,7 @@ returns-2 : tie.Need-returns-2 Inv-loop μ-loop
 returns-2 c =
     let a = c .before .before .before .before .args in
     let all : c .before .loop .s ≡ 16 = omega arith in
-    sym (rw all at (c .before .loop .inv .1)) ∙ deficits-listed (termsHeld (a .year .now)) (listingAt (at (a .listing .now))) (c .before .before .sellers-listed .ensures)
+    sym (rw all at (c .before .loop .inv .1)) ∙ deficits-listed (cellTerms (a .year .now)) (listingAt (at (a .listing .now))) (c .before .before .sellers-listed .ensures)
 
 pub deficits-listed-spec : {M : Type 1} → statement M
 deficits-listed-spec =

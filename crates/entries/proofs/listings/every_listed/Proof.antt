@@ -8,7 +8,7 @@ use Rattle.ids.specs.Ids.{at, allTo}
 use Rattle.ids.specs.Tests.{all-more, all-fails}
 use Rattle.year.specs.Year.{listed, registration, size}
 use Rattle.year.specs.Limits.{size-is}
-use Rattle.cells.specs.Layout.{listingAt, termsHeld}
+use Rattle.cells.specs.Layout.{listingAt, cellTerms}
 use Rattle.entries.specs.Entries.{everyListed}
 use Rattle.entries.specs.Meets.{fulfils}
 use Rattle.entries.proofs.listings.every_listed.Statement.{statement}
@@ -16,7 +16,7 @@ use Rattle.entries.proofs.listings.every_listed.Tie as tie
 use Rattle.entries.proofs.listings.passes.Reads as passes-reads
 
 abbrev Inv-loop : tie.InvT-loop
-Inv-loop year listing condition i₀ i = (i ≤ 64) × (allTo i (λ k. not (listed (listingAt (at listing)) k) || fulfils condition (registration (termsHeld year) k)) ≡ true)
+Inv-loop year listing condition i₀ i = (i ≤ 64) × (allTo i (λ k. not (listed (listingAt (at listing)) k) || fulfils condition (registration (cellTerms year) k)) ≡ true)
 
 abbrev μ-loop : tie.MeasureT-loop
 μ-loop year listing condition i₀ i = 64 - i
@@ -30,9 +30,9 @@ unfolding everyListed
 returns c =
     let start = c .before .before .before .before .before in
     let a = start .args in
-    let T = termsHeld (a .year .now) in
+    let T = cellTerms (a .year .now) in
     let p = c .before .passes in
-    sym (all-fails (size T) (λ k. not (listed (listingAt (at (a .listing .now))) k) || fulfils (a .condition) (registration (termsHeld (a .year .now)) k)) (c .before .before .before .loop .i) (omega (arith, size-is (start .pre .0 .sound .terms))) (sym (p .ensures) ∙ not-true (p .result) (c .if1 .taken)))
+    sym (all-fails (size T) (λ k. not (listed (listingAt (at (a .listing .now))) k) || fulfils (a .condition) (registration (cellTerms (a .year .now)) k)) (c .before .before .before .loop .i) (omega (arith, size-is (start .pre .0 .sound .terms))) (sym (p .ensures) ∙ not-true (p .result) (c .if1 .taken)))
 
 loop-again : tie.Need-loop-again Inv-loop μ-loop
 loop-again c =
@@ -44,7 +44,7 @@ returns-2 : tie.Need-returns-2 Inv-loop μ-loop
 unfolding everyListed
 returns-2 c =
     let start = c .before .before .before in
-    let all : c .before .loop .i ≡ size (termsHeld (start .args .year .now)) = omega (arith, size-is (start .pre .0 .sound .terms)) in
+    let all : c .before .loop .i ≡ size (cellTerms (start .args .year .now)) = omega (arith, size-is (start .pre .0 .sound .terms)) in
     sym (rw all at (c .before .loop .inv .1))
 
 pub every-listed-spec : {M : Type 1} → statement M

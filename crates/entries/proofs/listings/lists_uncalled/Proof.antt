@@ -1,6 +1,6 @@
 -- `entries::listings::lists_uncalled` meets its contract. The invariant: all so far are listed as they should be. Assumes nothing.
 use Prim.Native.Nat.{_≤_, _-_}
-use mathlib.Core.Path.{_≡_, refl, sym, _∙_}
+use mathlib.Core.Path.{_≡_, refl, sym}
 use mathlib.Core.Bool.{true, not, _&&_, Bool·beq}
 use native.Mathlib.Omega.{arith}
 use borrow.Author.Tests.{not-true, not-false}
@@ -10,7 +10,7 @@ use Rattle.year.specs.Year.{listed, registration, size}
 use Rattle.year.specs.Limits.{size-is}
 use Rattle.owed.specs.Facts.{factsOf}
 use Rattle.owed.specs.Owed.{called}
-use Rattle.cells.specs.Layout.{flag, listingAt, termsHeld, yearIn}
+use Rattle.cells.specs.Layout.{flag, listingAt, cellTerms, yearIn}
 use Rattle.entries.specs.Entries.{listsExactly}
 use Rattle.entries.specs.Meets.{fulfils}
 use Rattle.entries.specs.Passes.{row-listed}
@@ -20,7 +20,7 @@ use Rattle.entries.proofs.listings.meets_uncalled.Reads as meets-uncall
 
 abbrev Inv-loop : tie.InvT-loop
 Inv-loop year listing condition i₀ i =
-    (i ≤ 64) × (allTo i (λ k. Bool·beq (listed (listingAt (at listing)) k) (fulfils condition (registration (termsHeld year) k) && not (called (factsOf (yearIn year)) k))) ≡ true)
+    (i ≤ 64) × (allTo i (λ k. Bool·beq (listed (listingAt (at listing)) k) (fulfils condition (registration (cellTerms year) k) && not (called (factsOf (yearIn year)) k))) ≡ true)
 
 abbrev μ-loop : tie.MeasureT-loop
 μ-loop year listing condition i₀ i = 64 - i
@@ -37,7 +37,7 @@ returns c =
     let row = start .args .listing .now in
     let i = c .before .before .before .before .loop .i in
     let m = c .before .meets-uncalled in
-    sym (all-fails (size (termsHeld year)) (λ k. Bool·beq (listed (listingAt (at row)) k) (fulfils (start .args .condition) (registration (termsHeld year) k) && not (called (factsOf (yearIn year)) k))) i (omega (arith, size-is (start .pre .0 .sound .terms)))
+    sym (all-fails (size (cellTerms year)) (λ k. Bool·beq (listed (listingAt (at row)) k) (fulfils (start .args .condition) (registration (cellTerms year) k) && not (called (factsOf (yearIn year)) k))) i (omega (arith, size-is (start .pre .0 .sound .terms)))
     (rw (row-listed row {i = i} (omega arith), sym (m .ensures)) (not-true (Bool·beq (flag (at row i)) (m .result)) (c .if1 .taken))))
 
 loop-again : tie.Need-loop-again Inv-loop μ-loop
@@ -48,7 +48,7 @@ loop-again c =
     let l = c .before .before .before .before .loop in
     let m = c .before .meets-uncalled in (
       omega arith,
-      all-more (l .i) (λ k. Bool·beq (listed (listingAt (at row)) k) (fulfils (start .args .condition) (registration (termsHeld year) k) && not (called (factsOf (yearIn year)) k))) (l .inv .1)
+      all-more (l .i) (λ k. Bool·beq (listed (listingAt (at row)) k) (fulfils (start .args .condition) (registration (cellTerms year) k) && not (called (factsOf (yearIn year)) k))) (l .inv .1)
           (rw (row-listed row {i = l .i} (omega arith), sym (m .ensures)) (not-false (Bool·beq (flag (at row (l .i))) (m .result)) (c .if1 .left))),
     )
 
@@ -56,7 +56,7 @@ returns-2 : tie.Need-returns-2 Inv-loop μ-loop
 unfolding listsExactly
 returns-2 c =
     let start = c .before .before .before in
-    let all : c .before .loop .i ≡ size (termsHeld (start .args .year .now)) = omega (arith, size-is (start .pre .0 .sound .terms)) in
+    let all : c .before .loop .i ≡ size (cellTerms (start .args .year .now)) = omega (arith, size-is (start .pre .0 .sound .terms)) in
     sym (rw all at (c .before .loop .inv .1))
 
 pub lists-uncalled-spec : {M : Type 1} → statement M

@@ -1,20 +1,20 @@
 -- `entries::listings::sellers_listed` meets its contract. The invariant: the sellers of the entries so far are marked. Assumes nothing.
 use Prim.Native.Nat.{_≤_, _-_}
-use mathlib.Core.Path.{_∙_, sym}
+use mathlib.Core.Path.{_∙_}
 use mathlib.Core.Logic.{⊎-elim}
 use native.Mathlib.Omega.{arith}
 use borrow.Author.Tests.{eq-eqb, ne-eqb}
 use Rattle.ids.specs.Ids.{at}
 use Rattle.year.specs.Year.{seller}
 use Rattle.year.specs.Limits.{seller-below, size-is}
-use Rattle.cells.specs.Layout.{listingAt, termsHeld}
+use Rattle.cells.specs.Layout.{listingAt, cellTerms}
 use Rattle.entries.specs.Passes.{row-listed, Marked, marked-none, marked-same, marked-more, marked-all}
 use Rattle.entries.proofs.listings.sellers_listed.Statement.{statement}
 use Rattle.entries.proofs.listings.sellers_listed.Tie as tie
 use Rattle.cells.proofs.registration_at.Reads as registration-at-reads
 
 abbrev Inv-loop : tie.InvT-loop
-Inv-loop year listing sellers₀ i₀ sellers i = (i ≤ 64) × Marked (termsHeld year) (listingAt (at listing)) sellers i
+Inv-loop year listing sellers₀ i₀ sellers i = (i ≤ 64) × Marked (cellTerms year) (listingAt (at listing)) sellers i
 
 abbrev μ-loop : tie.MeasureT-loop
 μ-loop year listing sellers₀ i₀ sellers i = 64 - i
@@ -32,7 +32,7 @@ loop-again c =
     let start = c .before .before .before .before .before in
     let row = start .args .listing .now in
     let l = c .before .before .before .loop in
-    let T = termsHeld (start .args .year .now) in
+    let T = cellTerms (start .args .year .now) in
     let small = seller-below (start .pre .0 .sound .terms) (l .i) in
     let here = row-listed row {i = l .i} (omega arith) in (
       omega arith,
@@ -45,7 +45,7 @@ loop-again c =
 returns : tie.Need-returns Inv-loop μ-loop
 returns c =
     let start = c .before .before .before in
-    marked-all (termsHeld (start .args .year .now)) (listingAt (at (start .args .listing .now))) (c .before .loop .inv .1) (omega (arith, size-is (start .pre .0 .sound .terms)))
+    marked-all (cellTerms (start .args .year .now)) (listingAt (at (start .args .listing .now))) (c .before .loop .inv .1) (omega (arith, size-is (start .pre .0 .sound .terms)))
 
 pub sellers-listed-spec : {M : Type 1} → statement M
 sellers-listed-spec =

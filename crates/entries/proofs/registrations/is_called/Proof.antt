@@ -7,7 +7,7 @@ use lib.ListN.{getD}
 use Rattle.ids.specs.Ids.{at, anyTo}
 use Rattle.ids.specs.Tests.{any-at, any-none}
 use Rattle.year.specs.Year.{listed, pastEvent}
-use Rattle.cells.specs.Layout.{eventsHeld}
+use Rattle.cells.specs.Layout.{cellEvents}
 use Rattle.owed.specs.Owed.{called}
 use Rattle.entries.proofs.registrations.is_called.Statement.{statement}
 use Rattle.entries.proofs.registrations.is_called.Tie as tie
@@ -15,7 +15,7 @@ use Rattle.cells.proofs.held.Reads as held-reads
 use Rattle.cells.proofs.listed_in.Reads as listed-in-reads
 
 abbrev Inv-loop : tie.InvT-loop
-Inv-loop year i n e₀ e = (e ≤ n) × (anyTo e (λ k. listed (getD (eventsHeld year) k pastEvent .listing) i) ≡ false)
+Inv-loop year i n e₀ e = (e ≤ n) × (anyTo e (λ k. listed (getD (cellEvents year) k pastEvent .listing) i) ≡ false)
 
 abbrev μ-loop : tie.MeasureT-loop
 μ-loop year i n e₀ e = n - e
@@ -28,7 +28,7 @@ returns : tie.Need-returns Inv-loop μ-loop
 unfolding called
 returns c =
     let start = c .before .before .before .before .before in
-    let events = eventsHeld (start .args .year .now) in
+    let events = cellEvents (start .args .year .now) in
     let held = c .before .before .before .before .held in
     let e = c .before .before .before .loop .e in
     sym (any-at (at (start .args .year .now) 2) (λ k. listed (getD events k pastEvent .listing) (start .args .i)) e (omega (arith, held .ensures)) (sym (c .before .listed-in .ensures) ∙ c .if1 .taken))
