@@ -8,7 +8,7 @@ use lib.Seq.{drop-at}
 use Rattle.ids.specs.Ids.{at}
 use Rattle.ids.specs.Tables.{is-tabulate}
 use Rattle.layouts.specs.Layout.{sizeOf}
-use Rattle.layouts.specs.Reductions.{isReduction}
+use Rattle.reductions.specs.Reductions.{isReduction}
 use Rattle.layouts.specs.Questions.{numbersOf, rulesBy, consumed}
 use Rattle.layouts.specs.QuestionLaws.{rules-by}
 use Rattle.records.specs.Calls.{bytesBy}

@@ -13,10 +13,10 @@ use Rattle.ids.specs.Tables.{length-tabulate, getD-tabulate}
 use Rattle.ids.specs.Tests.{all-same, all-at}
 use Rattle.layouts.specs.Layout.{noRule, head, lists, listAt, itemsIn, rulesFor, placeOf, itemAt, sizeOf}
 use Rattle.layouts.specs.Questions.{rulesBy, permits, permitted, idsRise}
-use Rattle.layouts.specs.Reductions.{isReduction}
+use Rattle.reductions.specs.Reductions.{isReduction}
 use Rattle.layouts.specs.QuestionLaws.{permits-yes, rises-same, counts-same, fields-same, rules-same, head-kind}
 use Rattle.layouts.specs.ListLaws.{item-some, ids-rise}
-use Rattle.layouts.specs.ReductionLaws.{Field, same-field, reduction-rule, Reduction, reduction-at, behind-head, rule-reduction}
+use Rattle.reductions.specs.ReductionLaws.{Field, same-field, reduction-rule, Reduction, reduction-at, behind-head, rule-reduction}
 use Rattle.heads.specs.Listed.{Permitted}
 use Rattle.records.specs.Calls.{writeNumber}
 use Rattle.records.specs.RoundTrip.{not-refused}

@@ -7,7 +7,7 @@ use lib.ListN.{length, drop}
 use lib.Dec.{eqb}
 use lib.IntN.{ℤ, pos, _+ℤ_}
 use Rattle.ids.specs.Ids.{at, tabulate}
-use Rattle.layouts.specs.Reductions.{isReduction}
+use Rattle.reductions.specs.Reductions.{isReduction}
 use Rattle.layouts.specs.Questions.{numbersOf, recordNumber, consumed}
 use Rattle.year.specs.declared.Terms.{Terms}
 use Rattle.year.specs.Year.{seller}

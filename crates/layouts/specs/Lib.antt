@@ -1,9 +1,7 @@
 pub mod Layout
 pub mod Questions
-pub mod Reductions
 pub mod Parts
 pub mod LayoutLaws
 pub mod QuestionLaws
 pub mod PartLaws
 pub mod ListLaws
-pub mod ReductionLaws

@@ -12,10 +12,10 @@ use lib.Dec.{leb, ltb, eqb}
 use lib.ListN.{length, getD}
 use Rattle.ids.specs.Ids.{at, anyTo}
 use Rattle.ids.specs.Tests.{and-parts, any-some}
 use Rattle.layouts.specs.Layout.{noRule, Items, noItems, noLayout, layouts, head, lists, listAt, itemsIn, rulesTo, rulesFor, placeOf, itemAt}
 use Rattle.layouts.specs.LayoutLaws.{every, every-at, every-in}
 use Rattle.layouts.specs.ListLaws.{length-list, rule-item}
-use Rattle.layouts.specs.Reductions.{reducesIn, isReduction}
+use Rattle.reductions.specs.Reductions.{reducesIn, isReduction}
 
 -- field f of item m of list i is there
 pub record Field (k : ℕ) (vs : List ℕ) (i m f : ℕ) : Type 0 where

@@ -1,0 +1,3 @@
+-- Which numbers of a record are reductions, and their laws.
+pub mod Reductions
+pub mod ReductionLaws
