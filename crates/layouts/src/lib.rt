@@ -7,11 +7,10 @@ ghost use Rattle.bits.specs.Table.{total};
 ghost use Rattle.layouts.specs.Layout.{layouts, head, lists, rulesFor, widths, longestRecord};
 ghost use Rattle.layouts.specs.Parts.{startOf, kinds, parts, rules, lows, highs, rowOf, rowAt, Placed};
 
-pub mod checks;
 pub mod shapes;
 
 // How many kinds the tables have, 0 among them, which is none.
-const KINDS: u64 = 7;
+pub const KINDS: u64 = 7;
 
 // The fields of every part of every kind, part after part: a kind's head, then an item of each of its lists. Kind 0 has none. Their widths in bits,
 const WIDTHS: [u8; 37] = [

@@ -12,11 +12,11 @@ ghost use Rattle.layouts.specs.Questions.{isKind, isWhole, kindOf, headOf, rule
 ghost use Rattle.layouts.specs.Parts.{rules, Shaped};
 ghost use Rattle.records.specs.Parsing.{Known};
 ghost use Rattle.records.specs.Calls.{Fills, Reads};
-use layouts::checks::head_permitted;
-use layouts::checks::is_filled;
-use layouts::checks::is_kind;
-use layouts::checks::lists_permitted;
-use layouts::checks::lists_rise;
+use checks::head_permitted;
+use checks::is_filled;
+use checks::is_kind;
+use checks::lists_permitted;
+use checks::lists_rise;
 use layouts::highs_of_parts;
 use layouts::lists_of;
 use layouts::lows_of_parts;

@@ -3,13 +3,13 @@ use mathlib.Core.Path.{sym, _∙_}
 use borrow.Author.Tests.{lt-ltb, le-ltb}
 use native.Mathlib.Decide.{decLt}
 use lib.ListN.{length}
 use Rattle.layouts.specs.Layout.{head}
 use Rattle.layouts.specs.Questions.{isKind}
 use Rattle.layouts.specs.QuestionLaws.{not-kind}
 use borrow.Author.Needs.{needs}
 use native.Mathlib.Omega.{arith}
-use Rattle.layouts.proofs.checks.is_kind.Statement.{statement}
-use Rattle.layouts.proofs.checks.is_kind.Tie as tie
+use Rattle.checks.proofs.is_kind.Statement.{statement}
+use Rattle.checks.proofs.is_kind.Tie as tie
 
 returns : tie.Need-returns
 returns c = sym (not-kind (c .before .args .kind) (c .if1 .taken))

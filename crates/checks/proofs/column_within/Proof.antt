@@ -7,10 +7,10 @@ use native.Mathlib.Nat.{mul-le-mul-right}
 use native.Mathlib.Omega.{arith}
 use Rattle.ids.specs.Ids.{at, allTo}
 use Rattle.ids.specs.Tests.{all-more, all-fails}
 use Rattle.layouts.specs.Parts.{between, columnWithin}
 use Rattle.layouts.specs.ListLaws.{column-held}
-use Rattle.layouts.proofs.checks.column_within.Statement.{statement}
-use Rattle.layouts.proofs.checks.column_within.Tie as tie
+use Rattle.checks.proofs.column_within.Statement.{statement}
+use Rattle.checks.proofs.column_within.Tie as tie
 
 -- one more number lies within the n
 room : (w n k : ℕ) → k < n → k * w + w ≤ n * w

@@ -9,11 +9,11 @@ use lib.ListN.{length, drop}
 use lib.Seq.{getD-drop}
 use Rattle.ids.specs.Ids.{at, allTo}
 use Rattle.ids.specs.Tests.{all-more, all-fails}
 use Rattle.layouts.specs.Parts.{within}
 use borrow.Author.Needs.{needs}
 use native.Mathlib.Omega.{arith}
-use Rattle.layouts.proofs.checks.are_within.Statement.{statement}
-use Rattle.layouts.proofs.checks.are_within.Tie as tie
+use Rattle.checks.proofs.are_within.Statement.{statement}
+use Rattle.checks.proofs.are_within.Tie as tie
 
 -- is number j within its limits
 abbrev limits : List ℕ → List ℕ → List ℕ → ℕ → Bool

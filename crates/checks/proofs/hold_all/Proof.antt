@@ -5,9 +5,9 @@ use borrow.Author.Tests.{ne-eqb}
 use native.Mathlib.Omega.{arith}
 use lib.Pow.{pow-pos}
 use Rattle.bits.proofs.Shifts.{one-shl}
 use Rattle.layouts.specs.Parts.{holdAll}
-use Rattle.layouts.proofs.checks.hold_all.Statement.{statement}
-use Rattle.layouts.proofs.checks.hold_all.Tie as tie
+use Rattle.checks.proofs.hold_all.Statement.{statement}
+use Rattle.checks.proofs.hold_all.Tie as tie
 
 sub-result : tie.Need-sub-result
 sub-result c = rw (one-shl (c .before .args .width) (omega arith)) (pow-pos (c .before .args .width))

@@ -6,8 +6,8 @@ use native.Mathlib.Omega.{arith}
 use lib.Dec.{eqb}
 use Rattle.bits.specs.Bits.{number}
 use Rattle.bits.specs.Pack.{bytesFor}
-use Rattle.layouts.proofs.checks.is_filled.Statement.{statement}
-use Rattle.layouts.proofs.checks.is_filled.Tie as tie
+use Rattle.checks.proofs.is_filled.Statement.{statement}
+use Rattle.checks.proofs.is_filled.Tie as tie
 
 returns : tie.Need-returns
 unfolding number

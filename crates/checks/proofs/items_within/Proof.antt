@@ -9,9 +9,9 @@ use lib.ListN.{length}
 use Rattle.ids.specs.Ids.{at, allTo}
 use Rattle.ids.specs.Tests.{all-more, all-fails}
 use Rattle.bits.specs.TableLaws.{width-in}
 use Rattle.layouts.specs.Parts.{columnWithin, itemsWithin, ColumnFits}
-use Rattle.layouts.proofs.checks.items_within.Statement.{statement}
-use Rattle.layouts.proofs.checks.items_within.Tie as tie
+use Rattle.checks.proofs.items_within.Statement.{statement}
+use Rattle.checks.proofs.items_within.Tie as tie
 
 abbrev Inv-loop : tie.InvT-loop
 Inv-loop read ws lows highs values from n j₀ j = (j ≤ length lows) × (allTo j (λ i. columnWithin (at lows i) (at highs i) values (from + i) (length lows) n) ≡ true)

@@ -4,14 +4,14 @@ use mathlib.Core.Path.{_≡_, refl, sym, _∙_}
 use Prim.Native.Nat.{_+_, _-_, _≤_, _<_}
 use borrow.Author.Tests.{not-true, not-false}
 use lib.ListN.{length, length-map}
 use Rattle.layouts.specs.LayoutLaws.{sound-items, narrow-sound}
 use Rattle.layouts.specs.Layout.{lists, listAt, rulesTo, rulesFor}
 use Rattle.layouts.specs.Questions.{permitted}
 use Rattle.layouts.specs.PartLaws.{table-long, rules-few}
 use Rattle.layouts.specs.ListLaws.{items-fit, length-list, stated-list, stated-count, permitted-list, permitted-behind}
 use native.Mathlib.Omega.{arith}
-use Rattle.layouts.proofs.checks.lists_permitted.Statement.{statement}
-use Rattle.layouts.proofs.checks.lists_permitted.Tie as tie
+use Rattle.checks.proofs.lists_permitted.Statement.{statement}
+use Rattle.checks.proofs.lists_permitted.Tie as tie
 
 abbrev Inv-loop : tie.InvT-loop
 Inv-loop kind read ws lows highs values n p₀ i₀ p i = (i ≤ length (lists kind)) × (p ≡ length (rulesTo kind values i)) × (permitted (rulesTo kind values i) values ≡ true)

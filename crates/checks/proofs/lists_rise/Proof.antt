@@ -6,12 +6,12 @@ use borrow.Author.Tests.{not-true, not-false}
 use lib.ListN.{length}
 use Rattle.ids.specs.Ids.{allTo}
 use Rattle.ids.specs.Tests.{all-more, all-fails}
 use Rattle.layouts.specs.Layout.{lists, listAt, itemsIn, rulesTo, placeOf}
 use Rattle.layouts.specs.Questions.{rises}
 use Rattle.layouts.specs.ListLaws.{ids-rise, length-list, item-some, stated-list, stated-count}
 use native.Mathlib.Omega.{arith}
-use Rattle.layouts.proofs.checks.lists_rise.Statement.{statement}
-use Rattle.layouts.proofs.checks.lists_rise.Tie as tie
+use Rattle.checks.proofs.lists_rise.Statement.{statement}
+use Rattle.checks.proofs.lists_rise.Tie as tie
 
 abbrev Inv-loop : tie.InvT-loop
 Inv-loop kind values n p₀ i₀ p i = (i ≤ length (lists kind)) × (p ≡ length (rulesTo kind values i)) × (allTo i (λ j. rises values (length (listAt kind j .fields)) (placeOf kind values j) (itemsIn kind values j)) ≡ true)

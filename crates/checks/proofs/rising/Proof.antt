@@ -7,10 +7,10 @@ use native.Mathlib.Nat.{mul-le-mul-right}
 use lib.Dec.{ltb}
 use Rattle.ids.specs.Ids.{at, allTo}
 use Rattle.ids.specs.Tests.{all-more, all-fails}
 use Rattle.layouts.specs.Questions.{rises}
 use native.Mathlib.Omega.{arith}
-use Rattle.layouts.proofs.checks.rising.Statement.{statement}
-use Rattle.layouts.proofs.checks.rising.Tie as tie
+use Rattle.checks.proofs.rising.Statement.{statement}
+use Rattle.checks.proofs.rising.Tie as tie
 
 -- two more items lie within the n
 room : (w n k : ℕ) → k + 1 < n → w * k + 2 * w ≤ n * w

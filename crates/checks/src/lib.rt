@@ -9,18 +9,18 @@ ghost use Rattle.ids.specs.Ids.{at};
 ghost use Rattle.bits.specs.Bits.{fieldAt};
 ghost use Rattle.bits.specs.Pack.{bytesFor};
 ghost use Rattle.bits.specs.Table.{narrow, Valid};
 ghost use Rattle.layouts.specs.Layout.{layouts, head, rulesFor, widths};
 ghost use Rattle.layouts.specs.Questions.{isKind, permitted, rises, idsRise};
 ghost use Rattle.layouts.specs.Parts.{rules, lows as lowest, highs as highest, within, columnWithin, itemsWithin, holdAll, ColumnFits, ItemsFit, Stated};
-use crate::lists_of;
-use crate::part_at;
-use crate::shapes::head_of;
-use crate::shapes::list_at;
+use layouts::lists_of;
+use layouts::part_at;
+use layouts::shapes::head_of;
+use layouts::shapes::list_at;
 
 pub fn is_kind(kind: u64) -> bool
     ensures { λ r. ⌜ r ≡ isKind kind ⌝ }
 {
-    if crate::KINDS <= kind {
+    if layouts::KINDS <= kind {
         return false;
     }
     let head = part_at(kind as usize, 0);

@@ -1,12 +1,12 @@
 -- The head's part of the tables has its limits.
 use mathlib.Core.Path.{_∙_}
 use Rattle.layouts.specs.Layout.{head}
 use Rattle.layouts.specs.PartLaws.{table-long, rules-few}
 use Rattle.layouts.specs.ListLaws.{within-is}
 use borrow.Author.Needs.{needs}
 use native.Mathlib.Omega.{arith}
-use Rattle.layouts.proofs.checks.head_permitted.Statement.{statement}
-use Rattle.layouts.proofs.checks.head_permitted.Tie as tie
+use Rattle.checks.proofs.head_permitted.Statement.{statement}
+use Rattle.checks.proofs.head_permitted.Tie as tie
 
 mul-are-within : tie.Need-mul-are-within
 mul-are-within c = omega (arith, c .part-at .ensures .long, c .part-at .ensures .within, rules-few)
