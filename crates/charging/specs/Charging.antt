@@ -15,22 +15,22 @@ use Rattle.owed.specs.Owed.{oneOrThree, D, ofSeller, beforeCap}
 use Rattle.owed_laws.specs.Limits.{Limits}
 use Rattle.owed_laws.specs.Sellers.{ofSeller-le}
 use Rattle.owed_laws.specs.Bounds.{cap-le, charge-le}
-use Rattle.owed_laws.specs.Cap.{taken-le}
+use Rattle.owed_laws.specs.Cap.{spent-le}
 use Rattle.owed_laws.specs.Unlisted.{u-unlisted, daily-none, charge-none}
 use Rattle.sharing.specs.Sharing.{Shares}
 use Rattle.table.specs.Columns.{Columns, columns-aside}
-use Rattle.table.specs.Places.{sellerRow, productRow, rateRow, capRow, callsRow, takenRow, complianceRow, lackRow, uRow, eRow}
+use Rattle.table.specs.Places.{sellerRow, productRow, rateRow, capRow, callsRow, spentRow, complianceRow, lackRow, uRow, eRow}
 use Rattle.table.specs.Rows.{Stored, Aside, Row, Renewed, Grown, none, aside-none, aside-then, aside-more, row-aside, row-same, renewed-first, renewed-kept, renewed-next, renewed-more, renewed-none, grown-first, grown-kept, grown-none, grown-more, grown-most}
 use Rattle.charging.specs.declared.Line.{Line}
 
 -- registration i in the table
 abbrev pub lineAt : List ℕ → ℕ → Line
 lineAt w i =
-    record { seller = at w (sellerRow + i); product = at w (productRow + i); calls = at w (callsRow + i); rate = at w (rateRow + i); cap = at w (capRow + i); taken = at w (takenRow + i); u = record { 0 = at w (uRow + i) }; e = record { 0 = at w (eRow + i) } }
+    record { seller = at w (sellerRow + i); product = at w (productRow + i); calls = at w (callsRow + i); rate = at w (rateRow + i); cap = at w (capRow + i); spent = at w (spentRow + i); u = record { 0 = at w (uRow + i) }; e = record { 0 = at w (eRow + i) } }
 
 -- the lesser of what is asked and the cap's rest
 abbrev pub dailyOf : Bool → Line → ℕ
-dailyOf peak l = min (l .u .0 * l .rate / cond peak (max (l .calls) 2) 52) (l .cap - l .taken)
+dailyOf peak l = min (l .u .0 * l .rate / cond peak (max (l .calls) 2) 52) (l .cap - l .spent)
 
 -- what an event's charges are made of: the terms, n, and the shares of its entries
 pub record Given (F : Facts) (ev : ℕ) (w : List ℕ) : Type 0 where
@@ -39,7 +39,7 @@ pub record Given (F : Facts) (ev : ℕ) (w : List ℕ) : Type 0 where
   pub shares : Shares F ev w
 
 -- the rows that its charges and credits are written to lie apart
-pub given-aside : {F : Facts} {ev p n : ℕ} {w v : List ℕ} → Given F ev w → Aside p n w v → takenRow ≤ p → p + n ≤ lackRow → Given F ev v
+pub given-aside : {F : Facts} {ev p n : ℕ} {w v : List ℕ} → Given F ev w → Aside p n w v → spentRow ≤ p → p + n ≤ lackRow → Given F ev v
 given-aside g a b d =
     record {
       columns = columns-aside (g .columns) a (omega arith) (omega arith);
@@ -51,15 +51,15 @@ given-aside g a b d =
       };
     }
 
--- registration i as the rules have it, where t is taken of its cap
+-- registration i as the rules have it, where t is spent of its cap
 abbrev pub lineOf : Facts → ℕ → ℕ → ℕ → Line
 lineOf F ev i t =
-    record { seller = F .seller i; product = F .product i; calls = owed.calls F i; rate = F .rate i; cap = owed.cap F i; taken = t; u = record { 0 = owed.u F ev i }; e = record { 0 = owed.e F ev i } }
+    record { seller = F .seller i; product = F .product i; calls = owed.calls F i; rate = F .rate i; cap = owed.cap F i; spent = t; u = record { 0 = owed.u F ev i }; e = record { 0 = owed.e F ev i } }
 
-pub line-is : {F : Facts} {ev i t : ℕ} {w : List ℕ} → Given F ev w → i < 64 → at w (takenRow + i) ≡ t → lineAt w i ≡ lineOf F ev i t
+pub line-is : {F : Facts} {ev i t : ℕ} {w : List ℕ} → Given F ev w → i < 64 → at w (spentRow + i) ≡ t → lineAt w i ≡ lineOf F ev i t
 line-is {i = i} g l e =
     let c = g .columns in
-    λ j. record { seller = c .seller .is i l j; product = c .product .is i l j; calls = g .calls .is i l j; rate = c .rate .is i l j; cap = c .cap .is i l j; taken = e j; u = record { 0 = g .shares .u .is i l j }; e = record { 0 = g .shares .e .is i l j } }
+    λ j. record { seller = c .seller .is i l j; product = c .product .is i l j; calls = g .calls .is i l j; rate = c .rate .is i l j; cap = c .cap .is i l j; spent = e j; u = record { 0 = g .shares .u .is i l j }; e = record { 0 = g .shares .e .is i l j } }
 
 -- a seller's charges of the first m events
 unfoldable pub complianceBy : Facts → ℕ → ℕ → ℕ → ℕ
@@ -67,12 +67,12 @@ complianceBy F k m s = sumTo m (λ ev. ofSeller F s (owed.charge F k ev))
 
 -- what the first m events took of the caps, and the sellers' charges
 pub record Billed (F : Facts) (k m : ℕ) (w : List ℕ) : Type 0 where
-  pub taken : Row w takenRow 64 (owed.taken F m)
+  pub spent : Row w spentRow 64 (owed.spent F m)
   pub compliance : Row w complianceRow 16 (complianceBy F k m)
 
-pub billed-first : (F : Facts) (k : ℕ) {w : List ℕ} → Row w takenRow 64 none → Row w complianceRow 16 none → Billed F k 0 w
-unfolding owed.taken complianceBy sumTo
-billed-first F k a b = record { taken = row-same a (λ j l. refl); compliance = row-same b (λ j l. refl) }
+pub billed-first : (F : Facts) (k : ℕ) {w : List ℕ} → Row w spentRow 64 none → Row w complianceRow 16 none → Billed F k 0 w
+unfolding owed.spent complianceBy sumTo
+billed-first F k a b = record { spent = row-same a (λ j l. refl); compliance = row-same b (λ j l. refl) }
 
 pub billed-all : {F : Facts} {k : ℕ} {w : List ℕ} → Billed F k (F .events) w → Row w complianceRow 16 (owed.compliance F k)
 unfolding owed.compliance complianceBy
@@ -86,8 +86,8 @@ compliance-le {F} L k m s l = omega (arith, sum-bound m 337305600000 _ (λ ev q.
 pub record Charging (F : Facts) (k ev i : ℕ) (w₀ w : List ℕ) (all : ℕ) : Type 0 where
   pub upto : i ≤ 64
   pub given : Given F ev w
-  pub aside : Aside takenRow 80 w₀ w
-  pub taken : Renewed w takenRow 64 (owed.taken F (ev + 1)) (owed.taken F ev) i
+  pub aside : Aside spentRow 80 w₀ w
+  pub spent : Renewed w spentRow 64 (owed.spent F (ev + 1)) (owed.spent F ev) i
   pub compliance : Grown w complianceRow 16 (complianceBy F k ev) (F .seller) (owed.charge F k ev) i
   pub sum : all ≡ sumTo i (owed.charge F k ev)
 
@@ -98,14 +98,14 @@ charging-first {F} {k} {ev} g h =
       upto = omega arith;
       given = g;
       aside = aside-none;
-      taken = renewed-first (owed.taken F (ev + 1)) (h .taken);
+      spent = renewed-first (owed.spent F (ev + 1)) (h .spent);
       compliance = grown-first (F .seller) (owed.charge F k ev) (h .compliance);
       sum = refl;
     }
 
-taken-step : (F : Facts) (ev i : ℕ) → owed.taken F (ev + 1) i ≡ owed.taken F ev i + owed.daily F ev (owed.taken F ev i) i
-unfolding owed.taken
-taken-step F ev i = rw (add-one ev)
+spent-step : (F : Facts) (ev i : ℕ) → owed.spent F (ev + 1) i ≡ owed.spent F ev i + owed.daily F ev (owed.spent F ev i) i
+unfolding owed.spent
+spent-step F ev i = rw (add-one ev)
 
 -- the charge of one with a share, which is listed, by its line
 module _ (F : Facts) (ev i : ℕ) (some : owed.u F ev i ≡ 0 → ⊥) where
@@ -120,7 +120,7 @@ module _ (F : Facts) (ev i : ℕ) (some : owed.u F ev i ≡ 0 → ⊥) where
   unfolding owed.daily beforeCap
   daily-is x p = rw (p, listed)
 
-pub charge-is : (F : Facts) (k ev i : ℕ) {d m days : ℕ} → d ≡ owed.daily F ev (owed.taken F ev i) i → m ≡ F .month ev → days ≡ D F k
+pub charge-is : (F : Facts) (k ev i : ℕ) {d m days : ℕ} → d ≡ owed.daily F ev (owed.spent F ev i) i → m ≡ F .month ev → days ≡ D F k
     → cond (leb (due (F .product i) m) k) (d * days / 1000) 0 ≡ owed.charge F k ev i
 unfolding owed.charge
 charge-is F k ev i e p q = rw (p, q, e)
@@ -133,15 +133,15 @@ module _ {F : Facts} {k ev i : ℕ} {w₀ w : List ℕ} {all : ℕ} (h : Chargin
         upto = omega arith;
         given = h .given;
         aside = h .aside;
-        taken = renewed-none (h .taken) l (omega (arith, taken-step F ev i, daily-none F ev i none (owed.taken F ev i)));
+        spent = renewed-none (h .spent) l (omega (arith, spent-step F ev i, daily-none F ev i none (owed.spent F ev i)));
         compliance = grown-none (h .compliance) (charge-none F ev i none k);
         sum = omega (arith, h .sum, sum-step i (owed.charge F k ev), charge-none F ev i none k);
       }
 
   -- limits
   module _ (L : Limits F) where
-    pub taken-most : i < 64 → at w (takenRow + i) ≤ 14400000000
-    taken-most l = omega (arith, renewed-next (h .taken) l, taken-le F ev i, cap-le L i)
+    pub spent-most : i < 64 → at w (spentRow + i) ≤ 14400000000
+    spent-most l = omega (arith, renewed-next (h .spent) l, spent-le F ev i, cap-le L i)
 
     pub compliance-most : ev < 16 → (s : ℕ) → s < 16 → at w (complianceRow + s) ≤ 5734195200000
     compliance-most q s m = grown-most (h .compliance) 5396889600000 5270400000 (h .upto) (λ j a. compliance-le L k ev j (omega arith)) (λ j a. charge-le L k ev j) s m
@@ -149,16 +149,16 @@ module _ {F : Facts} {k ev i : ℕ} {w₀ w : List ℕ} {all : ℕ} (h : Chargin
     pub sum-most : all ≤ 337305600000
     sum-most = omega (arith, h .sum, sum-bound i 5270400000 (owed.charge F k ev) (λ j a. charge-le L k ev j), h .upto)
 
-  pub charging-more : {d c : ℕ} {m v : List ℕ} → i < 64 → F .seller i < 16 → d ≡ owed.daily F ev (owed.taken F ev i) i → c ≡ owed.charge F k ev i
-      → Stored (takenRow + i) (at w (takenRow + i) + d) w m → Stored (complianceRow + F .seller i) (at m (complianceRow + F .seller i) + c) m v
+  pub charging-more : {d c : ℕ} {m v : List ℕ} → i < 64 → F .seller i < 16 → d ≡ owed.daily F ev (owed.spent F ev i) i → c ≡ owed.charge F k ev i
+      → Stored (spentRow + i) (at w (spentRow + i) + d) w m → Stored (complianceRow + F .seller i) (at m (complianceRow + F .seller i) + c) m v
       → Charging F k ev (i + 1) w₀ v (all + c)
   charging-more l b e f s t =
-      let stores : Aside takenRow 80 w _ = aside-more (aside-more aside-none s (omega arith) (omega arith)) t (omega arith) (omega arith) in
+      let stores : Aside spentRow 80 w _ = aside-more (aside-more aside-none s (omega arith) (omega arith)) t (omega arith) (omega arith) in
       record {
         upto = omega arith;
         given = given-aside (h .given) stores (omega arith) (omega arith);
         aside = aside-then (h .aside) stores (omega arith) (omega arith) (omega arith) (omega arith);
-        taken = renewed-kept (renewed-more (h .taken) s (rw (renewed-next (h .taken) l, e) (sym (taken-step F ev i)))) t (omega arith) (λ x y. omega arith);
+        spent = renewed-kept (renewed-more (h .spent) s (rw (renewed-next (h .spent) l, e) (sym (spent-step F ev i)))) t (omega arith) (λ x y. omega arith);
         compliance = grown-more (grown-kept (h .compliance) s (λ x y. omega arith)) t b refl f;
         sum = omega (arith, h .sum, sum-step i (owed.charge F k ev));
       }
@@ -167,6 +167,6 @@ module _ {F : Facts} {k ev i : ℕ} {w₀ w : List ℕ} {all : ℕ} (h : Chargin
   unfolding complianceBy ofSeller
   charging-all q =
       record {
-        taken = rw q at (h .taken .done);
+        spent = rw q at (h .spent .done);
         compliance = row-same (rw q at (h .compliance .row)) (λ s m. sym (sum-step ev (λ d. ofSeller F s (owed.charge F k d))));
       }

@@ -8,7 +8,7 @@ ghost use Rattle.cells.specs.Layout.{Held};
 ghost use Rattle.ids.specs.Ids.{sumTo};
 ghost use Rattle.looks.specs.Looks.{facts};
 ghost use Rattle.owed.specs.Owed.{charge};
-ghost use Rattle.table.specs.Places.{takenRow};
+ghost use Rattle.table.specs.Places.{spentRow};
 ghost use Rattle.table.specs.Rows.{Aside};
 ghost use Rattle.charging.specs.Charging.{lineAt, dailyOf, Given, Billed};
 use cells::Cells;
@@ -23,7 +23,7 @@ pub struct Line {
     pub calls: u64,
     pub rate: u64,
     pub cap: u64,
-    pub taken: u64,
+    pub spent: u64,
     pub u: Unforced,
     pub e: Nominated,
 }
@@ -40,7 +40,7 @@ pub fn line_at(work: &Work, i: usize) -> Line
         calls: table::get(work, table::CALLS, i),
         rate: table::get(work, table::RATE, i),
         cap: table::get(work, table::CAP, i),
-        taken: table::get(work, table::TAKEN, i),
+        spent: table::get(work, table::SPENT, i),
         u: u,
         e: e,
     }
@@ -81,7 +81,7 @@ fn daily_of(peak: bool, line: Line) -> u64
 {
     let u = line.u;
     let asked = before_cap(peak, line.calls, u, line.rate);
-    let rest = less(line.cap, line.taken);
+    let rest = less(line.cap, line.spent);
     lesser(asked, rest)
 }
 
@@ -96,7 +96,7 @@ fn cents(product: u64, month: u64, k: u64, days: u64, daily: u64) -> u64
     if from <= k { daily * days / 1000 } else { 0 }
 }
 
-// Event ev's charges to date at month k, added to what is taken of the caps and to the sellers' compliance; their sum. A registration
+// Event ev's charges to date at month k, added to what is spent of the caps and to the sellers' compliance; their sum. A registration
 // without a share of its seller's shortfall is not charged.
 pub fn charge(year: &Cells, work: &mut Work, ev: usize, k: u64) -> u64
     requires { ⌜ Held (now year) ⌝ }
@@ -105,7 +105,7 @@ pub fn charge(year: &Cells, work: &mut Work, ev: usize, k: u64) -> u64
     requires { ⌜ Billed (facts (now year)) k ev (now work) ⌝ }
     ensures billed { λ r. ⌜ Billed (facts (now (year .entry))) k (ev + 1) (now (work .exit)) ⌝ }
     ensures charges { λ r. ⌜ r ≡ sumTo 64 (charge (facts (now (year .entry))) k ev) ⌝ }
-    ensures aside { λ r. ⌜ Aside takenRow 80 (now (work .entry)) (now (work .exit)) ⌝ }
+    ensures aside { λ r. ⌜ Aside spentRow 80 (now (work .entry)) (now (work .exit)) ⌝ }
 {
     let peak = looks::one_or_three(year, ev);
     let month = looks::month_of(year, ev);
@@ -117,7 +117,7 @@ pub fn charge(year: &Cells, work: &mut Work, ev: usize, k: u64) -> u64
             let line = line_at(work, i);
             let daily = daily_of(peak, line);
             let due = cents(line.product, month, k, days, daily);
-            table::add_at(work, table::TAKEN, i, daily);
+            table::add_at(work, table::SPENT, i, daily);
             table::add_at(work, table::COMPLIANCE, line.seller, due);
             all = all + due;
         }

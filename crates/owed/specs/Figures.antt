@@ -9,7 +9,7 @@ use Rattle.units.specs.Units.{convert}
 use Rattle.calendar.specs.Calendar.{limited, annual, offPeak, days, due}
 use Rattle.allotment.specs.Allot.{share}
 use Rattle.owed.specs.Facts.{Facts}
-use Rattle.owed.specs.Owed.{beforeCap, raised, unforced, ofSeller, shareOf, called, calls, shortfallOver, u, cap, daily, taken, charge, excess, e, B}
+use Rattle.owed.specs.Owed.{beforeCap, raised, unforced, ofSeller, shareOf, called, calls, shortfallOver, u, cap, daily, spent, charge, excess, e, B}
 
 -- Year A, with registration 0 of this product and registration 1 of this seller. Events of these periods list these registrations, a test both, with
 -- reductions of v and 2,100.
@@ -50,9 +50,9 @@ figures : (unforced A 400 ≡ 410)
     × (u A 0 0 ≡ 410) × (daily A 0 0 0 ≡ 2050000)
     × (beforeCap 1 1 410 10000 ≡ 2050000) × (beforeCap 1 2 410 10000 ≡ 2050000) × (beforeCap 1 3 410 10000 ≡ 1366666)
     × (beforeCap offPeak 0 410 10000 ≡ 78846)
-    × (u twin 0 0 ≡ 1026) × (u twin 1 0 ≡ 1026) × (cap twin 0 ≡ 10260000) × (taken twin 2 0 ≡ 10260000) × (taken twin 3 0 ≡ 10260000)
+    × (u twin 0 0 ≡ 1026) × (u twin 1 0 ≡ 1026) × (cap twin 0 ≡ 10260000) × (spent twin 2 0 ≡ 10260000) × (spent twin 3 0 ≡ 10260000)
     × (due limited 1 ≡ 5) × (due limited 4 ≡ 7) × (due annual 12 ≡ 15)
-unfolding sumTo convert due share beforeCap unforced ofSeller shareOf calls shortfallOver u cap daily taken
+unfolding sumTo convert due share beforeCap unforced ofSeller shareOf calls shortfallOver u cap daily spent
 figures =
     (refl, refl, refl, refl, refl, refl, refl, refl, refl, refl, refl, refl, refl, refl, refl, refl, refl, refl, refl, refl, refl)
 
@@ -75,7 +75,7 @@ base-figure = refl
 -- three on-peak events: n is 3 for the first of them too, and 1,366,666 × 183 / 1,000 is 250,099 from its due month on. Rounded to cents before, it would be 249,978.
 days-figure : (charge (yearA limited 1 (1 ∷ 1 ∷ 1 ∷ []) (true ∷ true ∷ []) 600) 6 0 0 ≡ 250099)
     × (charge (yearA limited 1 (1 ∷ 1 ∷ 1 ∷ []) (true ∷ true ∷ []) 600) 4 0 0 ≡ 0)
-unfolding sumTo convert days due share beforeCap unforced ofSeller shareOf calls shortfallOver u cap daily taken charge
+unfolding sumTo convert days due share beforeCap unforced ofSeller shareOf calls shortfallOver u cap daily spent charge
 days-figure = (refl, refl)
 
 -- both registrations are seller 0's, and it is short: registration 1 has no excess, though it gives 100 more

@@ -67,7 +67,7 @@ module _ (F : Facts) where
   unfoldable pub u : ℕ → ℕ → ℕ
   u ev i = shareOf (lack ev) (shortfall ev) i
 
-  -- step 4: the cap, and its rest when x of it is taken
+  -- step 4: the cap, and its rest when x of it is spent
   unfoldable pub cap : ℕ → ℕ
   cap i = unforced (F .committed i) * F .rate i
 
@@ -78,10 +78,10 @@ module _ (F : Facts) where
   unfoldable pub daily : ℕ → ℕ → ℕ → ℕ
   daily ev x i = only (F .listed ev) (λ i. min (beforeCap (F .period ev) (calls i) (u ev i) (F .rate i)) (rest i x)) i
 
-  -- what the events before ev took of the cap, due or not
-  unfoldable pub taken : ℕ → ℕ → ℕ
-  taken zero i = 0
-  taken (suc ev) i = taken ev i + daily ev (taken ev i) i
+  -- what the events before ev spent of the cap, due or not
+  unfoldable pub spent : ℕ → ℕ → ℕ
+  spent zero i = 0
+  spent (suc ev) i = spent ev i + daily ev (spent ev i) i
 
   -- a seller's revenue to date
   unfoldable pub revenue : ℕ → ℕ → ℕ
@@ -89,7 +89,7 @@ module _ (F : Facts) where
 
   -- step 5: the charge to date in cents
   unfoldable pub charge : ℕ → ℕ → ℕ → ℕ
-  charge k ev i = cond (leb (due (F .product i) (F .month ev)) k) (daily ev (taken ev i) i * D k / 1000) 0
+  charge k ev i = cond (leb (due (F .product i) (F .month ev)) k) (daily ev (spent ev i) i * D k / 1000) 0
 
   -- excess credit: a seller's excess, and e
   unfoldable pub excess : ℕ → ℕ → ℕ

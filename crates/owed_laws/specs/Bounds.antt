@@ -13,7 +13,7 @@ use Rattle.units.specs.Units.{convert-scaled}
 use Rattle.calendar.specs.Calendar.{due, days-le}
 use Rattle.allotment.specs.Allot.{share-most}
 use Rattle.owed.specs.Facts.{Facts, registrations}
-use Rattle.owed.specs.Owed.{raised, D, unforced, ofSeller, shareOf, shortfallOver, shortfall, lack, more, u, cap, daily, taken, charge, excess, e, creditLimit, creditOf, stands, testShortfall, B, testOf}
+use Rattle.owed.specs.Owed.{raised, D, unforced, ofSeller, shareOf, shortfallOver, shortfall, lack, more, u, cap, daily, spent, charge, excess, e, creditLimit, creditOf, stands, testShortfall, B, testOf}
 use Rattle.owed_laws.specs.Limits.{Limits}
 use Rattle.owed_laws.specs.Sellers.{ofSeller-le, net-is, excess-is}
 use Rattle.owed_laws.specs.Allotments.{e-allotted}
@@ -71,7 +71,7 @@ module _ {F : Facts} (L : Limits F) where
       let s = F .seller i in
       le-trans (rw (eq-eqb s s refl) at (e-allotted F ev s .most (excess-le ev s) i)) (more-le ev i)
 
-  -- a registration's cap, and what is taken of it
+  -- a registration's cap, and what is spent of it
   pub cap-le : (i : ℕ) → cap F i ≤ 14400000000
   unfolding cap
   cap-le i = mul-le-mul (unforced-one (L .committed i)) (L .rate i)
@@ -82,7 +82,7 @@ module _ {F : Facts} (L : Limits F) where
 
   pub charge-le : (k ev i : ℕ) → charge F k ev i ≤ 5270400000
   unfolding charge
-  charge-le k ev i = cond-le (leb (due (F .product i) (F .month ev)) k) (omega (arith, mul-le-mul (daily-le ev (taken F ev i) i) (D-le k)))
+  charge-le k ev i = cond-le (leb (due (F .product i) (F .month ev)) k) (omega (arith, mul-le-mul (daily-le ev (spent F ev i) i) (D-le k)))
 
   -- all e of an event, and what is allotted of its charges
   pub e-sum : (ev : ℕ) → sumTo registrations (e F ev) ≤ 6400000

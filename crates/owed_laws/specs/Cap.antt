@@ -1,4 +1,4 @@
--- The yearly limit: no more than the cap is ever taken of it, so a seller's compliance is at most its revenue to date.
+-- The yearly limit: no more than the cap is ever spent of it, so a seller's compliance is at most its revenue to date.
 use Prim.Native.Nat.{ℕ, zero, suc, _+_, _*_, _-_, _/_, _≤_, min}
 use mathlib.Core.Bool.{Bool, true, false, cond}
 use mathlib.Core.Path.{_≡_, refl}
@@ -9,37 +9,37 @@ use Rattle.ids.specs.Ids.{sumTo, only}
 use Rattle.units.specs.Units.{convert-zero}
 use Rattle.calendar.specs.Calendar.{due}
 use Rattle.owed.specs.Facts.{Facts}
-use Rattle.owed.specs.Owed.{D, unforced, ofSeller, cap, daily, taken, revenue, charge, compliance}
+use Rattle.owed.specs.Owed.{D, unforced, ofSeller, cap, daily, spent, revenue, charge, compliance}
 use Rattle.owed_laws.specs.Limits.{Limits}
 use Rattle.owed_laws.specs.Sellers.{ofSeller-mono, ofSeller-mul, ofSeller-sum}
 
 module _ (F : Facts) where
-  pub taken-le : (ev i : ℕ) → taken F ev i ≤ cap F i
-  unfolding taken daily
-  taken-le zero i = omega arith
-  taken-le (suc ev) i = go (F .listed ev i) _ (taken-le ev i)
+  pub spent-le : (ev i : ℕ) → spent F ev i ≤ cap F i
+  unfolding spent daily
+  spent-le zero i = omega arith
+  spent-le (suc ev) i = go (F .listed ev i) _ (spent-le ev i)
     where
       go : (b : Bool) (a : ℕ) {c x : ℕ} → x ≤ c → x + cond b (min a (c - x)) 0 ≤ c
       go true a h = omega arith
       go false a h = omega arith
 
   module _ (k i : ℕ) where
-    charge-days : (ev : ℕ) → charge F k ev i * 1000 ≤ daily F ev (taken F ev i) i * D F k
+    charge-days : (ev : ℕ) → charge F k ev i * 1000 ≤ daily F ev (spent F ev i) i * D F k
     unfolding charge
-    charge-days ev = go (leb (due (F .product i) (F .month ev)) k) (daily F ev (taken F ev i) i * D F k)
+    charge-days ev = go (leb (due (F .product i) (F .month ev)) k) (daily F ev (spent F ev i) i * D F k)
       where
         go : (b : Bool) (x : ℕ) → cond b (x / 1000) 0 * 1000 ≤ x
         go true x = div-mul-le-self x 1000
         go false x = omega arith
 
     -- the charges to date of the first m events
-    charges-days : (m : ℕ) → sumTo m (λ ev. charge F k ev i) * 1000 ≤ taken F m i * D F k
-    unfolding sumTo taken
+    charges-days : (m : ℕ) → sumTo m (λ ev. charge F k ev i) * 1000 ≤ spent F m i * D F k
+    unfolding sumTo spent
     charges-days zero = omega arith
     charges-days (suc m) = omega (arith, charges-days m, charge-days m)
 
     pub charges-cap : (m : ℕ) → sumTo m (λ ev. charge F k ev i) * 1000 ≤ cap F i * D F k
-    charges-cap m = omega (arith, charges-days m, mul-le-mul-right (D F k) (taken-le m i))
+    charges-cap m = omega (arith, charges-days m, mul-le-mul-right (D F k) (spent-le m i))
 
   pub seller-cap : (k m s : ℕ) {f : ℕ → ℕ} → ((i : ℕ) → cap F i ≤ f i) → sumTo m (λ ev. ofSeller F s (charge F k ev)) * 1000 ≤ ofSeller F s f * D F k
   seller-cap k m s {f} h =

@@ -9,7 +9,7 @@ use Rattle.ids.specs.Ids.{sumTo, anyTo, only, keyed}
 use Rattle.ids.specs.Sums.{sum-same}
 use Rattle.ids.specs.Tests.{any-same}
 use Rattle.owed.specs.Facts.{Facts, registrations, places}
-use Rattle.owed.specs.Owed.{unforced, ofSeller, shareOf, called, calls, shortfallOver, shortfall, lack, u, cap, daily, taken, charge, stands, B, testOf, compliance, test}
+use Rattle.owed.specs.Owed.{unforced, ofSeller, shareOf, called, calls, shortfallOver, shortfall, lack, u, cap, daily, spent, charge, stands, B, testOf, compliance, test}
 
 -- two facts that agree in what is seller r's, along the accepted events and at every test
 pub record Same (r : ℕ) (F G : Facts) : Type 0 where
@@ -95,15 +95,15 @@ module _ {r : ℕ} {F G : Facts} (h : Same r F G) where
     same-daily x i own =
         cc (h .listed ev l i own, h .period ev l, h .rate i own, same-calls i own, same-u i own, same-cap i own)
 
-  same-taken : (ev : ℕ) → ev ≤ F .events → Alike (taken F ev) (taken G ev)
-  unfolding taken
-  same-taken zero l i own = refl
-  same-taken (suc ev) l i own = cc (same-taken ev (omega arith) i own, same-daily ev l (taken F ev i) i own)
+  same-spent : (ev : ℕ) → ev ≤ F .events → Alike (spent F ev) (spent G ev)
+  unfolding spent
+  same-spent zero l i own = refl
+  same-spent (suc ev) l i own = cc (same-spent ev (omega arith) i own, same-daily ev l (spent F ev i) i own)
 
   same-charge : (k ev : ℕ) → ev < F .events → Alike (charge F k ev) (charge G k ev)
   unfolding charge
   same-charge k ev l i own =
-      cc (h .leap, h .product i own, h .month ev l, same-taken ev (omega arith) i own, same-daily ev l (taken F ev i) i own)
+      cc (h .leap, h .product i own, h .month ev l, same-spent ev (omega arith) i own, same-daily ev l (spent F ev i) i own)
 
   pub same-compliance : (k : ℕ) → compliance F k r ≡ compliance G k r
   unfolding compliance

@@ -10,7 +10,7 @@ use Rattle.ids.specs.Tests.{cond-le}
 use Rattle.calendar.specs.Calendar.{due}
 use Rattle.allotment.specs.Allot.{share-zero}
 use Rattle.owed.specs.Facts.{Facts, registrations}
-use Rattle.owed.specs.Owed.{oneOrThree, beforeCap, D, shareOf, calls, lack, more, shortfall, excess, u, daily, taken, charge, e, creditShare, creditLimit, creditOf}
+use Rattle.owed.specs.Owed.{oneOrThree, beforeCap, D, shareOf, calls, lack, more, shortfall, excess, u, daily, spent, charge, e, creditShare, creditLimit, creditOf}
 
 -- a weight of 0
 share-none : (F : Facts) (weight amount : ℕ → ℕ) (i : ℕ) → weight i ≡ 0 → shareOf F weight amount i ≡ 0
@@ -48,6 +48,6 @@ module _ (F : Facts) (ev i : ℕ) (none : u F ev i ≡ 0) where
   pub charge-none : (k : ℕ) → charge F k ev i ≡ 0
   unfolding charge
   charge-none k =
-      let z : daily F ev (taken F ev i) i * D F k / 1000 ≡ 0 = rw (daily-none (taken F ev i), zero-mul (D F k)) in
+      let z : daily F ev (spent F ev i) i * D F k / 1000 ≡ 0 = rw (daily-none (spent F ev i), zero-mul (D F k)) in
       let le : charge F k ev i ≤ 0 = cond-le (leb (due (F .product i) (F .month ev)) k) (omega arith) in
       omega arith

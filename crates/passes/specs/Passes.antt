@@ -8,7 +8,7 @@ use Rattle.owed.specs.Facts.{Facts}
 use Rattle.owed.specs.Owed as owed
 use Rattle.sharing.specs.Sharing.{Shares}
 use Rattle.table.specs.Columns.{Columns, columns-aside}
-use Rattle.table.specs.Places.{callsRow, calledRow, takenRow, complianceRow, creditRow, lackRow}
+use Rattle.table.specs.Places.{callsRow, calledRow, spentRow, complianceRow, creditRow, lackRow}
 use Rattle.table.specs.Rows.{Aside, Row, none, mark, row-aside, row-within}
 
 -- after m events
@@ -27,11 +27,11 @@ run-first {F} k {w} {v} h z a n c =
       columns = columns-aside h a (omega arith) (omega arith);
       calls = n;
       called = c;
-      billed = billed-first F k (fresh takenRow 64 (omega arith) (omega arith)) (fresh complianceRow 16 (omega arith) (omega arith));
+      billed = billed-first F k (fresh spentRow 64 (omega arith) (omega arith)) (fresh complianceRow 16 (omega arith) (omega arith));
       credit = credit-first F k (fresh creditRow 16 (omega arith) (omega arith));
     }
   where
-    fresh : (p n : ℕ) → takenRow ≤ p → p + n ≤ lackRow → Row v p n none
+    fresh : (p n : ℕ) → spentRow ≤ p → p + n ≤ lackRow → Row v p n none
     fresh p n x y = row-aside (row-within p n z (omega arith) (omega arith)) a (λ j l o q. omega arith)
 
 -- an event's own rows are filled
@@ -41,7 +41,7 @@ run-aside h a =
       columns = columns-aside (h .columns) a (omega arith) (omega arith);
       calls = row-aside (h .calls) a (λ j l x y. omega arith);
       called = row-aside (h .called) a (λ j l x y. omega arith);
-      billed = record { taken = row-aside (h .billed .taken) a (λ j l x y. omega arith); compliance = row-aside (h .billed .compliance) a (λ j l x y. omega arith) };
+      billed = record { spent = row-aside (h .billed .spent) a (λ j l x y. omega arith); compliance = row-aside (h .billed .compliance) a (λ j l x y. omega arith) };
       credit = row-aside (h .credit) a (λ j l x y. omega arith);
     }
 
@@ -49,13 +49,13 @@ pub given : {F : Facts} {k ev : ℕ} {w : List ℕ} → Run F k ev w → Shares 
 given h s = record { columns = h .columns; calls = h .calls; shares = s }
 
 -- its charges, then its credits
-pub run-more : {F : Facts} {k ev : ℕ} {w m v : List ℕ} → Run F k ev w → Aside takenRow 80 w m → Billed F k (ev + 1) m → Aside creditRow 16 m v
+pub run-more : {F : Facts} {k ev : ℕ} {w m v : List ℕ} → Run F k ev w → Aside spentRow 80 w m → Billed F k (ev + 1) m → Aside creditRow 16 m v
     → Row v creditRow 16 (creditBy F k (ev + 1)) → Run F k (ev + 1) v
 run-more h a b c r =
     record {
       columns = columns-aside (columns-aside (h .columns) a (omega arith) (omega arith)) c (omega arith) (omega arith);
       calls = row-aside (row-aside (h .calls) a (λ j l x y. omega arith)) c (λ j l x y. omega arith);
       called = row-aside (row-aside (h .called) a (λ j l x y. omega arith)) c (λ j l x y. omega arith);
-      billed = record { taken = row-aside (b .taken) c (λ j l x y. omega arith); compliance = row-aside (b .compliance) c (λ j l x y. omega arith) };
+      billed = record { spent = row-aside (b .spent) c (λ j l x y. omega arith); compliance = row-aside (b .compliance) c (λ j l x y. omega arith) };
       credit = r;
     }

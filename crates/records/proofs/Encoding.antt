@@ -191,7 +191,7 @@ module _ {vs : List ℕ} {room k : ℕ} (e : k ≡ at vs 0) (w : Writable vs roo
       subst (λ (l : List ℕ). Wrote old new b d (total (widths (rulesBy vs))) (joined (widths (rulesBy vs)) l)) whole g
 
   -- all of it, finished, is the record's bytes
-  pub all-written : {old one new : List ℕ} {b c : Writer} {size : ℕ} → b .at ≡ 0 → b .held ≡ 0 → b .rest ≡ 0
+  pub all-written : {old one new : List ℕ} {b c : Writer} {size : ℕ} → b .at ≡ 0 → b .waiting ≡ 0 → b .rest ≡ 0
       → Wrote old one b c (total (widths (rulesBy vs))) (joined (widths (rulesBy vs)) vs) → Finished one new c size
       → Bytes old → Bytes new → length old ≡ room → (size ≡ sizeOf (rulesBy vs)) × (new ≡ over (bytesBy vs) old)
   unfolding bytesBy

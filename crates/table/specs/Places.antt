@@ -27,9 +27,9 @@ callsRow = 320
 abbrev pub calledRow : ℕ
 calledRow = 384
 
--- what is taken of a cap; a seller's charges and credits to date
-abbrev pub takenRow : ℕ
-takenRow = 448
+-- what is spent of a cap; a seller's charges and credits to date
+abbrev pub spentRow : ℕ
+spentRow = 448
 
 abbrev pub complianceRow : ℕ
 complianceRow = 512

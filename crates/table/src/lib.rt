@@ -26,7 +26,7 @@ pub const CALLS: usize = 320;
 pub const CALLED: usize = 384;
 
 // By registration what the events so far took of its cap; by seller, 16 places each, their charges and credits to date.
-pub const TAKEN: usize = 448;
+pub const SPENT: usize = 448;
 
 pub const COMPLIANCE: usize = 512;
 

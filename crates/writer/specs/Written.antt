@@ -16,10 +16,10 @@ joined (w ∷ ws) (v ∷ vs) = v * 2 ^ total ws + joined ws vs
 
 -- how many bits a writer has written, and the number that they spell
 abbrev pub writtenBits : Writer → ℕ
-writtenBits p = 8 * p .at + p .held
+writtenBits p = 8 * p .at + p .waiting
 
 abbrev pub written : List ℕ → Writer → ℕ
-written xs p = fieldAt xs 0 (8 * p .at) * 2 ^ p .held + p .rest
+written xs p = fieldAt xs 0 (8 * p .at) * 2 ^ p .waiting + p .rest
 
 -- n bytes from a place on are a number's, and those behind them are as they were
 pub record Out (old new : List ℕ) (at n v : ℕ) : Type 0 where
@@ -29,8 +29,8 @@ pub record Out (old new : List ℕ) (at n v : ℕ) : Type 0 where
 
 -- less than a word of eight bytes is held back
 pub record Ready (p : Writer) : Type 0 where
-  pub part : p .held < 64
-  pub small : p .rest < 2 ^ p .held
+  pub part : p .waiting < 64
+  pub small : p .rest < 2 ^ p .waiting
 
 -- the writer p has gone on to q, by the w bits of v; the bytes from its next one on are as they were
 pub record Wrote (old new : List ℕ) (p q : Writer) (w v : ℕ) : Type 0 where

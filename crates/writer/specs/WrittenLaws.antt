@@ -99,7 +99,7 @@ written-join {old} {cur} {new} {p} {q} {r} {a} {u} {b} {v} f g =
 
 -- a table written from the first bit on, and then zero bits, make the encoding
 module _ {old cur new : List ℕ} {p q : Writer} {size : ℕ} (ws vs : List ℕ) (valid : Valid ws vs) (same : length vs ≡ length ws)
-    (at : p .at ≡ 0) (held : p .held ≡ 0) (rest : p .rest ≡ 0) (f : Wrote old cur p q (total ws) (joined ws vs)) (g : Finished cur new q size) where
+    (at : p .at ≡ 0) (waiting : p .waiting ≡ 0) (rest : p .rest ≡ 0) (f : Wrote old cur p q (total ws) (joined ws vs)) (g : Finished cur new q size) where
   bits-are : writtenBits q ≡ total ws
   bits-are = omega (arith, f .ends)
 
@@ -109,7 +109,7 @@ module _ {old cur new : List ℕ} {p q : Writer} {size : ℕ} (ws vs : List ℕ)
   spelt : written cur q ≡ joined ws vs
   unfolding number
   spelt =
-      let none : written old p ≡ 0 = rw (at, held, rest) in
+      let none : written old p ≡ 0 = rw (at, waiting, rest) in
       f .spells ∙ rw none (omega arith)
 
   abbrev fill : ℕ

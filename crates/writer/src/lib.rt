@@ -9,7 +9,7 @@ ghost use Rattle.writer.specs.Written.{writtenBits, joined, Out, Ready, 
 // The next byte, and the bits held back from it on: how many, and the number that they spell.
 pub struct Writer {
     pub at: usize,
-    pub held: usize,
+    pub waiting: usize,
     pub rest: u64,
 }
 
@@ -29,11 +29,11 @@ fn out(bytes: &mut [u8], at: usize, n: usize, word: u64)
 
 impl Writer {
     pub fn new() -> Writer
-        ensures { λ r. ⌜ (r .at ≡ 0) × (r .held ≡ 0) × (r .rest ≡ 0) ⌝ }
+        ensures { λ r. ⌜ (r .at ≡ 0) × (r .waiting ≡ 0) × (r .rest ≡ 0) ⌝ }
     {
         Writer {
             at: 0,
-            held: 0,
+            waiting: 0,
             rest: 0,
         }
     }
@@ -46,11 +46,11 @@ impl Writer {
         requires { ⌜ writtenBits self + width ≤ 8 * length (now bytes) ⌝ }
         ensures { λ r. ⌜ Wrote (now (bytes .entry)) (now (bytes .exit)) self r width value ⌝ }
     {
-        let bits = self.held + width;
+        let bits = self.waiting + width;
         if bits < 64 {
             return Writer {
                 at: self.at,
-                held: bits,
+                waiting: bits,
                 rest: (self.rest << width) | value,
             };
         }
@@ -63,7 +63,7 @@ impl Writer {
         );
         Writer {
             at: self.at + 8,
-            held: over,
+            waiting: over,
             rest: value & ((1u64 << over) - 1),
         }
     }
@@ -114,8 +114,8 @@ impl Writer {
         requires { ⌜ writtenBits self ≤ 8 * length (now bytes) ⌝ }
         ensures { λ r. ⌜ Finished (now (bytes .entry)) (now (bytes .exit)) self r ⌝ }
     {
-        let size = (self.held + 7) / 8;
-        out(bytes, self.at, size, self.rest << (8 * size - self.held));
+        let size = (self.waiting + 7) / 8;
+        out(bytes, self.at, size, self.rest << (8 * size - self.waiting));
         self.at + size
     }
 }

@@ -5,12 +5,12 @@ use mathlib.Core.Logic.{⊎-elim}
 use native.Mathlib.Omega.{arith}
 use Rattle.looks.specs.Looks.{facts}
 use Rattle.owed.specs.Facts.{Facts}
-use Rattle.owed.specs.Owed.{u, daily, taken, charge}
+use Rattle.owed.specs.Owed.{u, daily, spent, charge}
 use Rattle.owed_laws.specs.Limits.{limits}
 use Rattle.owed_laws.specs.Bounds.{D-le, u-le, daily-le, charge-le}
 use Rattle.table.specs.Places.{complianceRow}
 use Rattle.table.specs.Rows.{renewed-next}
-use Rattle.charging.specs.Charging.{Charging, dailyOf, lineOf, line-is, charging-first, charging-none, charging-more, charging-all, taken-most, compliance-most, sum-most, daily-is, charge-is}
+use Rattle.charging.specs.Charging.{Charging, dailyOf, lineOf, line-is, charging-first, charging-none, charging-more, charging-all, spent-most, compliance-most, sum-most, daily-is, charge-is}
 use Rattle.charging.proofs.charge.Statement.{statement}
 use Rattle.charging.proofs.charge.Tie as tie
 
@@ -28,11 +28,11 @@ module _ (c : tie.After-line-at Inv-loop μ-loop) where
   some : u F (c .before .before .before .before .before .before .before .before .before .before .args .ev) (c .before .before .before .before .before .before .loop .i) ≡ 0 → ⊥
   some z = c .before .before .if1 .taken (c .before .before .before .get .ensures ∙ c .before .before .before .before .before .before .loop .inv .given .shares .u .is (c .before .before .before .before .before .before .loop .i) (omega arith) ∙ z)
 
-  line : c .line-at .result ≡ lineOf F (c .before .before .before .before .before .before .before .before .before .before .args .ev) (c .before .before .before .before .before .before .loop .i) (taken F (c .before .before .before .before .before .before .before .before .before .before .args .ev) (c .before .before .before .before .before .before .loop .i))
-  line = c .line-at .ensures ∙ line-is (c .before .before .before .before .before .before .loop .inv .given) (omega arith) (renewed-next (c .before .before .before .before .before .before .loop .inv .taken) (omega arith))
+  line : c .line-at .result ≡ lineOf F (c .before .before .before .before .before .before .before .before .before .before .args .ev) (c .before .before .before .before .before .before .loop .i) (spent F (c .before .before .before .before .before .before .before .before .before .before .args .ev) (c .before .before .before .before .before .before .loop .i))
+  line = c .line-at .ensures ∙ line-is (c .before .before .before .before .before .before .loop .inv .given) (omega arith) (renewed-next (c .before .before .before .before .before .before .loop .inv .spent) (omega arith))
 
 module _ (c : tie.After-daily-of Inv-loop μ-loop) where
-  daily-eq : c .daily-of .result ≡ daily (F (c .before)) (c .before .before .before .before .before .before .before .before .before .before .before .args .ev) (taken (F (c .before)) (c .before .before .before .before .before .before .before .before .before .before .before .args .ev) (c .before .before .before .before .before .before .before .loop .i)) (c .before .before .before .before .before .before .before .loop .i)
+  daily-eq : c .daily-of .result ≡ daily (F (c .before)) (c .before .before .before .before .before .before .before .before .before .before .before .args .ev) (spent (F (c .before)) (c .before .before .before .before .before .before .before .before .before .before .before .args .ev) (c .before .before .before .before .before .before .before .loop .i)) (c .before .before .before .before .before .before .before .loop .i)
   daily-eq = c .daily-of .ensures ∙ ap (dailyOf (c .before .before .before .before .before .before .before .before .before .before .one-or-three .result)) (line (c .before)) ∙ daily-is (F (c .before)) (c .before .before .before .before .before .before .before .before .before .before .before .args .ev) (c .before .before .before .before .before .before .before .loop .i) (some (c .before)) _ (c .before .before .before .before .before .before .before .before .before .before .one-or-three .ensures)
 
   daily-most : c .daily-of .result ≤ 14400000000
@@ -69,7 +69,7 @@ cents-requires c κs =
 add-at-requires : tie.Need-add-at-requires Inv-loop μ-loop
 add-at-requires c κs =
     let h = c .before .before .before .before .before .before .before .before .before .loop .inv in
-    (omega (arith, h .given .columns .long), omega (arith, taken-most h (limits (c .before .before .before .before .before .before .before .before .before .before .before .before .before .pre .0 .sound)) (omega arith), daily-most (c .before .before)))
+    (omega (arith, h .given .columns .long), omega (arith, spent-most h (limits (c .before .before .before .before .before .before .before .before .before .before .before .before .before .pre .0 .sound)) (omega arith), daily-most (c .before .before)))
 
 add-at-requires-2 : tie.Need-add-at-requires-2 Inv-loop μ-loop
 add-at-requires-2 c κs =

@@ -9,7 +9,7 @@ use Rattle.looks.specs.Looks.{facts}
 use Rattle.owed_laws.specs.Limits.{limits}
 use Rattle.owed.specs.Owed.{creditOf}
 use Rattle.owed_laws.specs.Bounds.{D-le, e-le, e-sum, credit-le}
-use Rattle.table.specs.Places.{takenRow}
+use Rattle.table.specs.Places.{spentRow}
 use Rattle.table.specs.Rows.{mark-false}
 use Rattle.crediting.specs.Crediting.{Crediting, excesses, crediting-first, crediting-none, crediting-more, crediting-all, credit-most, asks, credit-is}
 use Rattle.crediting.proofs.credit.Statement.{statement}
@@ -31,7 +31,7 @@ loop-holds : tie.Need-loop-holds Inv-loop μ-loop
 loop-holds c = let p = c .before .before .before .before .before .pre .1 .1 in crediting-first (p .0) (p .1 .0) (p .1 .1) (c .before .sum .ensures) (c .new .ensures)
 
 -- the entry's line, its share and its credit, as the rules have them
-line : (c : tie.After-line-at Inv-loop μ-loop) → c .line-at .result ≡ lineOf (facts (c .before .before .before .before .before .before .before .before .before .before .before .before .args .year .now)) (c .before .before .before .before .before .before .before .before .before .before .before .before .args .ev) (c .before .before .before .before .before .before .loop .i) (at (c .before .before .before .before .before .before .loop .work) (takenRow + c .before .before .before .before .before .before .loop .i))
+line : (c : tie.After-line-at Inv-loop μ-loop) → c .line-at .result ≡ lineOf (facts (c .before .before .before .before .before .before .before .before .before .before .before .before .args .year .now)) (c .before .before .before .before .before .before .before .before .before .before .before .before .args .ev) (c .before .before .before .before .before .before .loop .i) (at (c .before .before .before .before .before .before .loop .work) (spentRow + c .before .before .before .before .before .before .loop .i))
 line c = c .line-at .ensures ∙ line-is (c .before .before .before .before .before .before .loop .inv .given) (omega arith) refl
 
 credit-eq : (c : tie.After-lesser Inv-loop μ-loop) → c .lesser .result ≡ creditOf (facts (c .before .before .before .before .before .before .before .before .before .before .before .before .before .before .before .before .args .year .now)) (c .before .before .before .before .before .before .before .before .before .before .before .before .before .before .before .before .args .k) (c .before .before .before .before .before .before .before .before .before .before .before .before .before .before .before .before .args .ev) (c .before .before .before .before .before .before .before .before .before .before .loop .i)

@@ -11,34 +11,34 @@ use Rattle.writer.proofs.Writer.finish.Statement.{statement}
 use Rattle.writer.proofs.Writer.finish.Tie as tie
 
 -- the bits held, and n zero bits behind them
-module _ (p : Writer) (n m : ℕ) (r : Ready p) (e : p .held + n ≡ m) (l : m ≤ 64) where
+module _ (p : Writer) (n m : ℕ) (r : Ready p) (e : p .waiting + n ≡ m) (l : m ≤ 64) where
   filled : (p .rest * 2 ^ n) % 2 ^ 64 ≡ p .rest * 2 ^ n
-  filled = shl-exact {a = p .rest} (p .held) n 64 (r .small) (omega arith)
+  filled = shl-exact {a = p .rest} (p .waiting) n 64 (r .small) (omega arith)
 
   filled-lt : (p .rest * 2 ^ n) % 2 ^ 64 < 2 ^ m
-  filled-lt = rw (filled, ← e) (shl-lt {a = p .rest} (p .held) n (r .small))
+  filled-lt = rw (filled, ← e) (shl-lt {a = p .rest} (p .waiting) n (r .small))
 
-  spells : (f : ℕ) → f * 2 ^ m + (p .rest * 2 ^ n) % 2 ^ 64 ≡ (f * 2 ^ p .held + p .rest) * 2 ^ n
-  spells f = rw (filled, ← e, pow-add 2 (p .held) n) (omega arith)
+  spells : (f : ℕ) → f * 2 ^ m + (p .rest * 2 ^ n) % 2 ^ 64 ≡ (f * 2 ^ p .waiting + p .rest) * 2 ^ n
+  spells f = rw (filled, ← e, pow-add 2 (p .waiting) n) (omega arith)
 
 out-requires : tie.Need-out-requires
 out-requires c κs =
     let s = c .before .before .before .before .before in
     let p = s .args .self in
-    let size = (p .held + 7) / 8 in
-    (omega (arith, s .pre .0 .part), (filled-lt p (8 * size - p .held) (8 * size) (s .pre .0) (omega arith) (omega (arith, s .pre .0 .part)), omega arith))
+    let size = (p .waiting + 7) / 8 in
+    (omega (arith, s .pre .0 .part), (filled-lt p (8 * size - p .waiting) (8 * size) (s .pre .0) (omega arith) (omega (arith, s .pre .0 .part)), omega arith))
 
 returns : tie.Need-returns
 returns c =
     let s = c .before .before .before .before .before .before .before .before .before in
     let p = s .args .self in
-    let size = (p .held + 7) / 8 in
+    let size = (p .waiting + 7) / 8 in
     let g = c .before .before .before .out .ensures in
-    let fill : 8 * (p .at + size) - writtenBits p ≡ 8 * size - p .held = omega arith in
+    let fill : 8 * (p .at + size) - writtenBits p ≡ 8 * size - p .waiting = omega arith in
     record {
       long = g .long;
       ends = omega arith;
-      spells = rw (g .spells, fill) (spells p (8 * size - p .held) (8 * size) (s .pre .0) (omega arith) (omega (arith, s .pre .0 .part)) (fieldAt (s .args .bytes .now) 0 (8 * p .at)));
+      spells = rw (g .spells, fill) (spells p (8 * size - p .waiting) (8 * size) (s .pre .0) (omega arith) (omega (arith, s .pre .0 .part)) (fieldAt (s .args .bytes .now) 0 (8 * p .at)));
       after = g .after;
     }
 

@@ -18,12 +18,12 @@ use Rattle.writer.proofs.Writer.put.Tie as tie
 abbrev both : ℕ → ℕ → ℕ → ℕ
 both u b v = bitOr ((u * 2 ^ b) % 2 ^ 64) v
 
-module _ (p : Writer) (b v : ℕ) (r : Ready p) (h : p .held + b ≤ 64) (l : v < 2 ^ b) where
+module _ (p : Writer) (b v : ℕ) (r : Ready p) (h : p .waiting + b ≤ 64) (l : v < 2 ^ b) where
   both-is : both (p .rest) b v ≡ p .rest * 2 ^ b + v
-  both-is = behind (p .rest) v (p .held) b h (r .small) l
+  both-is = behind (p .rest) v (p .waiting) b h (r .small) l
 
-  both-lt : both (p .rest) b v < 2 ^ (p .held + b)
-  both-lt = rw (both-is, pow-add 2 (p .held) b) (digits-lt (r .small) l)
+  both-lt : both (p .rest) b v < 2 ^ (p .waiting + b)
+  both-lt = rw (both-is, pow-add 2 (p .waiting) b) (digits-lt (r .small) l)
 
 returns : tie.Need-returns
 returns c =
@@ -37,12 +37,12 @@ returns c =
       onward = omega arith;
       ready = record { part = omega arith; small = both-lt p w v (s .pre .0) (omega arith) (s .pre .1 .1 .0) };
       ends = omega arith;
-      spells = rw (n, pow-add 2 (p .held) w) (omega arith);
+      spells = rw (n, pow-add 2 (p .waiting) w) (omega arith);
       after = λ i h. refl;
     }
 
 -- the word that goes out has the first d bits of the value, and the last o are over
-module _ (p : Writer) (d o v : ℕ) (r : Ready p) (e : p .held + d ≡ 64) (l : v < 2 ^ (d + o)) where
+module _ (p : Writer) (d o v : ℕ) (r : Ready p) (e : p .waiting + d ≡ 64) (l : v < 2 ^ (d + o)) where
   high-lt : v / 2 ^ o < 2 ^ d
   high-lt = shr-lt d o l
 
@@ -52,10 +52,10 @@ module _ (p : Writer) (d o v : ℕ) (r : Ready p) (e : p .held + d ≡ 64) (l : 
   word-lt : both (p .rest) d (v / 2 ^ o) < 2 ^ 64
   word-lt = rw e at (both-lt p d (v / 2 ^ o) r (omega arith) high-lt)
 
-  spells : (f : ℕ) → (f * 2 ^ 64 + both (p .rest) d (v / 2 ^ o)) * 2 ^ o + v % 2 ^ o ≡ (f * 2 ^ p .held + p .rest) * 2 ^ (d + o) + v
+  spells : (f : ℕ) → (f * 2 ^ 64 + both (p .rest) d (v / 2 ^ o)) * 2 ^ o + v % 2 ^ o ≡ (f * 2 ^ p .waiting + p .rest) * 2 ^ (d + o) + v
   spells f =
-      let whole : 2 ^ 64 ≡ 2 ^ p .held * 2 ^ d = ap (λ (n : ℕ). 2 ^ n) (sym e) ∙ pow-add 2 (p .held) d in
-      rw (word-is, whole, pow-add 2 d o) (apart f (p .rest) (v / 2 ^ o) (v % 2 ^ o) (2 ^ p .held) (2 ^ d) (2 ^ o) ∙ ap (λ (x : ℕ). (f * 2 ^ p .held + p .rest) * (2 ^ d * 2 ^ o) + x) (split v o))
+      let whole : 2 ^ 64 ≡ 2 ^ p .waiting * 2 ^ d = ap (λ (n : ℕ). 2 ^ n) (sym e) ∙ pow-add 2 (p .waiting) d in
+      rw (word-is, whole, pow-add 2 d o) (apart f (p .rest) (v / 2 ^ o) (v % 2 ^ o) (2 ^ p .waiting) (2 ^ d) (2 ^ o) ∙ ap (λ (x : ℕ). (f * 2 ^ p .waiting + p .rest) * (2 ^ d * 2 ^ o) + x) (split v o))
     where
       apart : (f u q m H D O : ℕ) → (f * (H * D) + (u * D + q)) * O + m ≡ (f * H + u) * (D * O) + (q * O + m)
       apart f u q m H D O = omega arith
@@ -65,14 +65,14 @@ out-requires c κs =
     let s = c .before .before .before .before .before in
     let p = s .args .self in
     let w = s .args .width in
-    let o = p .held + w - 64 in
+    let o = p .waiting + w - 64 in
     let all : w - o + o ≡ w = omega (arith, s .pre .0 .part) in
     (omega arith, (word-lt p (w - o) o (s .args .value) (s .pre .0) (omega (arith, s .pre .0 .part)) (rw all (s .pre .1 .1 .0)), omega arith))
 
 sub-t17 : tie.Need-sub-t17
 sub-t17 c =
     let a = c .before .before .before .before .before .before .before .before .before .args in
-    rw (one-shl (a .self .held + a .width - 64) (omega arith)) (pow-pos (a .self .held + a .width - 64))
+    rw (one-shl (a .self .waiting + a .width - 64) (omega arith)) (pow-pos (a .self .waiting + a .width - 64))
 
 returns-2 : tie.Need-returns-2
 returns-2 c =
@@ -80,7 +80,7 @@ returns-2 c =
     let p = s .args .self in
     let w = s .args .width in
     let v = s .args .value in
-    let o = p .held + w - 64 in
+    let o = p .waiting + w - 64 in
     let g = c .before .before .before .out .ensures in
     let rest = masked v o (omega arith) in
     let all : w - o + o ≡ w = omega (arith, s .pre .0 .part) in
