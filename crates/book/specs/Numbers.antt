@@ -1,7 +1,10 @@
 -- The number of a call: questions 1 to 5 first, and the others where none of those fails.
 use Prim.Native.Nat.{ℕ}
+use mathlib.Core.Bool.{Bool, true, false}
 use mathlib.Core.List.{List}
-use mathlib.Core.Path.{_≡_}
+use mathlib.Core.Path.{_≡_, refl, sym, _∙_}
+use lib.Dec.{eqb}
+use borrow.Author.Tests.{eqb-true, eqb-false}
 use Rattle.layouts.specs.Questions.{firstFailed, recordNumber}
 use Rattle.records.specs.Accepted.{Accepted, accepted, number-first, number-later, number-none}
 use Rattle.year.specs.declared.Year.{Year}
@@ -26,3 +29,15 @@ module _ (y : Year) (bytes : List ℕ) (room : ℕ) where
   all-passed e =
       let n = number-none bytes _ e in
       (accepted bytes (n .0), n .1)
+
+-- the number is the same where questions 1 to 5 answer alike and the later ones too
+pub same-post : (y z : Year) (xs ys : List ℕ) (m n : ℕ) → recordNumber xs ≡ recordNumber ys → laterNumber y xs m ≡ laterNumber z ys n → postNumber y xs m ≡ postNumber z ys n
+same-post y z xs ys m n e later = go (eqb (recordNumber ys) 0) refl
+  where
+    go : (b : Bool) → eqb (recordNumber ys) 0 ≡ b → postNumber y xs m ≡ postNumber z ys n
+    go true q =
+        let zero = eqb-true (recordNumber ys) 0 q in
+        record-accepted y xs m (e ∙ zero) ∙ later ∙ sym (record-accepted z ys n zero)
+    go false q =
+        let some = eqb-false (recordNumber ys) 0 q in
+        record-refused y xs m (λ w. some (sym e ∙ w)) ∙ e ∙ sym (record-refused z ys n some)

@@ -2,7 +2,7 @@
 use Prim.Native.Nat.{ℕ, _+_, _*_, _<_}
 use mathlib.Core.Bool.{Bool, true, false, cond}
 use mathlib.Core.List.{List, [], _∷_, _++_}
-use mathlib.Core.Path.{_≡_, refl, sym, ap, _∙_}
+use mathlib.Core.Path.{_≡_, refl, ap, _∙_}
 use native.Mathlib.Omega.{arith}
 use lib.Dec.{eqb, ltb}
 use lib.ListN.{length, drop}
@@ -27,6 +27,7 @@ use Rattle.recorded.specs.After.{yearWith}
 use Rattle.recorded.specs.Recorded.{gather, alone}
 use Rattle.book.specs.Outcome.{recordIn, postNumber, yearAfter, bufferAfter}
 use Rattle.book.specs.Numbers.{record-refused, record-accepted}
+use Rattle.book.specs.Numbers as numbers
 use Rattle.file.specs.Walk.{ends}
 use Rattle.file.specs.Window.{Alike, same-number, same-numbers}
 use Rattle.history.specs.Runs.{Call, statements}
@@ -41,15 +42,7 @@ module _ {xs ys : List ℕ} (e : Alike xs ys) where
 
   module _ (y : Year) where
     pub same-post : (room : ℕ) → postNumber y xs room ≡ postNumber y ys room
-    same-post room = go (eqb (recordNumber ys) 0) refl
-      where
-        go : (b : Bool) → eqb (recordNumber ys) 0 ≡ b → postNumber y xs room ≡ postNumber y ys room
-        go true q =
-            let zero = eqb-true (recordNumber ys) 0 q in
-            record-accepted y xs room (same-number e ∙ zero) ∙ rw same-record (sym (record-accepted y ys room zero))
-        go false q =
-            let some = eqb-false (recordNumber ys) 0 q in
-            record-refused y xs room (λ z. some (sym (same-number e) ∙ z)) ∙ same-number e ∙ sym (record-refused y ys room some)
+    same-post room = numbers.same-post y y xs ys room room (same-number e) (rw same-record)
 
     pub same-year : (room : ℕ) → yearAfter y xs room ≡ yearAfter y ys room
     unfolding yearAfter

@@ -6,9 +6,8 @@ use mathlib.Core.Path.{_≡_, refl, ap, sym, _∙_}
 use native.Mathlib.Omega.{arith}
 use lib.Dec.{eqb}
 use lib.ListN.{length}
-use borrow.Author.Tests.{eqb-true, eqb-false}
 use Rattle.ids.specs.Ids.{at}
-use Rattle.layouts.specs.Questions.{firstFailed, recordNumber}
+use Rattle.layouts.specs.Questions.{firstFailed}
 use Rattle.year.specs.declared.Listing.{Listing}
 use Rattle.year.specs.declared.Year.{Year}
 use Rattle.year.specs.Year.{newYear}
@@ -22,8 +21,8 @@ use Rattle.recorded.specs.Booked.{booked, booked-new}
 use Rattle.questions.specs.Questions.{inTime, questions}
 use Rattle.questions.specs.Admitted.{Admitted, event-held}
 use Rattle.questions.specs.Blind.{records-blind}
-use Rattle.book.specs.Outcome.{recordIn, postNumber}
-use Rattle.book.specs.Numbers.{record-refused, record-accepted}
+use Rattle.book.specs.Outcome.{recordIn}
+use Rattle.book.specs.Numbers.{same-post}
 use Rattle.history.specs.Runs.{Call, Answered, isAccepted, isClosing, acceptances, Variant, done, next}
 use Rattle.history.specs.Taking.{buffered, shown, step, answered, answers, accepts, closes}
 use Rattle.history.specs.Claim.{chargeLine, chargeLines}
@@ -61,21 +60,10 @@ module _ {s : ℕ} {y z : Year} (h : Related s y z) where
         records-blind inTime (length (c .buffer)) y (recordIn (c .bytes)) (recordIn (d .bytes)) (p .alike .heads) (p .alike .listings .listed) (p .alike .listings .deficits)
         ∙ rw (p .room) (years-blind inTime (length (d .buffer)) (h .same) (recordIn (d .bytes)))
 
-    same-number : postNumber z (d .bytes) (length (d .buffer)) ≡ postNumber y (c .bytes) (length (c .buffer))
-    same-number = go (eqb (recordNumber (c .bytes)) 0) refl
-      where
-        go : (b : Bool) → eqb (recordNumber (c .bytes)) 0 ≡ b → postNumber z (d .bytes) (length (d .buffer)) ≡ postNumber y (c .bytes) (length (c .buffer))
-        go true q =
-            let e : recordNumber (c .bytes) ≡ 0 = eqb-true (recordNumber (c .bytes)) 0 q in
-            record-accepted z (d .bytes) (length (d .buffer)) (sym (p .number) ∙ e)
-            ∙ ap firstFailed (sym same-questions) ∙ sym (record-accepted y (c .bytes) (length (c .buffer)) e)
-        go false q =
-            let n : recordNumber (c .bytes) ≡ 0 → ⊥ = eqb-false (recordNumber (c .bytes)) 0 q in
-            record-refused z (d .bytes) (length (d .buffer)) (λ e. n (p .number ∙ e)) ∙ sym (p .number) ∙ sym (record-refused y (c .bytes) (length (c .buffer)) n)
-
     same-accepts : accepts y c ≡ accepts z d
     unfolding isAccepted
-    same-accepts = ap (λ n. eqb n 0) (sym same-number)
+    same-accepts =
+        ap (λ n. eqb n 0) (same-post y z (c .bytes) (d .bytes) (length (c .buffer)) (length (d .buffer)) (p .number) (ap firstFailed same-questions))
 
     same-closes : closes y c ≡ closes z d
     unfolding isClosing
