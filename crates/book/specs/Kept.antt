@@ -12,22 +12,22 @@ use Rattle.layouts.specs.Questions.{firstFailed, numbersOf, row}
 use Rattle.year.specs.declared.Listing.{Listing}
 use Rattle.year.specs.declared.Terms.{Terms}
 use Rattle.year.specs.declared.Year.{Year}
-use Rattle.year.specs.Year.{pastTest, testPlace, listed, known, zone, product, size}
+use Rattle.year.specs.Year.{clearingsOf, pastTest, testPlace, listed, known, zone, product, size}
 use Rattle.year.specs.Sound.{SoundRegistration, SoundListing, SoundEvent, SoundTest, SoundTerms, Factors, Sound}
-use Rattle.year.specs.Limits.{size-is}
-use Rattle.year.specs.Kept.{sound-opening, sound-registration, sound-lse, sound-event, sound-test, sound-close}
+use Rattle.year.specs.Limits.{clearings-sound, size-is}
+use Rattle.year.specs.Kept.{sound-opening, sound-registration, sound-lse, sound-clearing, sound-event, sound-test, sound-close}
 use Rattle.heads.specs.declared.Head.{Head}
-use Rattle.heads.specs.declared.Head.the-variants.{Opening, Registration, Lse, Event, Test, Close}
+use Rattle.heads.specs.declared.Head.the-variants.{Opening, Registration, Lse, Event, Test, Close, Clearing}
 use Rattle.heads.specs.Record.{Record, recordOf}
 use Rattle.heads.specs.RecordLaws.{record-row}
 use Rattle.heads.specs.Listed.{sound-listed}
-use Rattle.heads.specs.Within.{Within}
+use Rattle.heads.specs.Within.{ClearingWithin, Within}
 use Rattle.owed_laws.specs.Limits.{limits}
 use Rattle.owed_laws.specs.Totals.{sound-amounts}
 use Rattle.entries.specs.Entries.{inGroup, everyListed}
 use Rattle.recorded.specs.After.{registrationOf, eventOf, testOf, yearBy, yearWith}
 use Rattle.questions.specs.Questions.{inTime, questions}
-use Rattle.questions.specs.Admitted.{Admitted, admitted, registration-fresh, event-held, test-group, test-free, not-finished, next-month}
+use Rattle.questions.specs.Admitted.{Admitted, admitted, registration-fresh, event-held, test-group, test-free, clearings-few, not-finished, next-month}
 use Rattle.book.specs.Outcome.{recordIn, postNumber, yearAfter}
 use Rattle.book.specs.Numbers.{all-passed}
 use Rattle.book.specs.Made.{within, permits}
@@ -41,6 +41,7 @@ Suits y l (Event e) = (y .held < 16) × SoundEvent (eventOf e l)
 Suits y l (Test t) =
     (testPlace (t .zone) (t .product) < 24) × (getD (y .tests) (testPlace (t .zone) (t .product)) pastTest .taken ≡ false) × SoundTest (y .terms) (testPlace (t .zone) (t .product)) (testOf t l)
 Suits y l (Close c) = (y .closed < 15) × (c .month ≡ y .closed + 1)
+Suits y l (Clearing c) = ClearingWithin c × (clearingsOf y (c .registration) .count < 4)
 
 -- the listed registrations of a test are of its place
 own-place : {T : Terms} → SoundTerms T → (l : Listing) (z p : ℕ) → everyListed T l (inGroup T z p) ≡ true
@@ -63,6 +64,7 @@ module _ {y : Year} (s : Sound y) where
   suits {l} sl (Test t) w a =
       (omega (arith, w .zone, w .product), test-free a, record { listing = sl; own = own-place (s .terms) l (t .zone) (t .product) (test-group a); untaken = λ q. absurd (let z : _≡_ {A = ℕ} 0 1 = cc in omega arith) })
   suits sl (Close c) w a = (not-finished a, next-month a)
+  suits sl (Clearing c) w a = (w, clearings-few a)
 
   pub sound-by : (l : Listing) (h : Head) → Suits y l h → Sound (yearBy y l h)
   unfolding Suits yearBy
@@ -72,6 +74,8 @@ module _ {y : Year} (s : Sound y) where
   sound-by l (Event e) t = sound-event s (t .0) (t .1)
   sound-by l (Test t) u = sound-test s (testPlace (t .zone) (t .product)) (u .2)
   sound-by l (Close c) t = sound-close s (t .0) (sound-amounts (limits s) (c .month))
+  sound-by l (Clearing c) t =
+      sound-clearing s (c .registration) (t .1) (clearings-sound s (c .registration)) (t .0 .price) (t .0 .some) (t .0 .kw)
 
   pub sound-after : (bytes : List ℕ) (room : ℕ) → Sound (yearAfter y bytes room)
   unfolding yearAfter

@@ -44,7 +44,10 @@ module _ (bytes : List ℕ) (a : Accepted bytes) where
       (λ _. either Within (eqb k 4) (λ e. records.event bytes a (kind-is 4 (eqb-true k 4 e)) .month .1)
       (λ _. either Within (eqb k 5) (λ e. let t = records.test bytes a (kind-is 5 (eqb-true k 5 e)) in record { zone = t .zone; product = omega (arith, t .product) })
       (λ _. either Within (eqb k 6) (λ e. records.close bytes a (kind-is 6 (eqb-true k 6 e)) .month .1)
-      (λ _. omega arith))))))
+      (λ _. either Within (eqb k 7) (λ e.
+      let c = records.clearing bytes a (kind-is 7 (eqb-true k 7 e)) in
+      record { registration = c .registration; price = c .price; some = c .kw .0; kw = c .kw .1 })
+      (λ _. omega arith)))))))
 
   pub permits : Permitted vs
   unfolding rulesBy

@@ -108,6 +108,10 @@ fn take(year: &mut Cells, head: Head, listing: &[u64], buffer: &mut [u8]) -> usi
             0
         }
         Head::Close(c) => close(year, c.month, buffer),
+        Head::Clearing(c) => {
+            steps::clear(year, c.registration as usize, c.price, c.kw);
+            0
+        }
     }
 }
 

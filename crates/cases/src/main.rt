@@ -1,5 +1,5 @@
 // Answers calls, one to a line that begins with the call's name: `take BYTES ROOM`, `read BYTES ROOM`, `write ROOM NUMBERS`.
-// Bytes are in hexadecimal, `-` where there are none. All records are taken from one new book on. A line with another name is passed over.
+// Bytes are in hexadecimal, `-` where there are none. Records are taken from a new book on, and `new` begins another. A line with another name is passed over.
 use cells::Cells;
 use libc::STDIN_FILENO;
 use libc::STDOUT_FILENO;
@@ -34,11 +34,18 @@ fn case(year: &mut Cells, line: &[u8])
     requires { ⌜ Held (now year) ⌝ }
     ensures { λ r. ⌜ Held (now (year .exit)) ⌝ }
 {
+    if line.len() == 0 {
+        return;
+    }
+    let name = line[0];
+    if name == b'n' {
+        *year = book::new_book();
+        return;
+    }
     let space = scan::find(line, 0, b' ');
     if space == line.len() {
         return;
     }
-    let name = line[0];
     if name == b't' {
         take_case(year, &line[space + 1..]);
     } else if name == b'r' {

@@ -7,6 +7,7 @@ use lib.Dec.{eqb}
 use lib.ListN.{length}
 use Rattle.ids.specs.Ids.{at, tabulate}
 use Rattle.year.specs.declared.Registration.{Registration}
+use Rattle.year.specs.declared.Clearings.{Clearings}
 use Rattle.year.specs.declared.Listing.{Listing}
 use Rattle.year.specs.declared.Event.{Event}
 use Rattle.year.specs.declared.Test.{Test}
@@ -20,10 +21,13 @@ use Rattle.cells.specs.Rows.{from, rows}
 abbrev pub flag : ℕ → Bool
 flag x = not (eqb x 0)
 
--- rows of 7, of 144 and of 147 cells
+-- rows of 7, of 3, of 144 and of 147 cells
 abbrev pub registrationAt : (ℕ → ℕ) → Registration
 registrationAt g =
     record { known = flag (g 0); seller = g 1; area = g 2; zone = g 3; product = g 4; committed = record { 0 = g 5 }; rate = g 6 }
+
+abbrev pub clearingsAt : (ℕ → ℕ) → Clearings
+clearingsAt g = record { count = g 0; value = g 1; kw = g 2 }
 
 abbrev pub listingAt : (ℕ → ℕ) → Listing
 listingAt g =
@@ -66,12 +70,15 @@ unfoldable pub cellBilled : List ℕ → Amounts
 cellBilled c =
     record { compliance = tabulate 16 (from 3383 c); test = tabulate 16 (from 3399 c); credit = tabulate 16 (from 3415 c); lse = tabulate 16 (from 3431 c) }
 
+unfoldable pub cellClearings : List ℕ → List Clearings
+cellClearings c = rows clearingsAt 3 64 3447 c
+
 -- the year in the cells
 abbrev pub yearIn : List ℕ → Year
 yearIn c =
-    record { opened = flag (at c 3); started = flag (at c 1); closed = at c 0; terms = cellTerms c; events = cellEvents c; held = at c 2; tests = cellTests c; billed = cellBilled c }
+    record { opened = flag (at c 3); started = flag (at c 1); closed = at c 0; terms = cellTerms c; clearings = cellClearings c; events = cellEvents c; held = at c 2; tests = cellTests c; billed = cellBilled c }
 
--- what is asked and kept of the cells: there are 3447, and their year is sound
+-- what is asked and kept of the cells: there are 3639, and their year is sound
 pub record Held (c : List ℕ) : Type 0 where
-  pub long : length c ≡ 3447
+  pub long : length c ≡ 3639
   pub sound : Sound (yearIn c)

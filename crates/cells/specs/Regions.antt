@@ -9,15 +9,19 @@ use lib.ListN.{getD, replicate}
 use Rattle.ids.specs.Ids.{at, tabulate}
 use Rattle.ids.specs.Tables.{tabulate-same, getD-tabulate}
 use Rattle.year.specs.declared.Registration.{Registration}
+use Rattle.year.specs.declared.Clearings.{Clearings}
 use Rattle.year.specs.declared.Event.{Event}
 use Rattle.year.specs.declared.Test.{Test}
 use Rattle.year.specs.Year.{newYear, noEvent, noTest, pastEvent, listed, zone, product}
 use Rattle.cells.specs.Rows.{Same, same-in, from, View, numbers-kept, same-row, rows-kept, row-at, table-of}
-use Rattle.cells.specs.Layout.{flag, registrationAt, listingAt, eventAt, cellRegistrations, cellObligations, cellTerms, cellEvents, placeIn, entryAt, testAt, cellTests, cellBilled, yearIn}
+use Rattle.cells.specs.Layout.{flag, registrationAt, clearingsAt, listingAt, eventAt, cellRegistrations, cellObligations, cellTerms, cellEvents, placeIn, entryAt, testAt, cellTests, cellBilled, cellClearings, yearIn}
 
 pub registration-view : View 7 registrationAt
 registration-view g h e =
     cc (e 0 (lit< tt), e 1 (lit< tt), e 2 (lit< tt), e 3 (lit< tt), e 4 (lit< tt), e 5 (lit< tt), e 6 (lit< tt))
+
+pub clearings-view : View 3 clearingsAt
+clearings-view g h e = cc (e 0 (lit< tt), e 1 (lit< tt), e 2 (lit< tt))
 
 pub listing-view : View 144 listingAt
 listing-view g h e =
@@ -66,6 +70,10 @@ module _ (c : List ℕ) where
   unfolding cellTests
   test-in {k} d l = getD-tabulate (λ k. testAt (placeIn c) (from 3255 c) k (from (2823 + 18 * k) c)) 24 k d l
 
+  pub clearings-in : {i : ℕ} (d : Clearings) → i < 64 → getD (cellClearings c) i d ≡ clearingsAt (from (3447 + 3 * i) c)
+  unfolding cellClearings
+  clearings-in {i} d l = row-at clearings-view 64 3447 i c d l
+
 -- what stays
 pub places-kept : (c d : List ℕ) → cellRegistrations d ≡ cellRegistrations c → (i : ℕ) → placeIn d i ≡ placeIn c i
 unfolding placeIn zone product
@@ -113,9 +121,13 @@ module _ {c d : List ℕ} where
         numbers-kept 16 3431 (same-in 3431 16 (lit≤ tt) (lit≤ tt) s),
       )
 
+  pub clearings-kept : Same 3447 192 c d → cellClearings d ≡ cellClearings c
+  unfolding cellClearings
+  clearings-kept s = rows-kept clearings-view 64 3447 s
+
 -- where all cells are 0 there is a new year
 pub new-year : (c : List ℕ) → ((k : ℕ) → at c k ≡ 0) → yearIn c ≡ newYear
-unfolding cellRegistrations cellObligations cellEvents cellTests cellBilled
+unfolding cellRegistrations cellObligations cellEvents cellTests cellBilled cellClearings
 new-year c z =
     cc (
       z 0,
@@ -127,6 +139,7 @@ new-year c z =
       z 6,
       table-of {f = λ i. registrationAt (from (7 + 7 * i) c)} 64 (λ i l. registration-view (from (7 + 7 * i) c) (λ k. 0) (λ k l. z (7 + 7 * i + k))),
       zeros 16 455,
+      table-of {f = λ i. clearingsAt (from (3447 + 3 * i) c)} 64 (λ i l. clearings-view (from (3447 + 3 * i) c) (λ k. 0) (λ k l. z (3447 + 3 * i + k))),
       table-of {f = λ i. eventAt (from (471 + 147 * i) c)} 16 (λ i l. event-view (from (471 + 147 * i) c) (λ k. 0) (λ k l. z (471 + 147 * i + k)) ∙ no-event),
       table-of {f = λ k. testAt (placeIn c) (from 3255 c) k (from (2823 + 18 * k) c)} 24 (λ k l. no-test k),
       zeros 16 3383,

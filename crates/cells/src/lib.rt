@@ -2,14 +2,15 @@
 ghost use mathlib.Core.Path.{_≡_};
 ghost use Prim.Native.Nat.{_+_, _≤_, _<_};
 ghost use lib.ListN.{length, getD};
-ghost use Rattle.year.specs.Year.{newYear, pastEvent, pastTest, registration, obligation, listed};
+ghost use Rattle.year.specs.Year.{newYear, pastEvent, pastTest, clearingsOf, registration, obligation, listed};
 ghost use Rattle.cells.specs.Rows.{Laid};
 ghost use Rattle.cells.specs.Layout.{yearIn, Held};
 use units::Nominated;
+use year::Clearings;
 use year::Registration;
 
 // Where a year's parts stand (specs/Layout.antt): marks, the terms, then tables, one row an element.
-pub type Cells = [u64; 3447];
+pub type Cells = [u64; 3639];
 
 pub const CLOSED: usize = 0;
 
@@ -38,9 +39,13 @@ pub const TESTED: usize = 3255;
 
 pub const BILLED: usize = 3383;
 
-// A row's length: of a registration, of an event (area, month and period, then its listing), of a test (taken and month,
-// then its deficits).
+pub const CLEARINGS: usize = 3447;
+
+// A row's length: of a registration, of what its clearings come to, of an event (area, month and period, then its
+// listing), of a test (taken and month, then its deficits).
 pub const REGISTRATION: usize = 7;
+
+pub const CLEARING: usize = 3;
 
 pub const EVENT: usize = 147;
 
@@ -62,8 +67,8 @@ pub const TEST_DEFICITS: usize = 2;
 
 // Lays a row into the cells: the only loop that writes them.
 pub fn lay(year: &mut Cells, place: usize, row: &[u64])
-    requires { ⌜ length (now year) ≡ 3447 ⌝ }
-    requires { ⌜ place + length (now row) ≤ 3447 ⌝ }
+    requires { ⌜ length (now year) ≡ 3639 ⌝ }
+    requires { ⌜ place + length (now row) ≤ 3639 ⌝ }
     ensures { λ r. ⌜ Laid place (now (row .entry)) (now (year .entry)) (now (year .exit)) ⌝ }
 {
     let mut i: usize = 0;
@@ -78,7 +83,7 @@ pub fn new_year() -> Cells
     ensures equals { λ r. ⌜ yearIn r ≡ newYear ⌝ }
     ensures held { λ r. ⌜ Held r ⌝ }
 {
-    [0u64; 3447]
+    [0u64; 3639]
 }
 
 pub fn opened(year: &Cells) -> bool
@@ -122,6 +127,19 @@ pub fn registration_at(year: &Cells, i: usize) -> Registration
         product: year[p + 4],
         committed: committed,
         rate: year[p + 6],
+    }
+}
+
+// What a registration's clearings come to.
+pub fn clearings_at(year: &Cells, i: usize) -> Clearings
+    requires { ⌜ i < 64 ⌝ }
+    ensures { λ r. ⌜ r ≡ clearingsOf (yearIn (now (year .entry))) i ⌝ }
+{
+    let p = CLEARINGS + CLEARING * i;
+    Clearings {
+        count: year[p + 0],
+        value: year[p + 1],
+        kw: year[p + 2],
     }
 }
 

@@ -54,7 +54,7 @@ given-aside g a b d =
 -- registration i as the rules have it, where t is spent of its cap
 abbrev pub lineOf : Facts → ℕ → ℕ → ℕ → Line
 lineOf F ev i t =
-    record { seller = F .seller i; product = F .product i; calls = owed.calls F i; rate = F .rate i; cap = owed.cap F i; spent = t; u = record { 0 = owed.u F ev i }; e = record { 0 = owed.e F ev i } }
+    record { seller = F .seller i; product = F .product i; calls = owed.calls F i; rate = owed.rate F i; cap = owed.cap F i; spent = t; u = record { 0 = owed.u F ev i }; e = record { 0 = owed.e F ev i } }
 
 pub line-is : {F : Facts} {ev i t : ℕ} {w : List ℕ} → Given F ev w → i < 64 → at w (spentRow + i) ≡ t → lineAt w i ≡ lineOf F ev i t
 line-is {i = i} g l e =

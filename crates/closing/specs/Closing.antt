@@ -36,7 +36,7 @@ begun-first c =
     let w : List ℕ = replicate size 0 in
     let F = facts c in
     record {
-      columns = record { long = length-replicate {A = ℕ} size 0; seller = row-first w sellerRow (F .seller); product = row-first w productRow (F .product); committed = row-first w committedRow (F .committed); rate = row-first w rateRow (F .rate); cap = row-first w capRow (owed.cap F) };
+      columns = record { long = length-replicate {A = ℕ} size 0; seller = row-first w sellerRow (F .seller); product = row-first w productRow (F .product); committed = row-first w committedRow (F .committed); rate = row-first w rateRow (owed.rate F); cap = row-first w capRow (owed.cap F) };
       place = row-first w placeRow (placeIn c);
       fresh = record { is = λ j m. getD-replicate-same {A = ℕ} size (callsRow + j) 0 };
     }
@@ -44,7 +44,7 @@ begun-first c =
 -- one more
 pub begun-more : {c : List ℕ} {i : ℕ} {w w₁ w₂ w₃ w₄ w₅ v : List ℕ} → Begun c i w → i < 64 → let F = facts c in
     Stored (sellerRow + i) (F .seller i) w w₁ → Stored (productRow + i) (F .product i) w₁ w₂ → Stored (committedRow + i) (F .committed i) w₂ w₃
-    → Stored (rateRow + i) (F .rate i) w₃ w₄ → Stored (capRow + i) (owed.cap F i) w₄ w₅ → Stored (placeRow + i) (placeIn c i) w₅ v → Begun c (i + 1) v
+    → Stored (rateRow + i) (owed.rate F i) w₃ w₄ → Stored (capRow + i) (owed.cap F i) w₄ w₅ → Stored (placeRow + i) (placeIn c i) w₅ v → Begun c (i + 1) v
 begun-more h l s₁ s₂ s₃ s₄ s₅ s₆ =
     record {
       columns = record {

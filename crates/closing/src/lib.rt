@@ -19,12 +19,14 @@ pub fn enter(year: &Cells, work: &mut Work, i: usize, r: Registration)
 {
     let committed = r.committed;
     let all = looks::unforced(year, committed);
-    let cap = all.0 * r.rate;
+    let field = r.rate;
+    let rate = looks::rate_of(year, i, field);
+    let cap = all.0 * rate;
     let place = 3 * r.zone + r.product;
     table::put(work, table::SELLER, i, r.seller);
     table::put(work, table::PRODUCT, i, r.product);
     table::put(work, table::COMMITTED, i, committed.0);
-    table::put(work, table::RATE, i, r.rate);
+    table::put(work, table::RATE, i, rate);
     table::put(work, table::CAP, i, cap);
     table::put(work, table::PLACE, i, place);
 }

@@ -79,7 +79,7 @@ module _ {F : Facts} {k ev i : ℕ} {w₀ w : List ℕ} {a : Allotment} (h : Cre
 
   -- a listed entry: its share of the charges, and its credit
   module _ {r : Share} (v : Gives a (owed.e F ev i) r) where
-    pub credit-is : {days m c : ℕ} → days ≡ D F k → m ≡ owed.e F ev i * F .rate i / 5 * days / 1000 → c ≡ min (r .value) m → c ≡ creditOf F k ev i
+    pub credit-is : {days m c : ℕ} → days ≡ D F k → m ≡ owed.e F ev i * owed.rate F i / 5 * days / 1000 → c ≡ min (r .value) m → c ≡ creditOf F k ev i
     unfolding creditOf creditShare creditLimit
     credit-is f z d = d ∙ rw (share-value (h .before) refl v, z, f)
 

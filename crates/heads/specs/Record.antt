@@ -15,8 +15,9 @@ use Rattle.heads.specs.declared.LseHead.{LseHead}
 use Rattle.heads.specs.declared.EventHead.{EventHead}
 use Rattle.heads.specs.declared.TestHead.{TestHead}
 use Rattle.heads.specs.declared.CloseHead.{CloseHead}
+use Rattle.heads.specs.declared.ClearingHead.{ClearingHead}
 use Rattle.heads.specs.declared.Head.{Head}
-use Rattle.heads.specs.declared.Head.the-variants.{Opening, Registration, Lse, Event, Test, Close}
+use Rattle.heads.specs.declared.Head.the-variants.{Opening, Registration, Lse, Event, Test, Close, Clearing}
 
 -- entries by registration and deficits by seller; nothing for the kinds without lists
 pub record Record : Type 0 where
@@ -33,7 +34,8 @@ headOf vs =
     (cond (eqb (v 0) 4) (Event (record { area = v 1; month = v 2; period = v 3 }))
     (cond (eqb (v 0) 5) (Test (record { zone = v 1; product = v 2; month = v 3 }))
     (cond (eqb (v 0) 6) (Close (record { month = v 1 }))
-    (Close (record { month = 0 })))))))
+    (cond (eqb (v 0) 7) (Clearing (record { registration = v 1; price = v 2; kw = v 3 }))
+    (Close (record { month = 0 }))))))))
 
 -- a listing with one item more, its id first: an entry where it has reductions, of which the first is kept, else a deficit
 unfoldable pub withItem : List ℕ → (ℕ → ℕ) → Listing → Listing
@@ -58,32 +60,36 @@ recordOf vs = record { head = headOf vs; listing = listingIn vs }
 
 -- by its kind
 module _ {A : Type 0} where
-  abbrev byKind : (OpeningHead → A) → (RegistrationHead → A) → (LseHead → A) → (EventHead → A) → (TestHead → A) → (CloseHead → A) → Head → A
-  byKind o r l e t c (Opening h) = o h
-  byKind o r l e t c (Registration h) = r h
-  byKind o r l e t c (Lse h) = l h
-  byKind o r l e t c (Event h) = e h
-  byKind o r l e t c (Test h) = t h
-  byKind o r l e t c (Close h) = c h
+  abbrev byKind : (OpeningHead → A) → (RegistrationHead → A) → (LseHead → A) → (EventHead → A) → (TestHead → A) → (CloseHead → A) → (ClearingHead → A) → Head → A
+  byKind o r l e t c p (Opening h) = o h
+  byKind o r l e t c p (Registration h) = r h
+  byKind o r l e t c p (Lse h) = l h
+  byKind o r l e t c p (Event h) = e h
+  byKind o r l e t c p (Test h) = t h
+  byKind o r l e t c p (Close h) = c h
+  byKind o r l e t c p (Clearing h) = p h
 
   -- f of the head of one kind, and for the others what g says
   abbrev pub forOpening : (OpeningHead → A) → (Head → A) → Head → A
-  forOpening f g h = byKind f (λ _. g h) (λ _. g h) (λ _. g h) (λ _. g h) (λ _. g h) h
+  forOpening f g h = byKind f (λ _. g h) (λ _. g h) (λ _. g h) (λ _. g h) (λ _. g h) (λ _. g h) h
 
   abbrev pub forRegistration : (RegistrationHead → A) → (Head → A) → Head → A
-  forRegistration f g h = byKind (λ _. g h) f (λ _. g h) (λ _. g h) (λ _. g h) (λ _. g h) h
+  forRegistration f g h = byKind (λ _. g h) f (λ _. g h) (λ _. g h) (λ _. g h) (λ _. g h) (λ _. g h) h
 
   abbrev pub forLse : (LseHead → A) → (Head → A) → Head → A
-  forLse f g h = byKind (λ _. g h) (λ _. g h) f (λ _. g h) (λ _. g h) (λ _. g h) h
+  forLse f g h = byKind (λ _. g h) (λ _. g h) f (λ _. g h) (λ _. g h) (λ _. g h) (λ _. g h) h
 
   abbrev pub forEvent : (EventHead → A) → (Head → A) → Head → A
-  forEvent f g h = byKind (λ _. g h) (λ _. g h) (λ _. g h) f (λ _. g h) (λ _. g h) h
+  forEvent f g h = byKind (λ _. g h) (λ _. g h) (λ _. g h) f (λ _. g h) (λ _. g h) (λ _. g h) h
 
   abbrev pub forTest : (TestHead → A) → (Head → A) → Head → A
-  forTest f g h = byKind (λ _. g h) (λ _. g h) (λ _. g h) (λ _. g h) f (λ _. g h) h
+  forTest f g h = byKind (λ _. g h) (λ _. g h) (λ _. g h) (λ _. g h) f (λ _. g h) (λ _. g h) h
 
   abbrev pub forClose : (CloseHead → A) → (Head → A) → Head → A
-  forClose f g h = byKind (λ _. g h) (λ _. g h) (λ _. g h) (λ _. g h) (λ _. g h) f h
+  forClose f g h = byKind (λ _. g h) (λ _. g h) (λ _. g h) (λ _. g h) (λ _. g h) f (λ _. g h) h
+
+  abbrev pub forClearing : (ClearingHead → A) → (Head → A) → Head → A
+  forClearing f g h = byKind (λ _. g h) (λ _. g h) (λ _. g h) (λ _. g h) (λ _. g h) (λ _. g h) f h
 
 -- is it a close, and the month that it names, 0 where it names none
 abbrev pub isClose : Head → Bool

@@ -39,7 +39,8 @@ module _ (vs ws : List ℕ) (first : at ws 0 ≡ at vs 0) (same : (j : ℕ) → 
       (λ _. either (eqb k 4) (λ y. let e = eqb-true k 4 y in rw (number 4 1 e (omega arith), number 4 2 e (omega arith), number 4 3 e (omega arith)))
       (λ _. either (eqb k 5) (λ y. let e = eqb-true k 5 y in rw (number 5 1 e (omega arith), number 5 2 e (omega arith), number 5 3 e (omega arith)))
       (λ _. either (eqb k 6) (λ y. rw (number 6 1 (eqb-true k 6 y) (omega arith)))
-      (λ _. refl)))))))
+      (λ _. either (eqb k 7) (λ y. let e = eqb-true k 7 y in rw (number 7 1 e (omega arith), number 7 2 e (omega arith), number 7 3 e (omega arith)))
+      (λ _. refl))))))))
 
 -- one item more, and one list more, as a loop says it
 pub items-more : (k : ℕ) (vs : List ℕ) (i : ℕ) (l : Listing) (n : ℕ) → withItems k vs i l (n + 1) ≡ withItem (listAt k i .reductions) (itemIn k vs i n) (withItems k vs i l n)

@@ -4,8 +4,9 @@ use Rattle.year.specs.Sound.{Factors}
 use Rattle.heads.specs.declared.RegistrationHead.{RegistrationHead}
 use Rattle.heads.specs.declared.LseHead.{LseHead}
 use Rattle.heads.specs.declared.TestHead.{TestHead}
+use Rattle.heads.specs.declared.ClearingHead.{ClearingHead}
 use Rattle.heads.specs.declared.Head.{Head}
-use Rattle.heads.specs.declared.Head.the-variants.{Opening, Registration, Lse, Event, Test, Close}
+use Rattle.heads.specs.declared.Head.the-variants.{Opening, Registration, Lse, Event, Test, Close, Clearing}
 
 pub record RegistrationWithin (r : RegistrationHead) : Type 0 where
   pub id : r .id < 64
@@ -24,6 +25,12 @@ pub record TestWithin (t : TestHead) : Type 0 where
   pub zone : t .zone < 8
   pub product : t .product < 3
 
+pub record ClearingWithin (c : ClearingHead) : Type 0 where
+  pub registration : c .registration < 64
+  pub price : c .price ≤ 100000
+  pub some : 1 ≤ c .kw
+  pub kw : c .kw ≤ 100000
+
 unfoldable pub Within : Head → Type 0
 Within (Opening o) = Factors (o .leap) (o .factor) (o .requirement)
 Within (Registration r) = RegistrationWithin r
@@ -31,3 +38,4 @@ Within (Lse j) = LseWithin j
 Within (Event e) = e .month ≤ 12
 Within (Test t) = TestWithin t
 Within (Close c) = c .month ≤ 15
+Within (Clearing c) = ClearingWithin c

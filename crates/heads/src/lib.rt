@@ -45,6 +45,12 @@ pub struct CloseHead {
     pub month: u64,
 }
 
+pub struct ClearingHead {
+    pub registration: u64,
+    pub price: u64,
+    pub kw: u64,
+}
+
 pub enum Head {
     Opening(OpeningHead),
     Registration(RegistrationHead),
@@ -52,6 +58,7 @@ pub enum Head {
     Event(EventHead),
     Test(TestHead),
     Close(CloseHead),
+    Clearing(ClearingHead),
 }
 
 // The head of a record with these numbers.
@@ -100,6 +107,13 @@ pub fn head_of(values: &[u64]) -> Head
     }
     if kind == 6 {
         return Head::Close(CloseHead { month: values[1] });
+    }
+    if kind == 7 {
+        return Head::Clearing(ClearingHead {
+            registration: values[1],
+            price: values[2],
+            kw: values[3],
+        });
     }
     Head::Close(CloseHead { month: 0 }) // no kind
 }

@@ -1,24 +1,27 @@
 -- What an accepted record does to a year, with what its questions say of it: the one place where the kinds are told apart.
 use Prim.Native.Nat.{ℕ, _<_}
 use mathlib.Core.Bool.{Bool, true, false, not, _&&_, _||_}
+use mathlib.Core.List.{List}
 use mathlib.Core.Path.{_≡_, refl}
 use native.Mathlib.Omega.{arith}
 use lib.Dec.{ltb, eqb}
-use lib.ListN.{set}
+use lib.ListN.{getD, set}
 use borrow.Author.Tests.{ltb-true, not-true}
 use Rattle.ids.specs.Ids.{sumTo, anyTo}
 use Rattle.ids.specs.Sums.{sum-one}
 use Rattle.ids.specs.Tests.{and-parts, all-at, any-some}
+use Rattle.year.specs.declared.Clearings.{Clearings}
 use Rattle.year.specs.declared.Listing.{Listing}
 use Rattle.year.specs.declared.Terms.{Terms}
 use Rattle.year.specs.declared.Year.{Year}
-use Rattle.year.specs.Year.{listed, known, area, zone, product, obligation, size, lses}
-use Rattle.year.specs.Steps.{withTerms}
+use Rattle.year.specs.Year.{noClearings, listed, known, area, zone, product, obligation, size, lses}
+use Rattle.year.specs.Steps.{withTerms, clearedBy}
 use Rattle.heads.specs.declared.OpeningHead.{OpeningHead}
 use Rattle.heads.specs.declared.LseHead.{LseHead}
 use Rattle.heads.specs.declared.EventHead.{EventHead}
 use Rattle.heads.specs.declared.TestHead.{TestHead}
 use Rattle.heads.specs.declared.CloseHead.{CloseHead}
+use Rattle.heads.specs.declared.ClearingHead.{ClearingHead}
 use Rattle.heads.specs.declared.Head.{Head}
 use Rattle.heads.specs.declared.Head.the-variants as head
 use Rattle.heads.specs.Record.{isClose}
@@ -31,11 +34,12 @@ use Rattle.questions.specs.Admitted.{Admitted, registration-fresh, test-group}
 abbrev pub Knows : Terms → Listing → Type 0
 Knows T l = (i : ℕ) → i < size T → listed l i ≡ true → known T i ≡ true
 
--- an opening, a registration and an LSE change the terms of a year that is not begun
+-- an opening, a registration, an LSE and a clearing change the terms of a year that is not begun, or its clearings
 pub record Sets (h : Head) : Type 0 where
   pub opened : Bool → Bool
   pub new : Terms → Terms
-  pub is : (y : Year) (l : Listing) → yearBy y l h ≡ withTerms y (opened (y .opened)) (new (y .terms))
+  pub cleared : List Clearings → List Clearings
+  pub is : (y : Year) (l : Listing) → yearBy y l h ≡ withTerms y (opened (y .opened)) (new (y .terms)) (cleared (y .clearings))
   pub fresh : {y : Year} {l : Listing} {room : ℕ} → (y .started ≡ true → y .opened ≡ true) → Admitted inTime y (record { head = h; listing = l }) room → y .started ≡ false
   pub other : isClose h ≡ false
 
@@ -80,6 +84,10 @@ module _ {y : Year} {l : Listing} {room : ℕ} where
   unfolding q7
   unobliged a = not-true (y .started) (a .seven)
 
+  uncleared : {c : ClearingHead} → Admitted inTime y (record { head = head.Clearing c; listing = l }) room → y .started ≡ false
+  unfolding q7
+  uncleared a = not-true (y .started) (a .seven)
+
   -- an event, a test and a close are of a year that is opened; what they list is known, and a close has an LSE to credit
   module _ {e : EventHead} (a : Admitted inTime y (record { head = head.Event e; listing = l }) room) where
     pub event-open : y .opened ≡ true
@@ -119,6 +127,7 @@ does (head.Opening o) =
     (record {
       opened = λ b. true;
       new = λ T. record { leap = o .leap; factor = o .factor; requirement = o .requirement; registrations = T .registrations; obligations = T .obligations };
+      cleared = λ cs. cs;
       is = λ y l. refl;
       fresh = unopened;
       other = refl;
@@ -128,6 +137,7 @@ does (head.Registration r) =
     (record {
       opened = λ b. b;
       new = λ T. record { leap = T .leap; factor = T .factor; requirement = T .requirement; registrations = set (T .registrations) (r .id) (registrationOf r); obligations = T .obligations };
+      cleared = λ cs. cs;
       is = λ y l. refl;
       fresh = λ b a. registration-fresh a;
       other = refl;
@@ -137,6 +147,7 @@ does (head.Lse j) =
     (record {
       opened = λ b. b;
       new = λ T. record { leap = T .leap; factor = T .factor; requirement = T .requirement; registrations = T .registrations; obligations = set (T .obligations) (j .id) (j .obligation) };
+      cleared = λ cs. cs;
       is = λ y l. refl;
       fresh = λ b a. unobliged a;
       other = refl;
@@ -144,3 +155,13 @@ does (head.Lse j) =
 does (head.Event e) = event e refl
 does (head.Test t) = test t refl
 does (head.Close c) = close c refl
+does (head.Clearing c) =
+    terms
+    (record {
+      opened = λ b. b;
+      new = λ T. T;
+      cleared = λ cs. set cs (c .registration) (clearedBy (getD cs (c .registration) noClearings) (c .price) (c .kw));
+      is = λ y l. refl;
+      fresh = λ b a. uncleared a;
+      other = refl;
+    })

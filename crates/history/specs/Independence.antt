@@ -48,7 +48,7 @@ module _ {s : ℕ} {y z : Year} (h : Related s y z) where
   same-record : {l m : Listing} {room : ℕ} {k : Head} → Does k → Admitted inTime y (record { head = k; listing = l }) room → SameListing (y .terms) s l m → Same s (yearBy y l k) (yearBy z m k)
   unfolding yearBy
   same-record {l} {m} (terms x) = λ a q.
-      rw (x .is y l, x .is z m, ← (h .same .terms), ← (h .same .opened)) (same-terms (h .same) (h .left .sound) (h .right .sound) (x .fresh (h .left .begun) a) _ _)
+      rw (x .is y l, x .is z m, ← (h .same .terms), ← (h .same .clearings), ← (h .same .opened)) (same-terms (h .same) (h .left .sound) (h .right .sound) (x .fresh (h .left .begun) a) _ _ _)
   same-record (event e n) = rw n (λ a q. same-event (h .same) (h .left .sound) (h .right .sound) (event-held a) (record { month = refl; period = refl; listing = q }))
   same-record (test t n) = rw n (λ a q. same-test (h .same) (h .left .sound) (h .right .sound) _ (record { taken = refl; listing = q }))
   same-record (close c n) = rw n (λ a q. same-close (h .same) (c .month))

@@ -1,6 +1,7 @@
 -- Two years that are the same for all sellers but s. Steps that are the same for these keep them so.
 use Prim.Native.Nat.{ℕ, _+_, _<_}
 use mathlib.Core.Bool.{Bool, false}
+use mathlib.Core.List.{List}
 use mathlib.Core.Path.{_≡_, refl, ap, sym, _∙_}
 use native.Mathlib.Decide.{decLt}
 use native.Mathlib.Nat.{not-suc-le-zero}
@@ -10,6 +11,7 @@ use Rattle.ids.specs.Ids.{at, anyTo, tabulate}
 use Rattle.ids.specs.Sets.{related-set, related-next}
 use Rattle.ids.specs.Tests.{any-same}
 use Rattle.ids.specs.Tables.{length-tabulate, getD-tabulate}
+use Rattle.year.specs.declared.Clearings.{Clearings}
 use Rattle.year.specs.declared.Listing.{Listing}
 use Rattle.year.specs.declared.Event.{Event}
 use Rattle.year.specs.declared.Test.{Test}
@@ -19,7 +21,7 @@ use Rattle.year.specs.Year.{newYear, noTest, pastEvent, pastTest, listed, reduc
 use Rattle.year.specs.Steps.{withTerms, withEvent, withTest, withClose}
 use Rattle.year.specs.Sound.{Sound}
 use Rattle.owed.specs.Facts.{factsOf, sellers}
-use Rattle.owed.specs.Owed.{called, compliance, test, amounts}
+use Rattle.owed.specs.Owed.{rate, called, compliance, test, amounts}
 use Rattle.owed_laws.specs.Independent as independent
 
 -- what two records list is the same but for the reductions of seller s's registrations
@@ -51,6 +53,7 @@ pub record Same (s : ℕ) (y z : Year) : Type 0 where
   pub closed : y .closed ≡ z .closed
   pub held : y .held ≡ z .held
   pub terms : y .terms ≡ z .terms
+  pub clearings : y .clearings ≡ z .clearings
   pub events : (ev : ℕ) → ev < y .held → SameEvent (y .terms) s (getD (y .events) ev pastEvent) (getD (z .events) ev pastEvent)
   pub tests : (p : ℕ) → SameTest (y .terms) s (getD (y .tests) p pastTest) (getD (z .tests) p pastTest)
   pub pays : (r : ℕ) → (r ≡ s → ⊥) → at (y .billed .compliance) r ≡ at (z .billed .compliance) r
@@ -58,7 +61,7 @@ pub record Same (s : ℕ) (y z : Year) : Type 0 where
 
 pub same-new : (s : ℕ) → Same s newYear newYear
 same-new s =
-    record { opened = refl; started = refl; closed = refl; held = refl; terms = refl; events = λ ev l. absurd (not-suc-le-zero l); tests = λ p. test-refl (newYear .terms) s (getD (newYear .tests) p pastTest); pays = λ r n. refl; fails = λ r n. refl }
+    record { opened = refl; started = refl; closed = refl; held = refl; terms = refl; clearings = refl; events = λ ev l. absurd (not-suc-le-zero l); tests = λ p. test-refl (newYear .terms) s (getD (newYear .tests) p pastTest); pays = λ r n. refl; fails = λ r n. refl }
 
 -- two tables at one place
 table-at : (n : ℕ) (f g : ℕ → ℕ) (i : ℕ) → f i ≡ g i → at (tabulate n f) i ≡ at (tabulate n g) i
@@ -74,7 +77,7 @@ module _ {s : ℕ} {y z : Year} (h : Same s y z) where
 
   -- their facts agree in what is another seller's
   same-facts : (r : ℕ) → (r ≡ s → ⊥) → independent.Same r (factsOf y) (factsOf z)
-  unfolding listed deficit
+  unfolding listed deficit rate
   same-facts r n =
       record {
         leap = rw (h .terms);
@@ -88,7 +91,7 @@ module _ {s : ℕ} {y z : Year} (h : Same s y z) where
         testDeficit = λ p. rw (h .tests p .listing .deficits);
         product = λ i own. rw (h .terms);
         committed = λ i own. rw (h .terms);
-        rate = λ i own. rw (h .terms);
+        rate = λ i own. rw (h .terms, h .clearings);
         listed = λ ev l i own. listed-same ev l i;
         reduction = λ ev l i own. h .events ev l .listing .reductions i (λ q. n (sym own ∙ q));
         tested = λ p i own. rw (h .tests p .listing .listed);
@@ -103,8 +106,8 @@ module _ {s : ℕ} {y z : Year} (h : Same s y z) where
       ∙ ap (λ n. anyTo n (λ ev. factsOf z .listed ev i)) (h .held)
 
   -- before the first event, test or close
-  pub same-terms : Sound y → Sound z → y .started ≡ false → (o : Bool) (T : Terms) → Same s (withTerms y o T) (withTerms z o T)
-  same-terms S U e o T =
+  pub same-terms : Sound y → Sound z → y .started ≡ false → (o : Bool) (T : Terms) (cs : List Clearings) → Same s (withTerms y o T cs) (withTerms z o T cs)
+  same-terms S U e o T cs =
       let f = S .fresh e in
       let g = U .fresh (sym (h .started) ∙ e) in
       record {
@@ -113,6 +116,7 @@ module _ {s : ℕ} {y z : Year} (h : Same s y z) where
         closed = h .closed;
         held = h .held;
         terms = refl;
+        clearings = refl;
         events = λ ev l. absurd (omega (arith, f .0));
         tests = rw (f .2, g .2) (λ p. test-refl T s (getD (replicate 24 noTest) p pastTest));
         pays = h .pays;
@@ -127,6 +131,7 @@ module _ {s : ℕ} {y z : Year} (h : Same s y z) where
         closed = h .closed;
         held = ap (λ n. n + 1) (h .held);
         terms = h .terms;
+        clearings = h .clearings;
         events =
             rw (← (h .held))
             (related-next (SameEvent (y .terms) s) pastEvent (y .events) (z .events) (y .held) (omega (arith, S .events .long)) (omega (arith, U .events .long)) q (h .events));
@@ -143,6 +148,7 @@ module _ {s : ℕ} {y z : Year} (h : Same s y z) where
         closed = h .closed;
         held = h .held;
         terms = h .terms;
+        clearings = h .clearings;
         events = h .events;
         tests = related-set (SameTest (y .terms) s) pastTest (y .tests) (z .tests) place (S .places ∙ sym (U .places)) q (h .tests);
         pays = h .pays;
@@ -158,6 +164,7 @@ module _ {s : ℕ} {y z : Year} (h : Same s y z) where
         closed = ap (λ n. n + 1) (h .closed);
         held = h .held;
         terms = h .terms;
+        clearings = h .clearings;
         events = h .events;
         tests = h .tests;
         pays = λ r n. table-at sellers (compliance (factsOf y) k) (compliance (factsOf z) k) r (independent.same-compliance (same-facts r n) k);

@@ -71,6 +71,8 @@ layouts =
     ∷ record { head = kind 5 ∷ field 3 0 7 ∷ field 2 0 2 ∷ field 4 1 12 ∷ field 5 0 16 ∷ field 7 1 64 ∷ []; lists = pairs }
     -- close: month
     ∷ bare (kind 6 ∷ field 4 1 15 ∷ [])
+    -- clearing: registration, price, cleared kW
+    ∷ bare (kind 7 ∷ field 6 0 63 ∷ field 17 0 100000 ∷ field 17 1 100000 ∷ [])
     ∷ []
 
 abbrev pub layoutOf : ℕ → Layout

@@ -10,10 +10,10 @@ ghost use Rattle.layouts.specs.Parts.{startOf, kinds, parts, rules, lows
 pub mod shapes;
 
 // How many kinds the tables have, 0 among them, which is none.
-pub const KINDS: u64 = 7;
+pub const KINDS: u64 = 8;
 
 // The fields of every part of every kind, part after part: a kind's head, then an item of each of its lists. Kind 0 has none. Their widths in bits,
-const WIDTHS: [u8; 37] = [
+const WIDTHS: [u8; 41] = [
     4, // opening
     1, // leap
     14, // DR Factor
@@ -51,10 +51,14 @@ const WIDTHS: [u8; 37] = [
     17, // reduction kW
     4, // close
     4, // month
+    4, // clearing
+    6, // registration id
+    17, // price
+    17, // cleared kW
 ];
 
 // their lowest permitted values,
-const LOWS: [u32; 37] = [
+const LOWS: [u32; 41] = [
     1, // opening
     0, // leap
     1, // DR Factor
@@ -92,10 +96,14 @@ const LOWS: [u32; 37] = [
     0, // reduction kW
     6, // close
     1, // month
+    7, // clearing
+    0, // registration id
+    0, // price
+    1, // cleared kW
 ];
 
 // and their highest.
-const HIGHS: [u32; 37] = [
+const HIGHS: [u32; 41] = [
     1, // opening
     1, // leap
     12000, // DR Factor
@@ -133,6 +141,10 @@ const HIGHS: [u32; 37] = [
     100000, // reduction kW
     6, // close
     15, // month
+    7, // clearing
+    63, // registration id
+    100000, // price
+    100000, // cleared kW
 ];
 
 // Where the fields of a part stand in the tables, from start up to end; the bits that they take; the place of the part's count among the numbers of its head, 0 for a head; and which of its fields is the first reduction, 0 where none is.
@@ -144,19 +156,19 @@ pub struct Part {
     pub reduction: usize,
 }
 
-pub fn widths_of_parts() -> [u8; 37]
+pub fn widths_of_parts() -> [u8; 41]
     ensures { λ r. ⌜ r ≡ widths rules ⌝ }
 {
     WIDTHS
 }
 
-pub fn lows_of_parts() -> [u32; 37]
+pub fn lows_of_parts() -> [u32; 41]
     ensures { λ r. ⌜ r ≡ lows rules ⌝ }
 {
     LOWS
 }
 
-pub fn highs_of_parts() -> [u32; 37]
+pub fn highs_of_parts() -> [u32; 41]
     ensures { λ r. ⌜ r ≡ highs rules ⌝ }
 {
     HIGHS
@@ -175,7 +187,8 @@ fn first_of(kind: usize) -> usize
         4 => 4,
         5 => 7,
         6 => 10,
-        _ => 11,
+        7 => 11,
+        _ => 12,
     }
 }
 
@@ -215,7 +228,8 @@ fn row_at(part: usize) -> Part
         7 => row(25, 31, 25, 0, 0), // test
         8 => row(31, 33, 24, 4, 0), // its deficits
         9 => row(33, 35, 23, 5, 1), // its entries
-        _ => row(35, 37, 8, 0, 0), // close
+        10 => row(35, 37, 8, 0, 0), // close
+        _ => row(37, 41, 44, 0, 0), // clearing
     }
 }
 

@@ -1,8 +1,8 @@
-// What the closing reads of the year: of an event its entries, one look at a time, month, period and deficits; the factors.
+// What the closing reads of the year: of an event its entries, one look at a time, month, period and deficits; a rate; the factors.
 ghost use mathlib.Core.Path.{_≡_};
 ghost use Prim.Native.Nat.{_-_, _≤_, _<_};
 ghost use Rattle.cells.specs.Layout.{Held};
-ghost use Rattle.owed.specs.Owed.{oneOrThree, D, unforced};
+ghost use Rattle.owed.specs.Owed.{oneOrThree, D, unforced, rate};
 ghost use Rattle.looks.specs.Looks.{facts, lookAt};
 use cells::Cells;
 use units::Nominated;
@@ -51,6 +51,20 @@ pub fn deficit_of(year: &Cells, ev: usize, s: usize) -> Unforced
 {
     let p = cells::EVENTS + cells::EVENT * ev;
     Unforced(year[p + (cells::DEFICITS + s)])
+}
+
+// A registration's rate: what its clearings say, where it has any, else its field.
+pub fn rate_of(year: &Cells, i: usize, field: u64) -> u64
+    requires { ⌜ Held (now year) ⌝ }
+    requires { ⌜ i < 64 ⌝ }
+    requires { ⌜ field ≡ facts (now year) .fieldRate i ⌝ }
+    ensures { λ r. ⌜ r ≡ rate (facts (now (year .entry))) i ⌝ }
+{
+    let cleared = cells::clearings_at(year, i);
+    if cleared.count == 0 {
+        return field;
+    }
+    cleared.value / cleared.kw
 }
 
 // Converted by the year's factors: a registration's kilowatts, or a seller's sum.

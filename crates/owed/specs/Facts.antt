@@ -18,7 +18,11 @@ pub record Facts : Type 0 where
   pub seller : ℕ → ℕ
   pub product : ℕ → ℕ
   pub committed : ℕ → ℕ
-  pub rate : ℕ → ℕ
+  pub fieldRate : ℕ → ℕ
+  -- its clearings: how many, the sum of price × kW, and of kW
+  pub clearings : ℕ → ℕ
+  pub clearedValue : ℕ → ℕ
+  pub clearedKw : ℕ → ℕ
   -- LSE j, 0 where it is not known
   pub obligation : ℕ → ℕ
   -- how many events are accepted; of event ev its month and period, which registrations it lists, with which reductions, and sellers' deficits, 0 where absent
@@ -64,7 +68,10 @@ module _ (y : Year) where
         seller = year.seller (y .terms);
         product = year.product (y .terms);
         committed = year.committed (y .terms);
-        rate = year.rate (y .terms);
+        fieldRate = year.rate (y .terms);
+        clearings = λ i. year.clearingsOf y i .count;
+        clearedValue = λ i. year.clearingsOf y i .value;
+        clearedKw = λ i. year.clearingsOf y i .kw;
         obligation = year.obligation (y .terms);
         events = y .held;
         month = λ ev. eventAt ev .month;

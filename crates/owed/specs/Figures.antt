@@ -1,5 +1,5 @@
--- Figures of the definitions: document 01's starred ones in one table, and more that were worked by hand.
-use Prim.Native.Nat.{ℕ}
+-- Figures of the definitions: document 01's starred ones in one table, those of document 02's C-11, and more that were worked by hand.
+use Prim.Native.Nat.{ℕ, _+_, _*_}
 use mathlib.Core.List.{List, [], _∷_}
 use mathlib.Core.Bool.{Bool, true, false}
 use mathlib.Core.Path.{_≡_, refl}
@@ -9,12 +9,12 @@ use Rattle.units.specs.Units.{convert}
 use Rattle.calendar.specs.Calendar.{limited, annual, offPeak, days, due}
 use Rattle.allotment.specs.Allot.{share}
 use Rattle.owed.specs.Facts.{Facts}
-use Rattle.owed.specs.Owed.{beforeCap, raised, unforced, ofSeller, shareOf, called, calls, shortfallOver, u, cap, daily, spent, charge, excess, e, B}
+use Rattle.owed.specs.Owed.{beforeCap, raised, unforced, rate, ofSeller, shareOf, called, calls, shortfallOver, u, cap, daily, spent, charge, excess, e, creditLimit, B}
 
 -- Year A, with registration 0 of this product and registration 1 of this seller. Events of these periods list these registrations, a test both, with
--- reductions of v and 2,100.
-abbrev yearA : ℕ → ℕ → List ℕ → List Bool → ℕ → Facts
-yearA product seller periods listed v =
+-- reductions of v and 2,100. Registration 0 has so many clearings, of this price × kW and kW in all.
+abbrev withClearings : ℕ → ℕ → ℕ → ℕ → ℕ → List ℕ → List Bool → ℕ → Facts
+withClearings clearings value kw product seller periods listed v =
     record {
       leap = 0;
       factor = 9500;
@@ -23,7 +23,10 @@ yearA product seller periods listed v =
       seller = at (0 ∷ seller ∷ []);
       product = at (product ∷ limited ∷ []);
       committed = at (1000 ∷ 2000 ∷ []);
-      rate = at (10000 ∷ 15000 ∷ []);
+      fieldRate = at (10000 ∷ 15000 ∷ []);
+      clearings = at (clearings ∷ []);
+      clearedValue = at (value ∷ []);
+      clearedKw = at (kw ∷ []);
       obligation = at (3000 ∷ 1000 ∷ []);
       events = length periods;
       month = λ ev. 1;
@@ -35,6 +38,9 @@ yearA product seller periods listed v =
       testReduction = λ p. at (v ∷ 2100 ∷ []);
       testDeficit = λ p s. 0;
     }
+
+abbrev yearA : ℕ → ℕ → List ℕ → List Bool → ℕ → Facts
+yearA = withClearings 0 0 0
 
 -- with one on-peak event of both registrations
 abbrev A : Facts
@@ -52,7 +58,7 @@ figures : (unforced A 400 ≡ 410)
     × (beforeCap offPeak 0 410 10000 ≡ 78846)
     × (u twin 0 0 ≡ 1026) × (u twin 1 0 ≡ 1026) × (cap twin 0 ≡ 10260000) × (spent twin 2 0 ≡ 10260000) × (spent twin 3 0 ≡ 10260000)
     × (due limited 1 ≡ 5) × (due limited 4 ≡ 7) × (due annual 12 ≡ 15)
-unfolding sumTo convert due share beforeCap unforced ofSeller shareOf calls shortfallOver u cap daily spent
+unfolding sumTo convert due share beforeCap unforced rate ofSeller shareOf calls shortfallOver u cap daily spent
 figures =
     (refl, refl, refl, refl, refl, refl, refl, refl, refl, refl, refl, refl, refl, refl, refl, refl, refl, refl, refl, refl, refl)
 
@@ -69,16 +75,30 @@ raised-figures = (refl, refl)
 
 -- both registrations are seller 0's, and an event lists the second: B is the first's rate, 10,000. Over all entries of the test it would be 13,333.
 base-figure : B (yearA limited 0 (1 ∷ []) (false ∷ true ∷ []) 600) 0 0 ≡ 10000
-unfolding sumTo anyTo ofSeller called B
+unfolding sumTo anyTo rate ofSeller called B
 base-figure = refl
 
 -- three on-peak events: n is 3 for the first of them too, and 1,366,666 × 183 / 1,000 is 250,099 from its due month on. Rounded to cents before, it would be 249,978.
 days-figure : (charge (yearA limited 1 (1 ∷ 1 ∷ 1 ∷ []) (true ∷ true ∷ []) 600) 6 0 0 ≡ 250099)
     × (charge (yearA limited 1 (1 ∷ 1 ∷ 1 ∷ []) (true ∷ true ∷ []) 600) 4 0 0 ≡ 0)
-unfolding sumTo convert days due share beforeCap unforced ofSeller shareOf calls shortfallOver u cap daily spent charge
+unfolding sumTo convert days due share beforeCap unforced rate ofSeller shareOf calls shortfallOver u cap daily spent charge
 days-figure = (refl, refl)
 
 -- both registrations are seller 0's, and it is short: registration 1 has no excess, though it gives 100 more
 excess-figure : e (yearA limited 0 (1 ∷ []) (true ∷ true ∷ []) 600) 0 1 ≡ 0
 unfolding sumTo share ofSeller shareOf excess e
 excess-figure = refl
+
+-- A with such clearings of registration 0
+abbrev cleared : ℕ → ℕ → ℕ → Facts
+cleared clearings value kw = withClearings clearings value kw limited 1 (1 ∷ []) (true ∷ true ∷ []) 600
+
+-- clearings of 1 kW at 100 and 3 kW at 201 give 703 / 4, rounded down (the plain average would be 150, the last alone 201); one of 5 kW at 0 gives 0 though the field says
+-- 10,000; without a clearing it is the field. At 175 a day costs 410 × 175 / 2, the cap is 1,026 × 175, B is 175, and 200 kW of excess are credited at
+-- most 200 × 175 / 5 a day: 30 days of these are 210 cents.
+clearing-figures : (rate (cleared 2 (1 * 100 + 3 * 201) (1 + 3)) 0 ≡ 175) × (rate (cleared 1 0 5) 0 ≡ 0) × (rate A 0 ≡ 10000)
+    × (daily (cleared 2 703 4) 0 0 0 ≡ 35875) × (cap (cleared 2 703 4) 0 ≡ 179550)
+    × (B (withClearings 2 703 4 limited 1 [] [] 600) 0 0 ≡ 175)
+    × (creditLimit (withClearings 2 703 4 limited 1 (1 ∷ []) (true ∷ true ∷ []) 1200) 1 0 0 ≡ 210)
+unfolding sumTo anyTo convert days share beforeCap unforced rate ofSeller shareOf called calls shortfallOver u cap daily spent excess e creditLimit B
+clearing-figures = (refl, refl, refl, refl, refl, refl, refl)

@@ -1,9 +1,9 @@
--- What is owed (document 01), in the document's order, over facts. Amounts are to date at month k; i is a registration, s a seller, j an LSE, ev an event, p the place of a test.
+-- What is owed (document 01, with document 02's C-11), in the document's order, over facts. Amounts are to date at month k; i is a registration, s a seller, j an LSE, ev an event, p the place of a test.
 -- a - b is 0 where b is the larger, so "at least 0" is written as `-`; a / 0 is 0, so nothing is allotted where all weights are 0.
 -- A sum or an allotment over some registrations runs over all ids, in rising order, with 0 for the others.
 use Prim.Native.Nat.{ℕ, zero, suc, _+_, _-_, _*_, _/_, min, max}
 use mathlib.Core.Bool.{Bool, not, _&&_, _||_, cond}
-use lib.Dec.{leb, eqb}
+use lib.Dec.{leb, ltb, eqb}
 use Rattle.ids.specs.Ids.{sumTo, anyTo, tabulate, only, keyed}
 use Rattle.units.specs.Units.{convert}
 use Rattle.calendar.specs.Calendar.{days, due}
@@ -31,6 +31,10 @@ module _ (F : Facts) where
   -- conversion to unforced kilowatts
   unfoldable pub unforced : ℕ → ℕ
   unforced a = convert (F .factor) (F .requirement) a
+
+  -- registration i's rate: of its clearings, where it has any, the average by kW, rounded down; else its field
+  unfoldable pub rate : ℕ → ℕ
+  rate i = cond (ltb 0 (F .clearings i)) (F .clearedValue i / F .clearedKw i) (F .fieldRate i)
 
   -- what f sums up to over seller s's registrations
   unfoldable pub ofSeller : ℕ → (ℕ → ℕ) → ℕ
@@ -69,14 +73,14 @@ module _ (F : Facts) where
 
   -- step 4: the cap, and its rest when x of it is spent
   unfoldable pub cap : ℕ → ℕ
-  cap i = unforced (F .committed i) * F .rate i
+  cap i = unforced (F .committed i) * rate i
 
   abbrev pub rest : ℕ → ℕ → ℕ
   rest i x = cap i - x
 
   -- the daily charge: the lesser of step 3 and the cap's rest
   unfoldable pub daily : ℕ → ℕ → ℕ → ℕ
-  daily ev x i = only (F .listed ev) (λ i. min (beforeCap (F .period ev) (calls i) (u ev i) (F .rate i)) (rest i x)) i
+  daily ev x i = only (F .listed ev) (λ i. min (beforeCap (F .period ev) (calls i) (u ev i) (rate i)) (rest i x)) i
 
   -- what the events before ev spent of the cap, due or not
   unfoldable pub spent : ℕ → ℕ → ℕ
@@ -104,7 +108,7 @@ module _ (F : Facts) where
 
   unfoldable pub creditLimit : ℕ → ℕ → ℕ → ℕ
   creditLimit k ev i =
-      let bracket = e ev i * F .rate i / 5 in
+      let bracket = e ev i * rate i / 5 in
       bracket * D k / 1000
 
   unfoldable pub creditOf : ℕ → ℕ → ℕ → ℕ
@@ -118,7 +122,7 @@ module _ (F : Facts) where
   testShortfall p = shortfallOver (stands p) (F .testReduction p) (F .testDeficit p)
 
   unfoldable pub B : ℕ → ℕ → ℕ
-  B p s = ofSeller s (only (stands p) (λ i. F .committed i * F .rate i)) / ofSeller s (only (stands p) (F .committed))
+  B p s = ofSeller s (only (stands p) (λ i. F .committed i * rate i)) / ofSeller s (only (stands p) (F .committed))
 
   unfoldable pub testOf : ℕ → ℕ → ℕ → ℕ
   testOf k p s = testShortfall p s * raised (B p s) * D k / 1000

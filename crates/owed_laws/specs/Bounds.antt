@@ -13,7 +13,7 @@ use Rattle.units.specs.Units.{convert-scaled}
 use Rattle.calendar.specs.Calendar.{due, days-le}
 use Rattle.allotment.specs.Allot.{share-most}
 use Rattle.owed.specs.Facts.{Facts, registrations}
-use Rattle.owed.specs.Owed.{raised, D, unforced, ofSeller, shareOf, shortfallOver, shortfall, lack, more, u, cap, daily, spent, charge, excess, e, creditLimit, creditOf, stands, testShortfall, B, testOf}
+use Rattle.owed.specs.Owed.{raised, D, unforced, rate, ofSeller, shareOf, shortfallOver, shortfall, lack, more, u, cap, daily, spent, charge, excess, e, creditLimit, creditOf, stands, testShortfall, B, testOf}
 use Rattle.owed_laws.specs.Limits.{Limits}
 use Rattle.owed_laws.specs.Sellers.{ofSeller-le, net-is, excess-is}
 use Rattle.owed_laws.specs.Allotments.{e-allotted}
@@ -95,16 +95,16 @@ module _ {F : Facts} (L : Limits F) where
   pub credit-le : (k ev i : ℕ) → creditOf F k ev i ≤ 732000000
   unfolding creditOf creditLimit
   credit-le k ev i =
-      let h : e F ev i * F .rate i / 5 ≤ 2000000000 = omega (arith, mul-le-mul (e-le ev i) (L .rate i)) in
+      let h : e F ev i * rate F i / 5 ≤ 2000000000 = omega (arith, mul-le-mul (e-le ev i) (L .rate i)) in
       omega (arith, mul-le-mul h (D-le k))
 
   -- a test's base, at most the highest rate, its rate, and its charge
   pub worth-le : (p : ℕ → Bool) (s : ℕ)
-      → ofSeller F s (only p (λ i. F .committed i * F .rate i)) ≤ ofSeller F s (only p (F .committed)) * 100000
+      → ofSeller F s (only p (λ i. F .committed i * rate F i)) ≤ ofSeller F s (only p (F .committed)) * 100000
   unfolding ofSeller
   worth-le p s =
       let c : ℕ → ℕ = keyed (F .seller) (only p (F .committed)) s in
-      let w : ℕ → ℕ = keyed (F .seller) (only p (λ i. F .committed i * F .rate i)) s in
+      let w : ℕ → ℕ = keyed (F .seller) (only p (λ i. F .committed i * rate F i)) s in
       omega (
         arith,
         sum-mul registrations c 100000,

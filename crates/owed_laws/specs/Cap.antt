@@ -9,7 +9,7 @@ use Rattle.ids.specs.Ids.{sumTo, only}
 use Rattle.units.specs.Units.{convert-zero}
 use Rattle.calendar.specs.Calendar.{due}
 use Rattle.owed.specs.Facts.{Facts}
-use Rattle.owed.specs.Owed.{D, unforced, ofSeller, cap, daily, spent, revenue, charge, compliance}
+use Rattle.owed.specs.Owed.{D, unforced, rate, ofSeller, cap, daily, spent, revenue, charge, compliance}
 use Rattle.owed_laws.specs.Limits.{Limits}
 use Rattle.owed_laws.specs.Sellers.{ofSeller-mono, ofSeller-mul, ofSeller-sum}
 
@@ -60,7 +60,7 @@ module _ {F : Facts} (L : Limits F) where
     where
       go : (b : Bool) → (b ≡ false → F .committed i ≡ 0) → cap F i ≤ cond b (cap F i) 0
       go true h = omega arith
-      go false h = rw (h refl, convert-zero (F .factor) (F .requirement), zero-mul (F .rate i)) (omega arith)
+      go false h = rw (h refl, convert-zero (F .factor) (F .requirement), zero-mul (rate F i)) (omega arith)
 
   pub yearly-limit : (k s : ℕ) → compliance F k s * 1000 ≤ revenue F k s
   unfolding compliance revenue

@@ -9,7 +9,7 @@ use Rattle.ids.specs.Ids.{sumTo, anyTo, only, keyed}
 use Rattle.ids.specs.Sums.{sum-same}
 use Rattle.ids.specs.Tests.{any-same}
 use Rattle.owed.specs.Facts.{Facts, registrations, places}
-use Rattle.owed.specs.Owed.{unforced, ofSeller, shareOf, called, calls, shortfallOver, shortfall, lack, u, cap, daily, spent, charge, stands, B, testOf, compliance, test}
+use Rattle.owed.specs.Owed.{unforced, rate, ofSeller, shareOf, called, calls, shortfallOver, shortfall, lack, u, cap, daily, spent, charge, stands, B, testOf, compliance, test}
 
 -- two facts that agree in what is seller r's, along the accepted events and at every test
 pub record Same (r : ℕ) (F G : Facts) : Type 0 where
@@ -25,7 +25,7 @@ pub record Same (r : ℕ) (F G : Facts) : Type 0 where
   -- of its registrations
   pub product : (i : ℕ) → F .seller i ≡ r → F .product i ≡ G .product i
   pub committed : (i : ℕ) → F .seller i ≡ r → F .committed i ≡ G .committed i
-  pub rate : (i : ℕ) → F .seller i ≡ r → F .rate i ≡ G .rate i
+  pub rate : (i : ℕ) → F .seller i ≡ r → rate F i ≡ rate G i
   pub listed : (ev : ℕ) → ev < F .events → (i : ℕ) → F .seller i ≡ r → F .listed ev i ≡ G .listed ev i
   pub reduction : (ev : ℕ) → ev < F .events → (i : ℕ) → F .seller i ≡ r → F .reduction ev i ≡ G .reduction ev i
   pub tested : (p i : ℕ) → F .seller i ≡ r → F .tested p i ≡ G .tested p i
@@ -117,7 +117,7 @@ module _ {r : ℕ} {F G : Facts} (h : Same r F G) where
   same-B p =
       cc (
         same-seller (same-only (same-stands p) (h .committed)),
-        same-seller (same-only {f = λ i. F .committed i * F .rate i} {g = λ i. G .committed i * G .rate i} (same-stands p) (λ i own. cc (h .committed i own, h .rate i own))),
+        same-seller (same-only {f = λ i. F .committed i * rate F i} {g = λ i. G .committed i * rate G i} (same-stands p) (λ i own. cc (h .committed i own, h .rate i own))),
       )
 
   same-testOf : (k p : ℕ) → testOf F k p r ≡ testOf G k p r

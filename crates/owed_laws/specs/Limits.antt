@@ -1,11 +1,11 @@
 -- Limits of the facts of a sound year, at every id.
-use Prim.Native.Nat.{ℕ, _+_, _*_, _≤_, _<_}
+use Prim.Native.Nat.{ℕ, _+_, _*_, _/_, _≤_, _<_}
 use mathlib.Core.Bool.{Bool, true, false, cond}
 use mathlib.Core.List.{List}
 use mathlib.Core.Path.{_≡_, refl}
 use native.Mathlib.Omega.{arith}
-use native.Mathlib.Nat.{le-trans, le-refl, le-of-eq}
-use lib.Dec.{eqb, lit≤}
+use native.Mathlib.Nat.{le-trans, le-refl, le-of-eq, div-le-of-le-mul}
+use lib.Dec.{eqb, ltb, lit≤}
 use lib.ListN.{length, getD}
 use borrow.Author.Tests.{eq-eqb}
 use Rattle.ids.specs.Ids.{sumTo}
@@ -17,8 +17,9 @@ use Rattle.year.specs.declared.Year.{Year}
 use Rattle.year.specs.Year.{pastListing, pastEvent, pastTest, zone, product, obligation}
 use Rattle.year.specs.Year as year
 use Rattle.year.specs.Sound.{SoundListing, AtMost, Sound}
-use Rattle.year.specs.Limits.{each-anywhere, seller-below, zone-below, product-below, committed-most, committed-blank, rate-most, reduction-most}
+use Rattle.year.specs.Limits.{each-anywhere, clearings-sound, seller-below, zone-below, product-below, committed-most, committed-blank, rate-most, reduction-most}
 use Rattle.owed.specs.Facts.{Facts, factsOf, registrations, sellers, places}
+use Rattle.owed.specs.Owed.{rate}
 
 pub record Limits (F : Facts) : Type 0 where
   pub leap : F .leap ≤ 1
@@ -27,7 +28,7 @@ pub record Limits (F : Facts) : Type 0 where
   pub seller : (i : ℕ) → F .seller i < sellers
   pub product : (i : ℕ) → F .product i < 3
   pub committed : (i : ℕ) → F .committed i ≤ 100000
-  pub rate : (i : ℕ) → F .rate i ≤ 100000
+  pub rate : (i : ℕ) → rate F i ≤ 100000
   pub blank : (i : ℕ) → F .known i ≡ false → F .committed i ≡ 0
   pub obligation : (j : ℕ) → F .obligation j ≤ 1000000
   pub events : F .events ≤ 16
@@ -38,6 +39,15 @@ pub record Limits (F : Facts) : Type 0 where
   pub testDeficit : (p s : ℕ) → F .testDeficit p s ≤ 1000000
   -- no registration is in two tests
   pub once : (i : ℕ) → i < registrations → sumTo places (λ p. cond (F .tested p i) 1 0) ≤ 1
+
+-- a rate is at most what a field and each price can be
+rate-le : (F : Facts) (i : ℕ) → F .fieldRate i ≤ 100000 → F .clearedValue i ≤ 100000 * F .clearedKw i → rate F i ≤ 100000
+unfolding rate
+rate-le F i f v = go (ltb 0 (F .clearings i))
+  where
+    go : (b : Bool) → cond b (F .clearedValue i / F .clearedKw i) (F .fieldRate i) ≤ 100000
+    go true = div-le-of-le-mul (F .clearedKw i) (omega (arith, v))
+    go false = f
 
 -- a listing's numbers, at every id
 record Within (l : Listing) : Type 0 where
@@ -93,7 +103,7 @@ module _ {y : Year} (S : Sound y) where
         seller = seller-below (S .terms);
         product = product-below (S .terms);
         committed = committed-most (S .terms);
-        rate = rate-most (S .terms);
+        rate = λ i. rate-le (factsOf y) i (rate-most (S .terms) i) (clearings-sound S i .value);
         blank = committed-blank (S .terms);
         obligation = obligation-most;
         events = S .held;

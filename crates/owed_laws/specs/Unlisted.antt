@@ -10,7 +10,7 @@ use Rattle.ids.specs.Tests.{cond-le}
 use Rattle.calendar.specs.Calendar.{due}
 use Rattle.allotment.specs.Allot.{share-zero}
 use Rattle.owed.specs.Facts.{Facts, registrations}
-use Rattle.owed.specs.Owed.{oneOrThree, beforeCap, D, shareOf, calls, lack, more, shortfall, excess, u, daily, spent, charge, e, creditShare, creditLimit, creditOf}
+use Rattle.owed.specs.Owed.{oneOrThree, beforeCap, D, rate, shareOf, calls, lack, more, shortfall, excess, u, daily, spent, charge, e, creditShare, creditLimit, creditOf}
 
 -- a weight of 0
 share-none : (F : Facts) (weight amount : ℕ → ℕ) (i : ℕ) → weight i ≡ 0 → shareOf F weight amount i ≡ 0
@@ -41,7 +41,7 @@ module _ (F : Facts) (ev i : ℕ) (none : u F ev i ≡ 0) where
   pub daily-none : (x : ℕ) → daily F ev x i ≡ 0
   unfolding daily
   daily-none x =
-      let z : beforeCap (F .period ev) (calls F i) (u F ev i) (F .rate i) ≡ 0 = rw none (nothing-asked (F .period ev) (calls F i) (F .rate i)) in
+      let z : beforeCap (F .period ev) (calls F i) (u F ev i) (rate F i) ≡ 0 = rw none (nothing-asked (F .period ev) (calls F i) (rate F i)) in
       let le : daily F ev x i ≤ 0 = cond-le (F .listed ev i) (omega arith) in
       omega arith
 

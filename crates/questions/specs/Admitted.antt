@@ -1,4 +1,4 @@
--- What a record that passes questions 6 to 16 has: each question's yes, and what it says of the year.
+-- What a record that passes questions 6 to 17 has: each question's yes, and what it says of the year.
 use Prim.Native.Nat.{ℕ, _+_, _≤_, _<_}
 use mathlib.Core.Path.{_≡_}
 use mathlib.Core.Bool.{Bool, true, false}
@@ -10,15 +10,16 @@ use Rattle.layouts.specs.Questions.{firstFailed}
 use Rattle.records.specs.Accepted.{passed}
 use Rattle.year.specs.declared.Listing.{Listing}
 use Rattle.year.specs.declared.Year.{Year}
-use Rattle.year.specs.Year.{pastTest, testPlace}
+use Rattle.year.specs.Year.{clearingsOf, pastTest, testPlace}
 use Rattle.heads.specs.declared.RegistrationHead.{RegistrationHead}
 use Rattle.heads.specs.declared.EventHead.{EventHead}
 use Rattle.heads.specs.declared.TestHead.{TestHead}
 use Rattle.heads.specs.declared.CloseHead.{CloseHead}
-use Rattle.heads.specs.declared.Head.the-variants.{Registration, Event, Test, Close}
+use Rattle.heads.specs.declared.ClearingHead.{ClearingHead}
+use Rattle.heads.specs.declared.Head.the-variants.{Registration, Event, Test, Close, Clearing}
 use Rattle.heads.specs.Record.{Record}
 use Rattle.entries.specs.Entries.{inGroup, everyListed, deficitsListed}
-use Rattle.questions.specs.Questions.{q6, q7, q8, q9, q10, q11, q12, q13, q14, q15, q16, questions}
+use Rattle.questions.specs.Questions.{q6, q7, q8, q9, q10, q17, q11, q12, q13, q14, q15, q16, questions}
 
 pub record Admitted (rule : ℕ → ℕ → Bool) (y : Year) (r : Record) (room : ℕ) : Type 0 where
   pub six : q6 y (r .head) ≡ true
@@ -26,6 +27,7 @@ pub record Admitted (rule : ℕ → ℕ → Bool) (y : Year) (r : Record) (room 
   pub eight : q8 y (r .head) ≡ true
   pub nine : q9 y (r .head) ≡ true
   pub ten : q10 y (r .listing) (r .head) ≡ true
+  pub seventeen : q17 y (r .head) ≡ true
   pub eleven : q11 y rule (r .listing) (r .head) ≡ true
   pub twelve : q12 y (r .head) ≡ true
   pub thirteen : q13 y (r .head) ≡ true
@@ -43,13 +45,14 @@ admitted rule y r room e =
     let p8 = passed 7 (q8 y h) _ (p7 .1) in
     let p9 = passed 8 (q9 y h) _ (p8 .1) in
     let p10 = passed 9 (q10 y l h) _ (p9 .1) in
-    let p11 = passed 10 (q11 y rule l h) _ (p10 .1) in
+    let p17 = passed 16 (q17 y h) _ (p10 .1) in
+    let p11 = passed 10 (q11 y rule l h) _ (p17 .1) in
     let p12 = passed 11 (q12 y h) _ (p11 .1) in
     let p13 = passed 12 (q13 y h) _ (p12 .1) in
     let p14 = passed 13 (q14 y l h) _ (p13 .1) in
     let p15 = passed 14 (q15 y h) _ (p14 .1) in
     let p16 = passed 15 (q16 room h) _ (p15 .1) in
-    record { six = p6 .0; seven = p7 .0; eight = p8 .0; nine = p9 .0; ten = p10 .0; eleven = p11 .0; twelve = p12 .0; thirteen = p13 .0; fourteen = p14 .0; fifteen = p15 .0; sixteen = p16 .0 }
+    record { six = p6 .0; seven = p7 .0; eight = p8 .0; nine = p9 .0; ten = p10 .0; seventeen = p17 .0; eleven = p11 .0; twelve = p12 .0; thirteen = p13 .0; fourteen = p14 .0; fifteen = p15 .0; sixteen = p16 .0 }
 
 module _ {rule : ℕ → ℕ → Bool} {y : Year} {l : Listing} {room : ℕ} where
   pub registration-fresh : {r : RegistrationHead} → Admitted rule y (record { head = Registration r; listing = l }) room → y .started ≡ false
@@ -67,6 +70,10 @@ module _ {rule : ℕ → ℕ → Bool} {y : Year} {l : Listing} {room : ℕ} whe
   pub test-free : {t : TestHead} → Admitted rule y (record { head = Test t; listing = l }) room → getD (y .tests) (testPlace (t .zone) (t .product)) pastTest .taken ≡ false
   unfolding q13
   test-free a = not-true _ (a .thirteen)
+
+  pub clearings-few : {c : ClearingHead} → Admitted rule y (record { head = Clearing c; listing = l }) room → clearingsOf y (c .registration) .count < 4
+  unfolding q17
+  clearings-few {c} a = ltb-true (clearingsOf y (c .registration) .count) 4 (a .seventeen)
 
   module _ {c : CloseHead} (a : Admitted rule y (record { head = Close c; listing = l }) room) where
     pub not-finished : y .closed < 15

@@ -1,4 +1,4 @@
--- Questions 6 to 16 (document 01, 'Questions at the counter'), of a year and a record. A record that a question is not put to passes it.
+-- Questions 6 to 17 (document 01, 'Questions at the counter'; document 02, C-11), of a year and a record. A record that a question is not put to passes it.
 use Prim.Native.Nat.{ℕ, _+_, max}
 use mathlib.Core.Bool.{Bool, true, not, _&&_}
 use mathlib.Core.List.{List, [], _∷_}
@@ -9,11 +9,11 @@ use Rattle.calendar.specs.Calendar.{callable, testable}
 use Rattle.year.specs.declared.Listing.{Listing}
 use Rattle.year.specs.declared.Terms.{Terms}
 use Rattle.year.specs.declared.Year.{Year}
-use Rattle.year.specs.Year.{known, product, obligation, size, lses, pastTest, testPlace}
+use Rattle.year.specs.Year.{clearingsOf, known, product, obligation, size, lses, pastTest, testPlace}
 use Rattle.owed.specs.Facts.{factsOf}
 use Rattle.owed.specs.Owed.{called}
 use Rattle.heads.specs.declared.Head.{Head}
-use Rattle.heads.specs.Record.{Record, forOpening, forRegistration, forLse, forEvent, forTest, forClose}
+use Rattle.heads.specs.Record.{Record, forOpening, forRegistration, forLse, forEvent, forTest, forClose, forClearing}
 use Rattle.entries.specs.Entries.{inArea, inGroup, everyListed, deficitsListed, listsExactly}
 
 -- may an event of month m be taken with z months closed: the time rule in force
@@ -35,9 +35,9 @@ module _ (y : Year) where
   unfoldable pub q6 : Head → Bool
   q6 = forOpening (λ o. not (y .opened)) (λ h. y .opened && ltb (y .closed) 15)
 
-  -- for registration and LSE: is no event, test or close accepted yet?
+  -- for registration, LSE and clearing: is no event, test or close accepted yet?
   unfoldable pub q7 : Head → Bool
-  q7 = forRegistration (λ r. not (y .started)) (forLse (λ j. not (y .started)) passed)
+  q7 = forRegistration (λ r. not (y .started)) (forLse (λ j. not (y .started)) (forClearing (λ c. not (y .started)) passed))
 
   -- for event, test and close: are there a registration and an LSE?
   unfoldable pub q8 : Head → Bool
@@ -47,11 +47,15 @@ module _ (y : Year) where
   unfoldable pub q9 : Head → Bool
   q9 = forRegistration (λ r. not (known T (r .id))) (forLse (λ j. eqb (obligation T (j .id)) 0) passed)
 
-  -- is every listed registration known and in the event's area, or the test's zone and product, and has every deficit's seller an entry?
+  -- is every listed registration known and in the event's area, or the test's zone and product, and has every deficit's seller an entry? Is a clearing's registration known?
   unfoldable pub q10 : Listing → Head → Bool
   q10 l =
       forEvent (λ e. everyListed T l (inArea T (e .area)) && deficitsListed T l)
-      (forTest (λ t. everyListed T l (inGroup T (t .zone) (t .product)) && deficitsListed T l) passed)
+      (forTest (λ t. everyListed T l (inGroup T (t .zone) (t .product)) && deficitsListed T l) (forClearing (λ c. known T (c .registration)) passed))
+
+  -- has a clearing's registration fewer than four?
+  unfoldable pub q17 : Head → Bool
+  q17 = forClearing (λ c. ltb (clearingsOf y (c .registration) .count) 4) passed
 
   -- is an event in time by the rule, a test's month begun, and may each product be called or tested then?
   unfoldable pub q11 : (ℕ → ℕ → Bool) → Listing → Head → Bool
@@ -89,6 +93,7 @@ questions rule y r room =
     ∷ (8, q8 y h)
     ∷ (9, q9 y h)
     ∷ (10, q10 y l h)
+    ∷ (17, q17 y h)
     ∷ (11, q11 y rule l h)
     ∷ (12, q12 y h)
     ∷ (13, q13 y h)

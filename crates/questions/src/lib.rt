@@ -1,4 +1,4 @@
-// Questions 6 to 16, put to a year and a record: a function for each kind, in the order of the list.
+// Questions 6 to 17, put to a year and a record: a function for each kind, in the order of the list.
 ghost use mathlib.Core.Path.{_≡_};
 ghost use mathlib.Core.Bool.{not, _&&_};
 ghost use mathlib.Core.List.{[], _∷_};
@@ -11,7 +11,7 @@ ghost use Rattle.year.specs.declared.Listing.{Listing};
 ghost use Rattle.year.specs.Year.{product};
 ghost use Rattle.calendar.specs.Calendar.{callable, testable};
 ghost use Rattle.cells.specs.Layout.{listingAt, yearIn, Held};
-ghost use Rattle.heads.specs.Within.{RegistrationWithin, LseWithin, TestWithin, Within};
+ghost use Rattle.heads.specs.Within.{RegistrationWithin, LseWithin, TestWithin, ClearingWithin, Within};
 ghost use Rattle.entries.specs.Entries.{everyListed};
 ghost use Rattle.questions.specs.Questions.{inTime, hasParties, questions};
 use cells::Cells;
@@ -21,6 +21,7 @@ use entries::any_registration;
 use entries::entries_pass;
 use entries::every_listed;
 use entries::lists_uncalled;
+use heads::ClearingHead;
 use heads::CloseHead;
 use heads::EventHead;
 use heads::Head;
@@ -179,6 +180,32 @@ fn close_number(year: &Cells, c: CloseHead, room: usize) -> u64
     if room < 354 { 16 } else { 0 }
 }
 
+// The number of the first of two questions that fails, or 0.
+fn first_failed(first: bool, number: u64, second: bool, other: u64) -> u64
+    ensures { λ r. ⌜ r ≡ firstFailed ((number, first) ∷ (other, second) ∷ []) ⌝ }
+{
+    if !first {
+        return number;
+    }
+    if second { 0 } else { other }
+}
+
+// Of a clearing, which has no id that could be taken.
+fn clearing_number(year: &Cells, c: ClearingHead) -> u64
+    requires { ⌜ ClearingWithin c ⌝ }
+    ensures { λ n. ⌜ ((l : Listing) (room : ℕ) → n ≡ firstFailed (questions inTime (yearIn (now (year .entry))) (record { head = Head.Clearing c; listing = l }) room)) ⌝ }
+{
+    let joining = joining_number(is_open(year), cells::started(year), false);
+    if joining != 0 {
+        return joining;
+    }
+    let registration = cells::registration_at(year, c.registration as usize);
+    let cleared = cells::clearings_at(year, c.registration as usize);
+    let known = registration.known;
+    let few = cleared.count < 4;
+    first_failed(known, 10, few, 17)
+}
+
 // The number of the first question from 6 on that fails, or 0. The listing is a row by id.
 pub fn number_of(year: &Cells, head: Head, listing: &[u64], room: usize) -> u64
     requires { ⌜ Held (now year) ⌝ }
@@ -193,5 +220,6 @@ pub fn number_of(year: &Cells, head: Head, listing: &[u64], room: usize) -> u64
         Head::Event(e) => event_number(year, e, listing),
         Head::Test(t) => test_number(year, t, listing),
         Head::Close(c) => close_number(year, c, room),
+        Head::Clearing(c) => clearing_number(year, c),
     }
 }

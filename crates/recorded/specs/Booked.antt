@@ -1,6 +1,6 @@
 -- The year that the book keeps after a list of accepted records has just what they say.
-use Prim.Native.Nat.{ℕ, zero, suc, _-_, _<_}
-use mathlib.Core.Bool.{false}
+use Prim.Native.Nat.{ℕ, zero, suc, _-_, _*_, _<_}
+use mathlib.Core.Bool.{Bool, true, false, cond}
 use mathlib.Core.List.{List, [], _∷_, _++_, append-assoc, append-nil}
 use mathlib.Core.Path.{_≡_, refl, sym, fun-ext}
 use lib.ListN.{length, getD, replicate}
@@ -10,16 +10,18 @@ use Rattle.year.specs.declared.Listing.{Listing}
 use Rattle.year.specs.declared.Event.{Event}
 use Rattle.year.specs.declared.Amounts.{Amounts}
 use Rattle.year.specs.declared.Year.{Year}
-use Rattle.year.specs.Year.{newYear, noEvent, noAmounts, pastEvent, listed, reduction, deficit}
-use Rattle.owed.specs.Facts.{factsOf}
+use Rattle.year.specs.Year.{newYear, noClearings, noEvent, noAmounts, pastEvent, listed, reduction, deficit}
+use Rattle.year.specs.Steps.{clearedBy}
+use Rattle.owed.specs.Facts.{registrations, factsOf}
 use Rattle.owed.specs.Owed.{amounts}
 use Rattle.heads.specs.declared.EventHead.{EventHead}
+use Rattle.heads.specs.declared.ClearingHead.{ClearingHead}
 use Rattle.heads.specs.declared.Head.{Head}
 use Rattle.heads.specs.declared.Head.the-variants as head
 use Rattle.heads.specs.Record.{Record, forClose}
 use Rattle.recorded.specs.After.{eventOf, yearBy}
-use Rattle.recorded.specs.Recorded.{gather, lastOr, event, termsIn, eventsIn, testsIn, factsIn, recorded}
-use Rattle.recorded.specs.Gathered.{gather-more, some-more, last-more, last-alone, set-table, set-filled, length-more}
+use Rattle.recorded.specs.Recorded.{gather, lastOr, sumOver, summed, clearingFor, event, termsIn, clearingsIn, eventsIn, testsIn, factsIn, recorded}
+use Rattle.recorded.specs.Gathered.{gather-more, some-more, last-more, last-alone, set-table, set-changed, set-filled, sum-more, length-more}
 
 -- the amounts to date at a close, by the records before it, and at each close among records
 abbrev billedAt : List Record → Record → List Amounts
@@ -45,6 +47,7 @@ booked rs =
       started = y .started;
       closed = y .closed;
       terms = y .terms;
+      clearings = y .clearings;
       events = y .events ++ replicate (16 - y .held) noEvent;
       held = y .held;
       tests = y .tests;
@@ -75,10 +78,16 @@ facts-booked rs =
     let deficit = fun-ext (padded (λ e. deficit (e .listing)) (fun-ext (λ s. getD-replicate-same 16 s 0)) es n) in
     cc
 
+-- one clearing more, if it is the registration's
+summed-more : (cs : List ClearingHead) (b : Bool) (c : ClearingHead) → summed (cs ++ cond b (c ∷ []) []) ≡ cond b (clearedBy (summed cs) (c .price) (c .kw)) (summed cs)
+unfolding summed
+summed-more cs true c = cc (length-more cs c, sum-more (λ c. c .price * c .kw) cs c, sum-more (λ c. c .kw) cs c)
+summed-more cs false c = rw (append-nil cs)
+
 module _ (rs : List Record) (l : Listing) where
   pub booked-more : (h : Head) → ((e : EventHead) → h ≡ head.Event e → booked rs .held < 16)
       → yearBy (booked rs) l h ≡ booked (rs ++ record { head = h; listing = l } ∷ [])
-  unfolding yearBy booked recorded termsIn eventsIn testsIn
+  unfolding yearBy booked recorded termsIn clearingsIn eventsIn testsIn
   booked-more (head.Opening o) room = simp (gather-more, billed-more, append-nil, some-more, last-more)
   booked-more (head.Registration r) room = simp (gather-more, billed-more, append-nil, last-alone, set-table)
   booked-more (head.Lse j) room = simp (gather-more, billed-more, append-nil, last-alone, set-table)
@@ -86,7 +95,10 @@ module _ (rs : List Record) (l : Listing) where
       simp (gather-more, billed-more, append-nil, some-more, set-filled (gather event rs) 16 noEvent (eventOf e l) (room e refl)) (simp length-more)
   booked-more (head.Test t) room = simp (gather-more, billed-more, append-nil, some-more, last-alone, set-table)
   booked-more (head.Close c) room = simp (gather-more, billed-more, append-nil, some-more, last-more, facts-booked) (simp length-more)
+  booked-more (head.Clearing c) room =
+      rw (set-changed registrations (λ i. summed (gather (clearingFor i) rs)) (c .registration) noClearings (λ x. clearedBy x (c .price) (c .kw)))
+      (simp (gather-more, billed-more, append-nil, summed-more))
 
 pub booked-new : booked [] ≡ newYear
-unfolding booked recorded termsIn eventsIn testsIn billedIn gather lastOr tabulate
+unfolding booked recorded termsIn clearingsIn eventsIn testsIn billedIn gather lastOr sumOver summed tabulate
 booked-new = refl

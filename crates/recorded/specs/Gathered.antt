@@ -9,8 +9,8 @@ use lib.ListN.{length, set, getD, replicate, length-set, length-append}
 use lib.Seq.{getD-set-same, getD-set-other}
 use borrow.Author.Tests.{lt-ltb, eqb-true, eqb-false}
 use Rattle.ids.specs.Ids.{tabulate}
-use Rattle.ids.specs.Tables.{length-tabulate, getD-tabulate, is-tabulate}
-use Rattle.recorded.specs.Recorded.{gather, lastOr}
+use Rattle.ids.specs.Tables.{length-tabulate, getD-tabulate, is-tabulate, tabulate-same}
+use Rattle.recorded.specs.Recorded.{gather, lastOr, sumOver}
 
 module _ {A : Type 0} where
   pub gather-more : {B : Type 0} (f : B → List A) (xs : List B) (x : B) → gather f (xs ++ x ∷ []) ≡ gather f xs ++ f x
@@ -41,10 +41,24 @@ module _ {A : Type 0} where
       go j l false q =
           getD-set-other (tabulate n f) i j v v (λ z. eqb-false i j q (sym z)) ∙ getD-tabulate f n j v l
 
+  -- and with one element changed
+  pub set-changed : (n : ℕ) (f : ℕ → A) (i : ℕ) (d : A) (g : A → A) → set (tabulate n f) i (g (getD (tabulate n f) i d)) ≡ tabulate n (λ j. cond (eqb i j) (g (f j)) (f j))
+  set-changed n f i d g =
+      set-table n f i (g (getD (tabulate n f) i d)) ∙ tabulate-same n (λ j l. go j l (eqb i j) refl)
+    where
+      go : (j : ℕ) → j < n → (b : Bool) → eqb i j ≡ b → cond b (g (getD (tabulate n f) i d)) (f j) ≡ cond b (g (f j)) (f j)
+      go j l true q = rw (eqb-true i j q, getD-tabulate f n j d l)
+      go j l false q = refl
+
 -- places behind a list, the first of them taken
 set-next : {A : Type 0} (xs : List A) (n : ℕ) (d v : A) → set (xs ++ replicate (suc n) d) (length xs) v ≡ (xs ++ v ∷ []) ++ replicate n d
 set-next [] n d v = refl
 set-next (x ∷ xs) n d v = ap (λ l. x ∷ l) (set-next xs n d v)
+
+pub sum-more : {A : Type 0} (f : A → ℕ) (xs : List A) (x : A) → sumOver f (xs ++ x ∷ []) ≡ sumOver f xs + f x
+unfolding sumOver
+sum-more f [] x = omega arith
+sum-more f (y ∷ xs) x = omega (arith, sum-more f xs x)
 
 pub length-more : {A : Type 0} (xs : List A) (x : A) → length (xs ++ x ∷ []) ≡ length xs + 1
 length-more xs x = length-append xs (x ∷ [])

@@ -1,11 +1,12 @@
--- What a list of accepted records says (document 01, 'The lists of demand 3'), read off the list: terms, events, tests, and the year that has just these.
-use Prim.Native.Nat.{ℕ}
+-- What a list of accepted records says (document 01, 'The lists of demand 3'), read off the list: terms, clearings, events, tests, and the year that has just these.
+use Prim.Native.Nat.{ℕ, _+_, _*_}
 use mathlib.Core.Bool.{Bool, true, cond}
 use mathlib.Core.List.{List, [], _∷_, _++_}
 use lib.Dec.{eqb, ltb}
 use lib.ListN.{length}
 use Rattle.ids.specs.Ids.{tabulate}
 use Rattle.year.specs.declared.Registration.{Registration}
+use Rattle.year.specs.declared.Clearings.{Clearings}
 use Rattle.year.specs.declared.Event.{Event}
 use Rattle.year.specs.declared.Test.{Test}
 use Rattle.year.specs.declared.Terms.{Terms}
@@ -14,8 +15,9 @@ use Rattle.year.specs.Year.{noRegistration, noTest, noAmounts, testPlace}
 use Rattle.owed.specs.Facts.{Facts, registrations, lses, places, factsOf}
 use Rattle.heads.specs.declared.OpeningHead.{OpeningHead}
 use Rattle.heads.specs.declared.CloseHead.{CloseHead}
+use Rattle.heads.specs.declared.ClearingHead.{ClearingHead}
 use Rattle.heads.specs.declared.Head.{Head}
-use Rattle.heads.specs.Record.{Record, forOpening, forRegistration, forLse, forEvent, forTest, forClose}
+use Rattle.heads.specs.Record.{Record, forOpening, forRegistration, forLse, forEvent, forTest, forClose, forClearing}
 use Rattle.recorded.specs.After.{registrationOf, eventOf, testOf}
 
 -- what f takes out of each element, in order
@@ -28,6 +30,11 @@ unfoldable pub lastOr : {A : Type 0} → A → List A → A
 lastOr d [] = d
 lastOr d (x ∷ xs) = lastOr x xs
 
+-- what f says of each element, summed
+unfoldable pub sumOver : {A : Type 0} → (A → ℕ) → List A → ℕ
+sumOver f [] = 0
+sumOver f (x ∷ xs) = f x + sumOver f xs
+
 -- x alone if b, else nothing
 abbrev pub alone : {A : Type 0} → Bool → A → List A
 alone b x = cond b (x ∷ []) []
@@ -35,7 +42,11 @@ alone b x = cond b (x ∷ []) []
 abbrev none : {A : Type 0} → Head → List A
 none h = []
 
--- of one record: an opening, the registration of id i, LSE j's obligation, an event, the test at a place, a close
+-- what clearings come to: how many, the sum of price × kW, and of kW
+unfoldable pub summed : List ClearingHead → Clearings
+summed cs = record { count = length cs; value = sumOver (λ c. c .price * c .kw) cs; kw = sumOver (λ c. c .kw) cs }
+
+-- of one record: an opening, the registration of id i, LSE j's obligation, a clearing of registration i, an event, the test at a place, a close
 abbrev pub opening : Record → List OpeningHead
 opening r = forOpening (λ o. o ∷ []) none (r .head)
 
@@ -44,6 +55,9 @@ registrationFor i r = forRegistration (λ q. alone (eqb (q .id) i) (registration
 
 abbrev pub obligationFor : ℕ → Record → List ℕ
 obligationFor j r = forLse (λ q. alone (eqb (q .id) j) (q .obligation)) none (r .head)
+
+abbrev pub clearingFor : ℕ → Record → List ClearingHead
+clearingFor i r = forClearing (λ c. alone (eqb (c .registration) i) c) none (r .head)
 
 abbrev pub event : Record → List Event
 event r = forEvent (λ e. eventOf e (r .listing) ∷ []) none (r .head)
@@ -71,6 +85,10 @@ module _ (rs : List Record) where
         obligations = tabulate lses (λ j. lastOr 0 (gather (obligationFor j) rs));
       }
 
+  -- by registration
+  unfoldable pub clearingsIn : List Clearings
+  clearingsIn = tabulate registrations (λ i. summed (gather (clearingFor i) rs))
+
   -- in order of acceptance
   unfoldable pub eventsIn : List Event
   eventsIn = gather event rs
@@ -87,6 +105,7 @@ module _ (rs : List Record) where
         started = ltb 0 (length (gather begins rs));
         closed = length (gather close rs);
         terms = termsIn;
+        clearings = clearingsIn;
         events = eventsIn;
         held = length eventsIn;
         tests = testsIn;

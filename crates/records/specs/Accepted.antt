@@ -122,6 +122,11 @@ pub record Test (vs : List ℕ) : Type 0 where
 pub record Close (vs : List ℕ) : Type 0 where
   pub month : (1 ≤ at vs 1) × (at vs 1 ≤ 15)
 
+pub record Clearing (vs : List ℕ) : Type 0 where
+  pub registration : at vs 1 < 64
+  pub price : at vs 2 ≤ 100000
+  pub kw : (1 ≤ at vs 3) × (at vs 3 ≤ 100000)
+
 module _ (bytes : List ℕ) (a : Accepted bytes) where
   -- the kind and the counts, as the numbers say them
   abbrev vs : List ℕ
@@ -188,3 +193,8 @@ module _ (bytes : List ℕ) (a : Accepted bytes) where
 
   pub close : kindOf bytes ≡ 6 → Close (row vs)
   close e = record { month = head-as 6 1 e (omega arith) }
+
+  pub clearing : kindOf bytes ≡ 7 → Clearing (row vs)
+  clearing e =
+      let h : (j : ℕ) → j < 4 → ((getD (head 7) j noRule) .low ≤ at (row vs) j) × (at (row vs) j ≤ (getD (head 7) j noRule) .high) = λ j l. head-as 7 j e l in
+      record { registration = omega (arith, h 1 (omega arith) .1); price = h 2 (omega arith) .1; kw = h 3 (omega arith) }

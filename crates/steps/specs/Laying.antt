@@ -17,12 +17,12 @@ use Rattle.year.specs.declared.Listing.{Listing}
 use Rattle.year.specs.declared.Event.{Event}
 use Rattle.year.specs.declared.Amounts.{Amounts}
 use Rattle.year.specs.declared.Year.{Year}
-use Rattle.year.specs.Year.{pastTest}
-use Rattle.year.specs.Steps.{withOpening, withRegistration, withLse, withEvent, withTest, withClose}
+use Rattle.year.specs.Year.{clearingsOf, pastTest}
+use Rattle.year.specs.Steps.{withOpening, withRegistration, withLse, clearedBy, withClearing, withEvent, withTest, withClose}
 use Rattle.year.specs.Sound.{SoundTest, SoundAmounts, Sound}
 use Rattle.cells.specs.Rows.{Laid, laid-on, Same, same-on, same-in, same-before, same-behind, rows-laid, cells-laid, numbers-kept, numbers-anew}
-use Rattle.cells.specs.Layout.{flag, registrationAt, listingAt, eventAt, cellRegistrations, cellObligations, cellTerms, cellEvents, cellTests, cellBilled, yearIn, Held}
-use Rattle.cells.specs.Regions.{registration-view, listing-view, event-view, registrations-kept, obligations-kept, terms-kept, events-kept, places-kept, tests-kept, billed-kept}
+use Rattle.cells.specs.Layout.{flag, registrationAt, listingAt, eventAt, cellRegistrations, cellObligations, cellTerms, cellEvents, cellTests, cellBilled, cellClearings, yearIn, Held}
+use Rattle.cells.specs.Regions.{registration-view, clearings-view, listing-view, event-view, registrations-kept, obligations-kept, terms-kept, events-kept, places-kept, tests-kept, billed-kept, clearings-kept}
 use Rattle.steps.specs.Tests.{testOf, untaken-free, unmarked, tests-unmarked, Tested, tests-laid}
 
 -- a known registration is the one that its row has
@@ -51,6 +51,7 @@ module _ {c d : List ℕ} where
         h .inside 3 (lit< tt),
         registrations,
         obligations-kept (same-behind h 455 16 (lit≤ tt)),
+        clearings-kept (same-behind h 3447 192 (lit≤ tt)),
         events-kept (same-behind h 471 2352 (lit≤ tt)),
         tests-kept registrations (same-behind h 2823 560 (lit≤ tt)),
         billed-kept (same-behind h 3383 64 (lit≤ tt)),
@@ -73,6 +74,7 @@ module _ {c d : List ℕ} where
         rows-laid registration-view 64 7 id l refl h,
         registration-row r k,
         obligations-kept (same-behind h 455 16 (omega arith)),
+        clearings-kept (same-behind h 3447 192 (omega arith)),
         events-kept (same-behind h 471 2352 (omega arith)),
         tests-unmarked (unmarked c s (s .fresh e .2)) (same-behind h 2823 560 (omega arith)),
         billed-kept (same-behind h 3383 64 (omega arith)),
@@ -93,9 +95,28 @@ module _ {c d : List ℕ} where
         marks .cell 6 (lit< tt),
         registrations,
         cells-laid (λ x. x) 16 455 id l h,
+        clearings-kept (same-behind h 3447 192 (omega arith)),
         events-kept (same-behind h 471 2352 (omega arith)),
         tests-kept registrations (same-behind h 2823 560 (omega arith)),
         billed-kept (same-behind h 3383 64 (omega arith)),
+      )
+
+  pub clearing-laid : (id price kw : ℕ) → id < 64 → let old = clearingsOf (yearIn c) id in
+      Laid (3447 + 3 * id) ((old .count + 1) ∷ (old .value + price * kw) ∷ (old .kw + kw) ∷ []) c d → yearIn d ≡ withClearing (yearIn c) id price kw
+  unfolding cellClearings
+  clearing-laid id price kw l h =
+      let marks = same-before h 0 7 (omega arith) in
+      let registrations = registrations-kept (same-before h 7 448 (omega arith)) in
+      cc (
+        marks .cell 0 (lit< tt),
+        marks .cell 1 (lit< tt),
+        marks .cell 2 (lit< tt),
+        marks .cell 3 (lit< tt),
+        terms-kept (same-before h 4 467 (omega arith)),
+        rows-laid clearings-view 64 3447 id l refl h,
+        events-kept (same-before h 471 2352 (omega arith)),
+        tests-kept registrations (same-before h 2823 560 (omega arith)),
+        billed-kept (same-before h 3383 64 (omega arith)),
       )
 
 -- an event is laid by three rows: its head, its listing, and the marks
@@ -108,7 +129,7 @@ call-laid {a} {b} {c} {d} {l} n {area} {month} {period} q m e g h i =
     let long : length ((area ∷ month ∷ period ∷ []) ++ l) ≡ 147 = omega (arith, length-append (area ∷ month ∷ period ∷ []) l) in
     let marks = same-before row 0 7 (omega arith) in
     let terms = same-on (same-before row 3 468 (omega arith)) (same-behind i 3 468 (lit≤ tt)) in
-    let behind = same-on (same-behind row 2823 624 (omega arith)) (same-behind i 2823 624 (lit≤ tt)) in
+    let behind = same-on (same-behind row 2823 816 (omega arith)) (same-behind i 2823 816 (lit≤ tt)) in
     let kept = terms-kept (same-in 4 467 (lit≤ tt) (lit≤ tt) terms) in
     cc (
       q,
@@ -118,6 +139,7 @@ call-laid {a} {b} {c} {d} {l} n {area} {month} {period} q m e g h i =
       i .inside 1 (lit< tt),
       terms .cell 0 (lit< tt),
       kept,
+      clearings-kept (same-in 3447 192 (lit≤ tt) (lit≤ tt) behind),
       events-kept (same-behind i 471 2352 (lit≤ tt)),
       rows-laid event-view 16 471 n m long row,
       event-row area month period l,
@@ -180,7 +202,7 @@ module _ {a b c d e f : List ℕ} (l : List ℕ) (place : ℕ) {month : ℕ} (p 
   test-laid k x s =
       let kept = between 2 2821 (lit≤ tt) (lit≤ tt) in
       let registrations = registrations-kept (same-in 7 448 (lit≤ tt) (lit≤ tt) kept) in
-      let behind = same-on (same-on (same-behind start 3383 64 (lit≤ tt)) (same-behind row 3383 64 (omega (arith, eighteen)))) (same-on (same-behind marks 3383 64 (omega (arith, sixty-four a 3255 0))) (same-behind reductions 3383 64 (omega (arith, sixty-four a 3319 64)))) in
+      let behind = same-on (same-on (same-behind start 3383 256 (lit≤ tt)) (same-behind row 3383 256 (omega (arith, eighteen)))) (same-on (same-behind marks 3383 256 (omega (arith, sixty-four a 3255 0))) (same-behind reductions 3383 256 (omega (arith, sixty-four a 3319 64)))) in
       cc (
         same-on (same-on (same-before start 0 1 (lit≤ tt)) (same-before row 0 1 (omega arith))) (early 0 1 (lit≤ tt)) .cell 0 (lit< tt),
         same-on (same-before row 1 1 (omega arith)) (early 1 1 (lit≤ tt)) .cell 0 (lit< tt),
@@ -188,9 +210,10 @@ module _ {a b c d e f : List ℕ} (l : List ℕ) (place : ℕ) {month : ℕ} (p 
         kept .cell 0 (lit< tt),
         kept .cell 1 (lit< tt),
         terms-kept (same-in 4 467 (lit≤ tt) (lit≤ tt) kept),
+        clearings-kept (same-in 3447 192 (lit≤ tt) (lit≤ tt) behind),
         events-kept (same-in 471 2352 (lit≤ tt) (lit≤ tt) kept),
         tests-laid laid p (places-kept a f registrations) s (untaken-free a (k .sound) p x),
-        billed-kept behind,
+        billed-kept (same-in 3383 64 (lit≤ tt) (lit≤ tt) behind),
       )
 
 -- four rows of amounts
@@ -211,10 +234,11 @@ billed-laid {f = f} x s h i j k =
 -- a close is laid by five rows: the marks, and the amounts
 pub close-laid : {a b c d e f : List ℕ} {z : ℕ} (x : Amounts) → SoundAmounts x → z ≡ at a 0 → Laid 0 ((z + 1) ∷ 1 ∷ []) a b
     → Laid 3383 (x .compliance) b c → Laid 3399 (x .test) c d → Laid 3415 (x .credit) d e → Laid 3431 (x .lse) e f → yearIn f ≡ withClose (yearIn a) x
-close-laid {b = b} {f = f} x s q g h i j k =
+close-laid {a = a} {b = b} {f = f} x s q g h i j k =
     let before : (q w : ℕ) → q + w ≤ 3383 → Same q w b f = λ q w m. same-on (same-on (same-before h q w m) (same-before i q w (omega arith))) (same-on (same-before j q w (omega arith)) (same-before k q w (omega arith))) in
     let marks = before 0 2 (lit≤ tt) in
     let kept = same-on (same-behind g 2 3381 (lit≤ tt)) (before 2 3381 (lit≤ tt)) in
+    let behind : Same 3447 192 a f = same-on (same-behind g 3447 192 (lit≤ tt)) (same-on (same-on (same-behind h 3447 192 (omega (arith, s .compliance .long))) (same-behind i 3447 192 (omega (arith, s .test .long)))) (same-on (same-behind j 3447 192 (omega (arith, s .credit .long))) (same-behind k 3447 192 (omega (arith, s .lse .long))))) in
     cc (
       q,
       marks .cell 0 (lit< tt),
@@ -224,6 +248,7 @@ close-laid {b = b} {f = f} x s q g h i j k =
       kept .cell 0 (lit< tt),
       kept .cell 1 (lit< tt),
       terms-kept (same-in 4 467 (lit≤ tt) (lit≤ tt) kept),
+      clearings-kept behind,
       events-kept (same-in 471 2352 (lit≤ tt) (lit≤ tt) kept),
       tests-kept (registrations-kept (same-in 7 448 (lit≤ tt) (lit≤ tt) kept)) (same-in 2823 560 (lit≤ tt) (lit≤ tt) kept),
       billed-laid x s h i j k,

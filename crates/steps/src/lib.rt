@@ -4,13 +4,15 @@ ghost use mathlib.Core.Bool.{true, false};
 ghost use Prim.Native.Nat.{_+_, _*_, _≤_, _<_};
 ghost use lib.ListN.{length, getD};
 ghost use Rattle.ids.specs.Ids.{at};
-ghost use Rattle.year.specs.Year.{pastTest};
-ghost use Rattle.year.specs.Steps.{withOpening, withRegistration, withLse, withEvent, withTest, withClose};
+ghost use Rattle.year.specs.Year.{clearingsOf, pastTest};
+ghost use Rattle.year.specs.Steps.{withOpening, withRegistration, withLse, withClearing, withEvent, withTest, withClose};
 ghost use Rattle.year.specs.Sound.{SoundRegistration, SoundListing, SoundTest, SoundAmounts, Factors};
 ghost use Rattle.cells.specs.Layout.{listingAt, yearIn, Held};
 ghost use Rattle.steps.specs.Tests.{testOf};
 ghost use Rattle.steps.specs.Laying.{eventOf, mergedAt, merged};
 use cells::BILLED;
+use cells::CLEARING;
+use cells::CLEARINGS;
 use cells::CLOSED;
 use cells::Cells;
 use cells::EVENT;
@@ -65,6 +67,25 @@ pub fn oblige(year: &mut Cells, id: usize, kw: u64)
     lay(year, OBLIGATIONS + id, &[kw]);
 }
 
+// One more clearing of a registration that has fewer than four.
+pub fn clear(year: &mut Cells, id: usize, price: u64, kw: u64)
+    requires { ⌜ Held (now year) ⌝ }
+    requires { ⌜ id < 64 ⌝ }
+    requires { ⌜ clearingsOf (yearIn (now year)) id .count < 4 ⌝ }
+    requires { ⌜ price ≤ 100000 ⌝ }
+    requires { ⌜ 1 ≤ kw ⌝ }
+    requires { ⌜ kw ≤ 100000 ⌝ }
+    ensures equals { λ r. ⌜ yearIn (now (year .exit)) ≡ withClearing (yearIn (now (year .entry))) id price kw ⌝ }
+    ensures held { λ r. ⌜ Held (now (year .exit)) ⌝ }
+{
+    let old = cells::clearings_at(year, id);
+    let count = old.count;
+    let value = old.value;
+    let cleared = old.kw;
+    let row = [count + 1, value + price * kw, cleared + kw];
+    lay(year, CLEARINGS + CLEARING * id, &row);
+}
+
 // One more event; its listing is a row by id: 64 marks, 64 reductions, 16 deficits.
 pub fn call(year: &mut Cells, area: u64, month: u64, period: u64, listing: &[u64])
     requires { ⌜ Held (now year) ⌝ }
@@ -83,7 +104,7 @@ pub fn call(year: &mut Cells, area: u64, month: u64, period: u64, listing: &[u64
 
 // One of the entries of all tests, with a listing's: where it lists, its own.
 fn merged_at(year: &Cells, place: usize, listing: &[u64], part: usize, i: usize) -> u64
-    requires { ⌜ place + i < 3447 ⌝ }
+    requires { ⌜ place + i < 3639 ⌝ }
     requires { ⌜ i < length (now listing) ⌝ }
     requires { ⌜ part + i < length (now listing) ⌝ }
     ensures { λ r. ⌜ r ≡ mergedAt (now (year .entry)) place (now (listing .entry)) part i ⌝ }
@@ -96,7 +117,7 @@ fn merged_at(year: &Cells, place: usize, listing: &[u64], part: usize, i: usize)
 
 // All of them.
 fn merge(year: &Cells, place: usize, listing: &[u64], part: usize) -> [u64; 64]
-    requires { ⌜ place + 64 ≤ 3447 ⌝ }
+    requires { ⌜ place + 64 ≤ 3639 ⌝ }
     requires { ⌜ part + 64 ≤ length (now listing) ⌝ }
     ensures { λ r. ⌜ r ≡ merged (now (year .entry)) place (now (listing .entry)) part ⌝ }
 {

@@ -15,7 +15,7 @@ pub record Columns (F : Facts) (n : ℕ) (w : List ℕ) : Type 0 where
   pub seller : Row w sellerRow n (F .seller)
   pub product : Row w productRow n (F .product)
   pub committed : Row w committedRow n (F .committed)
-  pub rate : Row w rateRow n (F .rate)
+  pub rate : Row w rateRow n (owed.rate F)
   pub cap : Row w capRow n (owed.cap F)
 
 -- what is stored behind them leaves them as they are

@@ -44,11 +44,11 @@ module _ (c : List ℕ) where
   reductionAt = only (stands c) (λ i. lookAt c i .reduction .0)
 
   abbrev pub worthAt : ℕ → ℕ
-  worthAt = only (stands c) (λ i. facts c .committed i * facts c .rate i)
+  worthAt = only (stands c) (λ i. facts c .committed i * owed.rate (facts c) i)
 
   abbrev pub addendAt : ℕ → Addend
   addendAt i =
-      record { key = keyAt i; committed = record { 0 = facts c .committed i }; reduction = lookAt c i .reduction; worth = facts c .committed i * facts c .rate i }
+      record { key = keyAt i; committed = record { 0 = facts c .committed i }; reduction = lookAt c i .reduction; worth = facts c .committed i * owed.rate (facts c) i }
 
   -- the sums of the first i entries, and of all
   pub record Summing (i : ℕ) (w : List ℕ) : Type 0 where
@@ -142,10 +142,10 @@ module _ {c : List ℕ} (H : Held c) {p s : ℕ} (l : p < 24) (m : s < 16) where
     pub reduction-is : at w (384 + k) ≡ ofSeller F s (only (owed.stands F p) (F .testReduction p))
     reduction-is = S .reduction .row .is k (omega arith) ∙ zero-add _ ∙ sums-same (F .testReduction p) (λ i. lookAt c i .reduction .0) (λ i b e. cond-true 0 (sym (tested-in c l b) ∙ e) refl ∙ sym (reduction-in c l b))
 
-    pub worth-is : at w (768 + k) ≡ ofSeller F s (only (owed.stands F p) (λ i. F .committed i * F .rate i))
+    pub worth-is : at w (768 + k) ≡ ofSeller F s (only (owed.stands F p) (λ i. F .committed i * owed.rate F i))
     worth-is =
         S .worth .row .is k (omega arith) ∙ zero-add _
-        ∙ sums-same (λ i. F .committed i * F .rate i) (λ i. F .committed i * F .rate i) (λ i b e. refl)
+        ∙ sums-same (λ i. F .committed i * owed.rate F i) (λ i. F .committed i * owed.rate F i) (λ i b e. refl)
 
     -- within limits
     pub committed-most : at w (0 + k) ≤ 6400000

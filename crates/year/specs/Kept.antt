@@ -3,19 +3,21 @@ use Prim.Native.Nat.{ℕ, _<_, _≤_}
 use mathlib.Core.Path.{_≡_, refl, _∙_}
 use mathlib.Core.Bool.{Bool, true, false}
 use mathlib.Core.List.{List}
+use native.Mathlib.Nat.{le-refl, mul-le-mul}
 use native.Mathlib.Omega.{arith}
 use lib.Dec.{lit≤, lit<}
 use lib.ListN.{getD, replicate, length-replicate, getD-replicate, length-set}
-use Rattle.ids.specs.Each.{each-set, each-replicate}
+use Rattle.ids.specs.Each.{Each, each-set, each-replicate}
 use Rattle.year.specs.declared.Registration.{Registration}
+use Rattle.year.specs.declared.Clearings.{Clearings}
 use Rattle.year.specs.declared.Event.{Event}
 use Rattle.year.specs.declared.Test.{Test}
 use Rattle.year.specs.declared.Terms.{Terms}
 use Rattle.year.specs.declared.Amounts.{Amounts}
 use Rattle.year.specs.declared.Year.{Year}
-use Rattle.year.specs.Year.{noRegistration, noListing, noEvent, noTest, noTerms, noAmounts, newYear, pastEvent, pastTest, listed, zone, product}
-use Rattle.year.specs.Steps.{withTerms, withOpening, withRegistration, withLse, withEvent, withTest, withClose}
-use Rattle.year.specs.Sound.{SoundRegistration, AtMost, SoundListing, SoundEvent, SoundTest, Factors, SoundTerms, Fits42, SoundAmounts, Sound}
+use Rattle.year.specs.Year.{noRegistration, noClearings, noListing, noEvent, noTest, noTerms, noAmounts, newYear, clearingsOf, pastEvent, pastTest, listed, zone, product}
+use Rattle.year.specs.Steps.{withTerms, withOpening, withRegistration, withLse, clearedBy, withClearing, withEvent, withTest, withClose}
+use Rattle.year.specs.Sound.{SoundRegistration, SoundClearings, AtMost, SoundListing, SoundEvent, SoundTest, Factors, SoundTerms, Fits42, SoundAmounts, Sound}
 use Rattle.ids.specs.Sets.{kept-set}
 
 pub sound-no-listing : SoundListing noListing
@@ -28,6 +30,9 @@ sound-no-event = record { month = lit≤ tt; listing = sound-no-listing }
 pub sound-no-registration : SoundRegistration noRegistration
 sound-no-registration =
     record { seller = lit< tt; area = lit< tt; zone = lit< tt; product = lit< tt; committed = lit≤ tt; rate = lit≤ tt; blank = λ e. refl }
+
+pub sound-no-clearings : SoundClearings noClearings
+sound-no-clearings = record { few = lit≤ tt; some = lit≤ tt; kw = lit≤ tt; value = lit≤ tt }
 
 sound-no-terms : SoundTerms noTerms
 sound-no-terms =
@@ -54,18 +59,18 @@ sound-no-tests T e k l =
 
 pub sound-new : Sound newYear
 sound-new =
-    record { closed = lit≤ tt; held = lit≤ tt; terms = sound-no-terms; events = each-replicate SoundEvent pastEvent 16 sound-no-event; places = length-replicate 24 noTest; tests = sound-no-tests noTerms refl; billed = sound-no-amounts; fresh = λ e. (refl, refl, refl) }
+    record { closed = lit≤ tt; held = lit≤ tt; terms = sound-no-terms; clearings = each-replicate SoundClearings noClearings 64 sound-no-clearings; events = each-replicate SoundEvent pastEvent 16 sound-no-event; places = length-replicate 24 noTest; tests = sound-no-tests noTerms refl; billed = sound-no-amounts; fresh = λ e. (refl, refl, refl) }
 
 module _ {y : Year} (s : Sound y) where
-  sound-terms : {opened : Bool} {T : Terms} → SoundTerms T → SoundTests T (y .tests) → Sound (withTerms y opened T)
-  sound-terms t h =
-      record { closed = s .closed; held = s .held; terms = t; events = s .events; places = s .places; tests = h; billed = s .billed; fresh = s .fresh }
+  sound-terms : {opened : Bool} {T : Terms} {cs : List Clearings} → SoundTerms T → Each SoundClearings noClearings 64 cs → SoundTests T (y .tests) → Sound (withTerms y opened T cs)
+  sound-terms t c h =
+      record { closed = s .closed; held = s .held; terms = t; clearings = c; events = s .events; places = s .places; tests = h; billed = s .billed; fresh = s .fresh }
 
   -- other terms with the same registrations
-  sound-others : {opened : Bool} {T : Terms} → T .registrations ≡ y .terms .registrations → SoundTerms T → Sound (withTerms y opened T)
+  sound-others : {opened : Bool} {T : Terms} → T .registrations ≡ y .terms .registrations → SoundTerms T → Sound (withTerms y opened T (y .clearings))
   unfolding zone product
   sound-others e t =
-      sound-terms t (λ k l. record { listing = s .tests k l .listing; own = λ i m h. rw e (s .tests k l .own i m h); untaken = s .tests k l .untaken })
+      sound-terms t (s .clearings) (λ k l. record { listing = s .tests k l .listing; own = λ i m h. rw e (s .tests k l .own i m h); untaken = s .tests k l .untaken })
 
   pub sound-opening : {leap factor requirement : ℕ} → Factors leap factor requirement → Sound (withOpening y leap factor requirement)
   sound-opening f =
@@ -75,6 +80,7 @@ module _ {y : Year} (s : Sound y) where
   sound-registration e id h =
       sound-terms
       (record { factors = s .terms .factors; registrations = each-set SoundRegistration noRegistration (s .terms .registrations) id h; obligations = s .terms .obligations })
+      (s .clearings)
       (sound-no-tests _ (s .fresh e .2))
 
   pub sound-lse : (id : ℕ) {kw : ℕ} → kw ≤ 1000000 → Sound (withLse y id kw)
@@ -82,14 +88,19 @@ module _ {y : Year} (s : Sound y) where
       sound-others refl
       (record { factors = s .terms .factors; registrations = s .terms .registrations; obligations = each-set (AtMost 1000000) 0 (s .terms .obligations) id l })
 
+  pub sound-clearing : (id : ℕ) {price kw : ℕ} → clearingsOf y id .count < 4 → SoundClearings (clearingsOf y id) → price ≤ 100000 → 1 ≤ kw → kw ≤ 100000 → Sound (withClearing y id price kw)
+  sound-clearing id {price} {kw} l c p m k =
+      let more : SoundClearings (clearedBy (clearingsOf y id) price kw) = record { few = omega arith; some = omega (arith, c .some); kw = omega (arith, c .kw); value = omega (arith, c .value, mul-le-mul p (le-refl kw)) } in
+      sound-terms (s .terms) (each-set SoundClearings noClearings (s .clearings) id more) (s .tests)
+
   pub sound-event : y .held < 16 → {e : Event} → SoundEvent e → Sound (withEvent y e)
   sound-event l h =
-      record { closed = s .closed; held = omega arith; terms = s .terms; events = each-set SoundEvent pastEvent (s .events) (y .held) h; places = s .places; tests = s .tests; billed = s .billed; fresh = λ e. false-true e refl }
+      record { closed = s .closed; held = omega arith; terms = s .terms; clearings = s .clearings; events = each-set SoundEvent pastEvent (s .events) (y .held) h; places = s .places; tests = s .tests; billed = s .billed; fresh = λ e. false-true e refl }
 
   pub sound-test : (place : ℕ) {t : Test} → SoundTest (y .terms) place t → Sound (withTest y place t)
   sound-test place {t} h =
-      record { closed = s .closed; held = s .held; terms = s .terms; events = s .events; places = length-set (y .tests) place t ∙ s .places; tests = kept-set (λ k u. k < 24 → SoundTest (y .terms) k u) pastTest (y .tests) place (λ l. h) (s .tests); billed = s .billed; fresh = λ e. false-true e refl }
+      record { closed = s .closed; held = s .held; terms = s .terms; clearings = s .clearings; events = s .events; places = length-set (y .tests) place t ∙ s .places; tests = kept-set (λ k u. k < 24 → SoundTest (y .terms) k u) pastTest (y .tests) place (λ l. h) (s .tests); billed = s .billed; fresh = λ e. false-true e refl }
 
   pub sound-close : y .closed < 15 → {billed : Amounts} → SoundAmounts billed → Sound (withClose y billed)
   sound-close l h =
-      record { closed = omega arith; held = s .held; terms = s .terms; events = s .events; places = s .places; tests = s .tests; billed = h; fresh = λ e. false-true e refl }
+      record { closed = omega arith; held = s .held; terms = s .terms; clearings = s .clearings; events = s .events; places = s .places; tests = s .tests; billed = h; fresh = λ e. false-true e refl }

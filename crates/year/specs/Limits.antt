@@ -9,9 +9,10 @@ use lib.ListN.{length, getD}
 use Rattle.ids.specs.Each.{Each}
 use Rattle.year.specs.declared.Listing.{Listing}
 use Rattle.year.specs.declared.Terms.{Terms}
-use Rattle.year.specs.Year.{registration, known, seller, zone, product, committed, rate, size, lses, reduction}
-use Rattle.year.specs.Sound.{SoundRegistration, AtMost, SoundListing, SoundTerms}
-use Rattle.year.specs.Kept.{sound-no-registration}
+use Rattle.year.specs.declared.Year.{Year}
+use Rattle.year.specs.Year.{registration, clearingsOf, known, seller, zone, product, committed, rate, size, lses, reduction}
+use Rattle.year.specs.Sound.{SoundRegistration, SoundClearings, AtMost, SoundListing, SoundTerms, Sound}
+use Rattle.year.specs.Kept.{sound-no-registration, sound-no-clearings}
 
 -- what holds of the default and of each element holds of what is read anywhere
 module _ {A : Type 0} (P : A → Type 0) {d : A} (h : P d) where
@@ -56,6 +57,9 @@ module _ {T : Terms} (s : SoundTerms T) where
 
   pub lses-is : lses T ≡ 16
   lses-is = s .obligations .long
+
+pub clearings-sound : {y : Year} → Sound y → (i : ℕ) → SoundClearings (clearingsOf y i)
+clearings-sound s = each-anywhere SoundClearings sound-no-clearings (s .clearings)
 
 module _ {l : Listing} (s : SoundListing l) where
   pub reduction-most : (i : ℕ) → reduction l i ≤ 100000

@@ -6,13 +6,14 @@ use lib.ListN.{length, getD, replicate}
 use Rattle.ids.specs.Ids.{at, holds}
 use Rattle.ids.specs.Each.{Each}
 use Rattle.year.specs.declared.Registration.{Registration}
+use Rattle.year.specs.declared.Clearings.{Clearings}
 use Rattle.year.specs.declared.Listing.{Listing}
 use Rattle.year.specs.declared.Event.{Event}
 use Rattle.year.specs.declared.Test.{Test}
 use Rattle.year.specs.declared.Terms.{Terms}
 use Rattle.year.specs.declared.Amounts.{Amounts}
 use Rattle.year.specs.declared.Year.{Year}
-use Rattle.year.specs.Year.{noRegistration, noTest, pastEvent, pastTest, listed, zone, product}
+use Rattle.year.specs.Year.{noRegistration, noClearings, noTest, pastEvent, pastTest, listed, zone, product}
 
 pub record SoundRegistration (r : Registration) : Type 0 where
   pub seller : r .seller < 16
@@ -22,6 +23,13 @@ pub record SoundRegistration (r : Registration) : Type 0 where
   pub committed : r .committed .0 ≤ 100000
   pub rate : r .rate ≤ 100000
   pub blank : r .known ≡ false → r .committed .0 ≡ 0
+
+-- at most four clearings, each of 1 to 100,000 kW and at a price of at most 100,000
+pub record SoundClearings (c : Clearings) : Type 0 where
+  pub few : c .count ≤ 4
+  pub some : c .count ≤ c .kw
+  pub kw : c .kw ≤ 100000 * c .count
+  pub value : c .value ≤ 100000 * c .kw
 
 abbrev pub AtMost : ℕ → ℕ → Type 0
 AtMost most x = x ≤ most
@@ -67,6 +75,7 @@ pub record Sound (y : Year) : Type 0 where
   pub closed : y .closed ≤ 15
   pub held : y .held ≤ 16
   pub terms : SoundTerms (y .terms)
+  pub clearings : Each SoundClearings noClearings 64 (y .clearings)
   pub events : Each SoundEvent pastEvent 16 (y .events)
   pub places : length (y .tests) ≡ 24
   pub tests : (k : ℕ) → k < 24 → SoundTest (y .terms) k (getD (y .tests) k pastTest)

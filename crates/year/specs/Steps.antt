@@ -1,31 +1,35 @@
 -- The year after an accepted record of each kind.
-use Prim.Native.Nat.{ℕ, _+_}
+use Prim.Native.Nat.{ℕ, _+_, _*_}
 use mathlib.Core.Bool.{Bool, true}
 use mathlib.Core.List.{List}
 use lib.ListN.{set}
 use Rattle.year.specs.declared.Registration.{Registration}
+use Rattle.year.specs.declared.Clearings.{Clearings}
 use Rattle.year.specs.declared.Event.{Event}
 use Rattle.year.specs.declared.Test.{Test}
 use Rattle.year.specs.declared.Terms.{Terms}
 use Rattle.year.specs.declared.Amounts.{Amounts}
 use Rattle.year.specs.declared.Year.{Year}
+use Rattle.year.specs.Year.{clearingsOf}
 
 -- antt has no record update: a setter for each part that changes
-abbrev pub withTerms : Year → Bool → Terms → Year
-withTerms y opened T =
-    record { opened = opened; started = y .started; closed = y .closed; terms = T; events = y .events; held = y .held; tests = y .tests; billed = y .billed }
+abbrev pub withTerms : Year → Bool → Terms → List Clearings → Year
+withTerms y opened T cs =
+    record { opened = opened; started = y .started; closed = y .closed; terms = T; clearings = cs; events = y .events; held = y .held; tests = y .tests; billed = y .billed }
 
 -- an opening
 abbrev pub withOpening : Year → ℕ → ℕ → ℕ → Year
 withOpening y leap factor requirement =
     withTerms y true
     (record { leap = leap; factor = factor; requirement = requirement; registrations = y .terms .registrations; obligations = y .terms .obligations })
+    (y .clearings)
 
 -- other registrations
 abbrev pub withRegistrations : Year → List Registration → Year
 withRegistrations y rs =
     withTerms y (y .opened)
     (record { leap = y .terms .leap; factor = y .terms .factor; requirement = y .terms .requirement; registrations = rs; obligations = y .terms .obligations })
+    (y .clearings)
 
 -- a registration
 abbrev pub withRegistration : Year → ℕ → Registration → Year
@@ -36,18 +40,26 @@ abbrev pub withLse : Year → ℕ → ℕ → Year
 withLse y id kw =
     withTerms y (y .opened)
     (record { leap = y .terms .leap; factor = y .terms .factor; requirement = y .terms .requirement; registrations = y .terms .registrations; obligations = set (y .terms .obligations) id kw })
+    (y .clearings)
+
+-- a clearing, on top of the registration's others
+abbrev pub clearedBy : Clearings → ℕ → ℕ → Clearings
+clearedBy c price kw = record { count = c .count + 1; value = c .value + price * kw; kw = c .kw + kw }
+
+abbrev pub withClearing : Year → ℕ → ℕ → ℕ → Year
+withClearing y id price kw = withTerms y (y .opened) (y .terms) (set (y .clearings) id (clearedBy (clearingsOf y id) price kw))
 
 -- an event
 abbrev pub withEvent : Year → Event → Year
 withEvent y e =
-    record { opened = y .opened; started = true; closed = y .closed; terms = y .terms; events = set (y .events) (y .held) e; held = y .held + 1; tests = y .tests; billed = y .billed }
+    record { opened = y .opened; started = true; closed = y .closed; terms = y .terms; clearings = y .clearings; events = set (y .events) (y .held) e; held = y .held + 1; tests = y .tests; billed = y .billed }
 
 -- a test, at its place
 abbrev pub withTest : Year → ℕ → Test → Year
 withTest y place t =
-    record { opened = y .opened; started = true; closed = y .closed; terms = y .terms; events = y .events; held = y .held; tests = set (y .tests) place t; billed = y .billed }
+    record { opened = y .opened; started = true; closed = y .closed; terms = y .terms; clearings = y .clearings; events = y .events; held = y .held; tests = set (y .tests) place t; billed = y .billed }
 
 -- a close, with the amounts to date
 abbrev pub withClose : Year → Amounts → Year
 withClose y billed =
-    record { opened = y .opened; started = true; closed = y .closed + 1; terms = y .terms; events = y .events; held = y .held; tests = y .tests; billed = billed }
+    record { opened = y .opened; started = true; closed = y .closed + 1; terms = y .terms; clearings = y .clearings; events = y .events; held = y .held; tests = y .tests; billed = billed }

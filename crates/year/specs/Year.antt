@@ -5,6 +5,7 @@ use mathlib.Core.Bool.{Bool, false}
 use lib.ListN.{getD, length, take, replicate}
 use Rattle.ids.specs.Ids.{at, holds}
 use Rattle.year.specs.declared.Registration.{Registration}
+use Rattle.year.specs.declared.Clearings.{Clearings}
 use Rattle.year.specs.declared.Listing.{Listing}
 use Rattle.year.specs.declared.Event.{Event}
 use Rattle.year.specs.declared.Test.{Test}
@@ -15,6 +16,9 @@ use Rattle.year.specs.declared.Year.{Year}
 abbrev pub noRegistration : Registration
 noRegistration =
     record { known = false; seller = 0; area = 0; zone = 0; product = 0; committed = record { 0 = 0 }; rate = 0 }
+
+abbrev pub noClearings : Clearings
+noClearings = record { count = 0; value = 0; kw = 0 }
 
 abbrev pub noListing : Listing
 noListing = record { listed = replicate 64 false; reductions = replicate 64 0; deficits = replicate 16 0 }
@@ -35,7 +39,7 @@ noAmounts = record { compliance = replicate 16 0; test = replicate 16 0; credit 
 -- no year yet
 abbrev pub newYear : Year
 newYear =
-    record { opened = false; started = false; closed = 0; terms = noTerms; events = replicate 16 noEvent; held = 0; tests = replicate 24 noTest; billed = noAmounts }
+    record { opened = false; started = false; closed = 0; terms = noTerms; clearings = replicate 64 noClearings; events = replicate 16 noEvent; held = 0; tests = replicate 24 noTest; billed = noAmounts }
 
 -- what the code reads past an array's end: every number 0, every test false, every list empty
 abbrev pub pastListing : Listing
@@ -50,6 +54,10 @@ pastTest = record { taken = false; month = 0; listing = pastListing }
 -- the accepted events, in order of acceptance
 abbrev pub accepted : Year → List Event
 accepted y = take (y .held) (y .events)
+
+-- what registration i's clearings come to
+abbrev pub clearingsOf : Year → ℕ → Clearings
+clearingsOf y i = getD (y .clearings) i noClearings
 
 -- is registration i listed, and with which reduction; the deficit of seller s, 0 where it is absent
 unfoldable pub listed : Listing → ℕ → Bool

@@ -12,6 +12,13 @@ pub struct Registration {
     pub rate: u64,
 }
 
+// What a registration's clearings come to: how many, the sum of price × kW, and of kW.
+pub struct Clearings {
+    pub count: u64,
+    pub value: u64,
+    pub kw: u64,
+}
+
 // What an event or a test lists: entries by registration, deficits by seller (0: absent).
 pub struct Listing {
     pub listed: [bool; 64],
@@ -50,13 +57,15 @@ pub struct Amounts {
     pub lse: [u64; 16],
 }
 
-// `started`: an event, test or close is accepted. `closed` counts the closes. Events stand in order of acceptance,
-// and the test of zone z and product p at 3 z + p. `billed` holds the amounts to date at the last close.
+// `started`: an event, test or close is accepted. `closed` counts the closes. What clearings come to stands by
+// registration, events in order of acceptance, and the test of zone z and product p at 3 z + p. `billed` holds the
+// amounts to date at the last close.
 pub struct Year {
     pub opened: bool,
     pub started: bool,
     pub closed: u64,
     pub terms: Terms,
+    pub clearings: [Clearings; 64],
     pub events: [Event; 16],
     pub held: usize,
     pub tests: [Test; 24],

@@ -16,14 +16,14 @@ use Rattle.bits.specs.Pack.{bitsOf, spell, byteOf, bytesOf, pack, encode}
 use Rattle.layouts.specs.Layout.{itemsIn, rulesTo, rulesFor}
 use Rattle.layouts.specs.Questions.{recordQuestions, firstFailed, kindOf, headOf, rulesOf, numbersOf, isKind, isWhole, permits, permitted, isFilled, rises, idsRise, recordNumber, consumed}
 use Rattle.year.specs.Year.{newYear, listed, reduction, deficit, known, seller, area, zone, product, committed, rate, obligation}
-use Rattle.owed.specs.Owed.{beforeCap, raised, unforced, ofSeller, shareOf, called, calls, shortfallOver, u, cap, daily, spent, charge, excess, e, creditShare, creditLimit, creditOf, B, testOf, compliance, test, credit, charges, credits, lse, amounts}
+use Rattle.owed.specs.Owed.{beforeCap, raised, unforced, rate as rateInForce, ofSeller, shareOf, called, calls, shortfallOver, u, cap, daily, spent, charge, excess, e, creditShare, creditLimit, creditOf, B, testOf, compliance, test, credit, charges, credits, lse, amounts}
 use Rattle.statement.specs.Statement.{countTo, difference, hasRegistration, hasObligation, sellerColumns, lineFields, linesTo, statementFields, statementOf}
 use Rattle.statement.specs.Value42.{value42}
 use Rattle.heads.specs.Record.{headOf as namedHead, withItem, withItems, listingTo, listingIn}
-use Rattle.questions.specs.Questions.{inTime, q6, q7, q8, q9, q10, q11, q12, q13, q14, q15, q16, questions}
+use Rattle.questions.specs.Questions.{inTime, q6, q7, q8, q9, q10, q17, q11, q12, q13, q14, q15, q16, questions}
 use Rattle.entries.specs.Entries.{inArea, inGroup, everyListed, deficitsListed, listsExactly}
 use Rattle.recorded.specs.After.{yearBy}
-use Rattle.recorded.specs.Recorded.{gather, lastOr, termsIn, eventsIn, testsIn, recorded, factsIn}
+use Rattle.recorded.specs.Recorded.{gather, lastOr, sumOver, summed, termsIn, clearingsIn, eventsIn, testsIn, recorded, factsIn}
 use Rattle.book.specs.Outcome.{postNumber, bufferWith, yearAfter, bufferAfter}
 use Rattle.text.specs.Lines.{digitsTo, decimal}
 use Rattle.file.specs.Walk.{recordsTo}
@@ -98,7 +98,7 @@ withEvents = parties ++ ((0x61 ∷ 0x62 ∷ 0x63 ∷ 0x64 ∷ []) ++ (juneEvent 
 
 -- what the bill program prints of a file. What computes it is named here, once for all figures.
 bill : List ℕ → List ℕ
-unfolding sumTo anyTo allTo tabulate convert days due callable testable share bitAt number bitsOf spell byteOf bytesOf pack encode itemsIn times rulesTo rulesFor recordQuestions firstFailed kindOf headOf rulesOf numbersOf isKind isWhole permits permitted isFilled rises idsRise listed reduction deficit known seller area zone product committed rate obligation beforeCap raised unforced ofSeller shareOf called calls shortfallOver u cap daily spent charge excess e creditShare creditLimit creditOf B testOf compliance test credit charges credits lse amounts countTo difference hasRegistration hasObligation sellerColumns lineFields linesTo statementFields statementOf value42 namedHead withItem withItems listingTo listingIn inArea inGroup everyListed deficitsListed listsExactly inTime q6 q7 q8 q9 q10 q11 q12 q13 q14 q15 q16 questions postNumber yearBy bufferWith yearAfter bufferAfter digitsTo decimal cents refusalLine linesFrom monthLine partyLine statementLines answerLines bytes recordNumber consumed recordsTo isAccepted isClosing buffered step run answered gather lastOr termsIn eventsIn testsIn recorded callsOf answerText textOf
+unfolding sumTo anyTo allTo tabulate convert days due callable testable share bitAt number bitsOf spell byteOf bytesOf pack encode itemsIn times rulesTo rulesFor recordQuestions firstFailed kindOf headOf rulesOf numbersOf isKind isWhole permits permitted isFilled rises idsRise listed reduction deficit known seller area zone product committed rate obligation beforeCap raised unforced rateInForce ofSeller shareOf called calls shortfallOver u cap daily spent charge excess e creditShare creditLimit creditOf B testOf compliance test credit charges credits lse amounts countTo difference hasRegistration hasObligation sellerColumns lineFields linesTo statementFields statementOf value42 namedHead withItem withItems listingTo listingIn inArea inGroup everyListed deficitsListed listsExactly inTime q6 q7 q8 q9 q10 q17 q11 q12 q13 q14 q15 q16 questions postNumber yearBy bufferWith yearAfter bufferAfter digitsTo decimal cents refusalLine linesFrom monthLine partyLine statementLines answerLines bytes recordNumber consumed recordsTo isAccepted isClosing buffered step run answered gather lastOr sumOver summed termsIn clearingsIn eventsIn testsIn recorded callsOf answerText textOf
 bill file = billText file blank
 
 -- Year A: each record's number, the buffer that each is lent (as the one before left it; one record more shows what the last leaves), the
@@ -121,6 +121,18 @@ event-figures : bill withEvents
     ++ bytes "M 6\nS 0 -63551 0 0\nS 1 0 0 9000\nL 0 -54413\nL 1 -18138\n"
 unfolding bill
 event-figures = refl
+
+-- Clearings of registration 0, 1 kW at 100 and 3 kW at 201, make its rate 703 / 4, 175; one of registration 2, which is not known, is refused
+-- with 10. At close 1 the test costs 410 × (175 + 2,000) × 30 / 1,000, 26,752.
+abbrev withClearings : List ℕ
+withClearings =
+    parties
+    ++ ((0x70 ∷ 0x00 ∷ 0x0C ∷ 0x80 ∷ 0x00 ∷ 0x10 ∷ 0x70 ∷ 0x00 ∷ 0x19 ∷ 0x20 ∷ 0x00 ∷ 0x30 ∷ 0x70 ∷ 0x80 ∷ 0x19 ∷ 0x20 ∷ 0x00 ∷ 0x30 ∷ [])
+    ++ (juneTest ++ (0x61 ∷ [])))
+
+clearing-figures : bill withClearings ≡ bytes "N 8 10\nM 1\nS 0 0 26752 0\nS 1 0 0 0\nL 0 20064\nL 1 6688\n"
+unfolding bill
+clearing-figures = refl
 
 -- Year A's close, after the six records before it: it is accepted, so demand 3's claims at a close are made of it; and what they say there.
 abbrev earlier : List Call

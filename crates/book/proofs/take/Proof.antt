@@ -11,6 +11,7 @@ use Rattle.book.proofs.take.Tie as tie
 use Rattle.book.proofs.close.Reads as close-reads
 use Rattle.book.proofs.registration_of.Reads as registration-of-reads
 use Rattle.steps.proofs.call.Reads as call-reads
+use Rattle.steps.proofs.clear.Reads as clear-reads
 use Rattle.steps.proofs.oblige.Reads as oblige-reads
 use Rattle.steps.proofs.open.Reads as open-reads
 use Rattle.steps.proofs.register.Reads as register-reads
@@ -81,6 +82,13 @@ close-requires c κs =
     let t = rw is at (start .pre .1 .1 .0) in
     (start .pre .0, (t .0, (t .1, leb-true 354 _ (rw is at (start .pre .1 .1 .1)))))
 
+clear-requires : tie.Need-clear-requires
+unfolding Suits
+clear-requires c κs =
+    let start = c .before .before .before .before .before .before in
+    let t = rw (c .before .before .head7 .given .1) at (start .pre .1 .1 .0) in
+    (start .pre .0, (t .0 .registration, (t .1, (t .0 .price, (t .0 .some, t .0 .kw)))))
+
 returns : tie.Need-returns
 unfolding yearBy bufferWith writtenWith
 returns c =
@@ -118,6 +126,12 @@ returns-6 c =
     let closed = c .before .before .close .ensures in
     (rw is (closed .0), (closed .1 .0, (rw is (closed .1 .1 .0), rw is (closed .1 .1 .1))))
 
+returns-7 : tie.Need-returns-7
+unfolding yearBy bufferWith writtenWith
+returns-7 c =
+    let is = c .before .before .before .head7 .given .1 in
+    (rw is (c .clear .ensures .0), (c .clear .ensures .1, (rw is, rw is)))
+
 pub take-spec : {M : Type 1} → statement M
 take-spec =
     tie.close
@@ -137,10 +151,13 @@ take-spec =
     test-requires
     (λ c. search needs)
     close-requires
+    (λ c. search needs)
+    clear-requires
     returns
     returns-2
     returns-3
     returns-4
     returns-5
     (λ c. search needs)
-    returns-6)
+    returns-6
+    returns-7)

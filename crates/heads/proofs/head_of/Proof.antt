@@ -31,14 +31,19 @@ returns-6 c = rw (c .before .if6 .taken)
 
 returns-7 : tie.Need-returns-7
 unfolding headOf
-returns-7 c =
+returns-7 c = rw (c .before .before .before .if7 .taken)
+
+returns-8 : tie.Need-returns-8
+unfolding headOf
+returns-8 c =
     rw (
-      ne-eqb _ 1 (c .before .before .before .before .before .if1 .left),
-      ne-eqb _ 2 (c .before .before .before .before .if2 .left),
-      ne-eqb _ 3 (c .before .before .before .if3 .left),
-      ne-eqb _ 4 (c .before .before .if4 .left),
-      ne-eqb _ 5 (c .before .if5 .left),
-      ne-eqb _ 6 (c .if6 .left),
+      ne-eqb _ 1 (c .before .before .before .before .before .before .if1 .left),
+      ne-eqb _ 2 (c .before .before .before .before .before .if2 .left),
+      ne-eqb _ 3 (c .before .before .before .before .if3 .left),
+      ne-eqb _ 4 (c .before .before .before .if4 .left),
+      ne-eqb _ 5 (c .before .before .if5 .left),
+      ne-eqb _ 6 (c .before .if6 .left),
+      ne-eqb _ 7 (c .if7 .left),
     )
 
 pub head-of-spec : {M : Type 1} → statement M
@@ -71,4 +76,8 @@ head-of-spec =
     returns-5
     (λ c. search needs)
     returns-6
-    returns-7)
+    (λ c. search needs)
+    (λ c. search needs)
+    (λ c. search needs)
+    returns-7
+    returns-8)

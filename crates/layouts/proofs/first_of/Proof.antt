@@ -8,10 +8,10 @@ use Rattle.layouts.proofs.first_of.Statement.{statement}
 use Rattle.layouts.proofs.first_of.Tie as tie
 
 -- past the last kind
-returns-8 : tie.Need-returns-8
+returns-9 : tie.Need-returns-9
 unfolding startOf kinds
-returns-8 c =
-    let last : c .before .args .kind ≡ 7 = omega (arith, none-below 7 (c .before .args .kind) (c .match .rest), c .before .pre) in
+returns-9 c =
+    let last : c .before .args .kind ≡ 8 = omega (arith, none-below 8 (c .before .args .kind) (c .match .rest), c .before .pre) in
     rw last
 
 pub first-of-spec : {M : Type 1} → statement M
@@ -26,4 +26,5 @@ first-of-spec =
     (λ c. search needs)
     (λ c. search needs)
     (λ c. search needs)
-    returns-8)
+    (λ c. search needs)
+    returns-9)

@@ -8,17 +8,18 @@ use Rattle.layouts.proofs.row_at.Statement.{statement}
 use Rattle.layouts.proofs.row_at.Tie as tie
 
 -- the last part
-returns-11 : tie.Need-returns-11
+returns-12 : tie.Need-returns-12
 unfolding join startOf kinds parts fieldsIn
-returns-11 c =
-    let last : c .before .before .args .part ≡ 10 = omega (arith, none-below 10 (c .before .before .args .part) (c .before .match .rest), c .before .before .pre) in
-    rw last (c .row11 .ensures)
+returns-12 c =
+    let last : c .before .before .args .part ≡ 11 = omega (arith, none-below 11 (c .before .before .args .part) (c .before .match .rest), c .before .before .pre) in
+    rw last (c .row12 .ensures)
 
 pub row-at-spec : {M : Type 1} → statement M
 unfolding join startOf kinds parts fieldsIn
 row-at-spec =
     tie.close
     (tie.spec
+    (λ c κs. search needs)
     (λ c κs. search needs)
     (λ c κs. search needs)
     (λ c κs. search needs)
@@ -40,4 +41,5 @@ row-at-spec =
     (λ c. rw (c .before .match .keys8) (c .row8 .ensures))
     (λ c. rw (c .before .match .keys9) (c .row9 .ensures))
     (λ c. rw (c .before .match .keys10) (c .row10 .ensures))
-    returns-11)
+    (λ c. rw (c .before .match .keys11) (c .row11 .ensures))
+    returns-12)

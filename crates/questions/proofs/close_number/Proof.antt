@@ -6,7 +6,7 @@ use borrow.Author.Tests.{eq-eqb, ne-eqb, le-leb, lt-leb}
 use Rattle.layouts.specs.Questions.{firstFailed}
 use Rattle.cells.specs.Layout.{yearIn}
 use Rattle.heads.specs.declared.Head.the-variants.{Close}
-use Rattle.questions.specs.Questions.{q6, q7, q8, q9, q10, q11, q12, q13, q14, q15, q16, questions}
+use Rattle.questions.specs.Questions.{q6, q7, q8, q9, q10, q17, q11, q12, q13, q14, q15, q16, questions}
 use Rattle.questions.specs.Answers.{yes, no}
 use Rattle.questions.proofs.close_number.Statement.{statement}
 use Rattle.questions.proofs.close_number.Tie as tie
@@ -38,19 +38,19 @@ unfolding firstFailed questions q7
 returns-2 c l = rw (six-passes (c .before .before), no (eight (c .before)) (c .if2 .taken))
 
 returns-3 : tie.Need-returns-3
-unfolding firstFailed questions q7 q9 q10 q11 q12 q13 q14 q15
+unfolding firstFailed questions q7 q9 q10 q17 q11 q12 q13 q14 q15
 returns-3 c l =
     let two = c .before .before .before in
     rw (six-passes (two .before .before), eight-passes two, sym (c .before .before .closed .ensures), ne-eqb _ _ (c .if3 .taken))
 
 returns-4 : tie.Need-returns-4
-unfolding firstFailed questions q7 q9 q10 q11 q12 q13 q14 q15 q16
+unfolding firstFailed questions q7 q9 q10 q17 q11 q12 q13 q14 q15 q16
 returns-4 c l =
     let two = c .before .before .before .before in
     rw (six-passes (two .before .before), eight-passes two, sym (c .before .before .before .closed .ensures), eq-eqb _ _ (c .before .if3 .left), lt-leb _ _ (c .if4 .taken))
 
 returns-5 : tie.Need-returns-5
-unfolding firstFailed questions q7 q9 q10 q11 q12 q13 q14 q15 q16
+unfolding firstFailed questions q7 q9 q10 q17 q11 q12 q13 q14 q15 q16
 returns-5 c l =
     let two = c .before .before .before .before in
     rw (six-passes (two .before .before), eight-passes two, sym (c .before .before .before .closed .ensures), eq-eqb _ _ (c .before .if3 .left), le-leb _ _ (c .if4 .left))

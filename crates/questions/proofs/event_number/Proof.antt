@@ -9,7 +9,7 @@ use Rattle.year.specs.Year.{known, area}
 use Rattle.entries.specs.Entries.{inArea}
 use Rattle.cells.specs.Layout.{listingAt, yearIn}
 use Rattle.heads.specs.declared.Head.the-variants.{Event}
-use Rattle.questions.specs.Questions.{inTime, q6, q7, q8, q9, q10, q11, q12, q13, q14, q15, q16, questions}
+use Rattle.questions.specs.Questions.{inTime, q6, q7, q8, q9, q10, q17, q11, q12, q13, q14, q15, q16, questions}
 use Rattle.questions.specs.Answers.{yes, no}
 use Rattle.questions.proofs.event_number.Statement.{statement}
 use Rattle.questions.proofs.event_number.Tie as tie
@@ -57,22 +57,22 @@ unfolding firstFailed questions q7
 returns-2 c room = rw (six-passes (c .before .before), no (eight (c .before)) (c .if2 .taken))
 
 returns-3 : tie.Need-returns-3
-unfolding firstFailed questions q7 q9
+unfolding firstFailed questions q7 q9 q17
 returns-3 c room = rw (six-passes (c .before .before .before .before), eight-passes (c .before .before), no (ten (c .before)) (c .if3 .taken))
 
 returns-4 : tie.Need-returns-4
-unfolding firstFailed questions q7 q9
+unfolding firstFailed questions q7 q9 q17
 returns-4 c room =
     rw (six-passes (c .before .before .before .before .before .before), eight-passes (c .before .before .before .before), ten-passes (c .before .before), no (eleven (c .before)) (c .if4 .taken))
 
 returns-5 : tie.Need-returns-5
-unfolding firstFailed questions q7 q9 q12 q13 q14 q15 q16
+unfolding firstFailed questions q7 q9 q17 q12 q13 q14 q15 q16
 returns-5 c room =
     let four = c .before .before in
     rw (six-passes (four .before .before .before .before .before .before), eight-passes (four .before .before .before .before), ten-passes (four .before .before), eleven-passes four, sym (c .before .held .ensures), lt-ltb _ _ (c .if5 .taken))
 
 returns-6 : tie.Need-returns-6
-unfolding firstFailed questions q7 q9 q12
+unfolding firstFailed questions q7 q9 q17 q12
 returns-6 c room =
     let four = c .before .before in
     rw (six-passes (four .before .before .before .before .before .before), eight-passes (four .before .before .before .before), ten-passes (four .before .before), eleven-passes four, sym (c .before .held .ensures), le-ltb _ _ (c .if5 .left))

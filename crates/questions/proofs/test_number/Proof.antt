@@ -8,7 +8,7 @@ use Rattle.year.specs.Year.{known, zone, product}
 use Rattle.entries.specs.Entries.{inGroup}
 use Rattle.cells.specs.Layout.{listingAt, yearIn}
 use Rattle.heads.specs.declared.Head.the-variants.{Test}
-use Rattle.questions.specs.Questions.{inTime, q6, q7, q8, q9, q10, q11, q12, q13, q14, q15, q16, questions}
+use Rattle.questions.specs.Questions.{inTime, q6, q7, q8, q9, q10, q17, q11, q12, q13, q14, q15, q16, questions}
 use Rattle.questions.specs.Answers.{yes, no}
 use Rattle.questions.proofs.test_number.Statement.{statement}
 use Rattle.questions.proofs.test_number.Tie as tie
@@ -62,29 +62,29 @@ unfolding firstFailed questions q7
 returns-2 c room = rw (six-passes (c .before .before), no (eight (c .before)) (c .if2 .taken))
 
 returns-3 : tie.Need-returns-3
-unfolding firstFailed questions q7 q9
+unfolding firstFailed questions q7 q9 q17
 returns-3 c room = rw (six-passes (c .before .before .before .before), eight-passes (c .before .before), no (ten (c .before)) (c .if3 .taken))
 
 returns-4 : tie.Need-returns-4
-unfolding firstFailed questions q7 q9
+unfolding firstFailed questions q7 q9 q17
 returns-4 c room =
     let three = c .before .before .before in
     rw (six-passes (three .before .before .before .before), eight-passes (three .before .before), ten-passes three, no (eleven (c .before)) (c .if4 .taken))
 
 returns-5 : tie.Need-returns-5
-unfolding firstFailed questions q7 q9 q12 q13
+unfolding firstFailed questions q7 q9 q17 q12 q13
 returns-5 c room =
     let four = c .before .before .before .before in
     rw (six-passes (four .before .before .before .before .before .before .before), eight-passes (four .before .before .before .before .before), ten-passes (four .before .before .before), eleven-passes four, sym (c .before .test-taken .ensures), c .if5 .taken)
 
 returns-6 : tie.Need-returns-6
-unfolding firstFailed questions q7 q9 q12 q13 q15 q16
+unfolding firstFailed questions q7 q9 q17 q12 q13 q15 q16
 returns-6 c room =
     let four = c .before .before .before .before .before .before in
     rw (six-passes (four .before .before .before .before .before .before .before), eight-passes (four .before .before .before .before .before), ten-passes (four .before .before .before), eleven-passes four, sym (c .before .before .before .test-taken .ensures), c .before .before .if5 .left, sym (fourteen (c .before)) ∙ c .if6 .taken)
 
 returns-7 : tie.Need-returns-7
-unfolding firstFailed questions q7 q9 q12 q13
+unfolding firstFailed questions q7 q9 q17 q12 q13
 returns-7 c room =
     let four = c .before .before .before .before .before .before in
     rw (six-passes (four .before .before .before .before .before .before .before), eight-passes (four .before .before .before .before .before), ten-passes (four .before .before .before), eleven-passes four, sym (c .before .before .before .test-taken .ensures), c .before .before .if5 .left, sym (fourteen (c .before)) ∙ c .if6 .left)

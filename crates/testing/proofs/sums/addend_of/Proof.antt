@@ -6,6 +6,7 @@ use native.Mathlib.Nat.{mul-le-mul}
 use borrow.Author.Needs.{needs}
 use Rattle.cells.specs.Layout.{placeIn}
 use Rattle.looks.specs.Looks.{facts}
+use Rattle.owed.specs.Owed as owed
 use Rattle.owed_laws.specs.Limits.{limits}
 use Rattle.testing.specs.Entries.{place-below}
 use Rattle.testing.proofs.sums.addend_of.Statement.{statement}
@@ -21,7 +22,7 @@ place-is c = let s = c .before .before .before .before .before in c .get2 .ensur
 seller-is : (c : tie.After-get3) → c .get3 .result ≡ facts (c .before .before .before .before .before .before .args .year .now) .seller (c .before .before .before .before .before .before .args .i)
 seller-is c = let s = c .before .before .before .before .before .before in c .get3 .ensures ∙ s .pre .1 .0 .columns .seller .is (s .args .i) (s .pre .1 .1)
 
-rate-is : (c : tie.After-get4) → c .get4 .result ≡ facts (c .before .before .before .before .before .before .before .args .year .now) .rate (c .before .before .before .before .before .before .before .args .i)
+rate-is : (c : tie.After-get4) → c .get4 .result ≡ owed.rate (facts (c .before .before .before .before .before .before .before .args .year .now)) (c .before .before .before .before .before .before .before .args .i)
 rate-is c = let s = c .before .before .before .before .before .before .before in c .get4 .ensures ∙ s .pre .1 .0 .columns .rate .is (s .args .i) (s .pre .1 .1)
 
 place-less : (c : tie.After-get2) → c .get2 .result < 24
