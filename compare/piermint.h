@@ -13,8 +13,8 @@
  * - cells that piermint_post is given were made by piermint_new, and since then written by
  *   piermint_post alone (a copy of such cells is as good, and so is one kept in a file).
  *
- * A number is 0 where a record is accepted, and 1 to 16 where it is refused: the first question
- * that fails (the README's "The sixteen numbers").
+ * A number is 0 where a record is accepted, and 1 to 17 where it is refused: the first question
+ * that fails (the README's table of numbers). 17 is a fifth clearing of one registration.
  */
 #ifndef PIERMINT_H
 #define PIERMINT_H
@@ -29,7 +29,7 @@
 #define PIERMINT_NUMBERS 166
 #define PIERMINT_STATEMENT 354
 #define PIERMINT_CLOSES 15
-#define PIERMINT_CELLS 3447
+#define PIERMINT_CELLS 3639
 
 #ifdef __cplusplus
 extern "C" {

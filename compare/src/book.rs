@@ -59,6 +59,7 @@ impl Book {
             (Record::Event(event), Some(year)) => year.add_event(event),
             (Record::Test(test), Some(year)) => year.tests.push(test),
             (Record::Close { month }, Some(year)) => return close(year, month, buffer),
+            (Record::Clearing(clearing), Some(year)) => year.add_clearing(&clearing),
             (_, None) => unreachable!("question 6 asks for a year"),
         }
         0

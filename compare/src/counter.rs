@@ -1,7 +1,7 @@
-//! Questions 6 to 16 at the counter; a "no" gives the number.
+//! Questions 6 to 17 at the counter; a "no" gives the number.
 
 use crate::fields::SELLERS;
-use crate::records::{Entry, Event, Lists, Lse, Product, Record, Registration, Test};
+use crate::records::{Clearing, Entry, Event, Lists, Lse, Product, Record, Registration, Test};
 use crate::statement;
 use crate::year::{Year, CLOSES, MOST_EVENTS};
 
@@ -29,6 +29,7 @@ pub fn ask_all(year: Option<&Year>, record: &Record, room: usize) -> Asked {
         Record::Event(event) => ask_event(year, event),
         Record::Test(test) => ask_test(year, test),
         Record::Close { month } => ask_close(year, *month, room),
+        Record::Clearing(clearing) => ask_clearing(year, clearing),
     }
 }
 
@@ -75,6 +76,13 @@ fn ask_close(year: &Year, month: u8, room: usize) -> Asked {
     ask(has_parties(year), 8)?;
     ask(month == year.closed + 1, 15)?;
     ask(room >= statement::MOST_BYTES, 16)
+}
+
+fn ask_clearing(year: &Year, clearing: &Clearing) -> Asked {
+    let id = usize::from(clearing.registration);
+    ask(is_unused(year), 7)?;
+    ask(year.registrations[id].is_some(), 10)?;
+    ask(year.clearings[id].has_room(), 17)
 }
 
 fn is_unused(year: &Year) -> bool {

@@ -1,9 +1,10 @@
-//! The layouts of the six kinds of record.
+//! The layouts of the seven kinds of record.
 
 use crate::exact::narrow;
 use crate::fields::{
-    kind, Field, AREA, CLOSED_MONTH, COMMITTED, DEFICITS, ENTRIES, FACTOR, LEAP, LSE_ID, MONTH,
-    OBLIGATION, PERIOD, PRODUCT, RATE, REGISTRATIONS, REGISTRATION_ID, SELLERS, SELLER_ID, ZONE,
+    kind, Field, AREA, CLEARED, CLOSED_MONTH, COMMITTED, DEFICITS, ENTRIES, FACTOR, LEAP, LSE_ID,
+    MONTH, OBLIGATION, PERIOD, PRICE, PRODUCT, RATE, REGISTRATIONS, REGISTRATION_ID, SELLERS,
+    SELLER_ID, ZONE,
 };
 use crate::lists::{Deficits, Entries, List};
 
@@ -52,8 +53,8 @@ const fn head_of(fields: &'static [Field]) -> Head {
     Head { fields, bits }
 }
 
-/// The heads in the order of their kinds, 1 to 6.
-static HEADS: [Head; 6] = [
+/// The heads in the order of their kinds, 1 to 7.
+static HEADS: [Head; 7] = [
     head_of(&[kind(1), LEAP, FACTOR, FACTOR]),
     head_of(&[
         kind(2),
@@ -69,6 +70,7 @@ static HEADS: [Head; 6] = [
     head_of(&[kind(4), AREA, MONTH, PERIOD, DEFICITS, ENTRIES]),
     head_of(&[kind(5), ZONE, PRODUCT, MONTH, DEFICITS, ENTRIES]),
     head_of(&[kind(6), CLOSED_MONTH]),
+    head_of(&[kind(7), REGISTRATION_ID, PRICE, CLEARED]),
 ];
 
 /// The head of a kind, if there is such a kind.

@@ -1,10 +1,11 @@
-//! The delivery-year book of a demand-response pool, an independent reading of the document.
+//! The delivery-year book of a demand-response pool, an independent reading of the documents.
 
 pub mod account;
 mod bill;
 mod bits;
 mod book;
 pub mod cases;
+mod clearings;
 mod counter;
 pub mod exact;
 mod fields;

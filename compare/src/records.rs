@@ -1,4 +1,4 @@
-//! The six kinds of record.
+//! The seven kinds of record.
 
 use crate::exact::narrow;
 use crate::fields::{REGISTRATIONS, SELLERS};
@@ -44,6 +44,7 @@ pub struct Registration {
     pub zone: u8,
     pub product: Product,
     pub committed: u32,
+    /// The rate in force: the field's, or the clearings'.
     pub rate: u32,
 }
 
@@ -51,6 +52,13 @@ pub struct Registration {
 pub struct Lse {
     pub id: u8,
     pub obligation: u32,
+}
+
+#[derive(Clone, Copy)]
+pub struct Clearing {
+    pub registration: u8,
+    pub price: u32,
+    pub kw: u32,
 }
 
 #[derive(Clone, Copy, Default)]
@@ -97,6 +105,7 @@ pub enum Record {
     Event(Event),
     Test(Test),
     Close { month: u8 },
+    Clearing(Clearing),
 }
 
 impl From<&Packed<'_>> for Record {
@@ -125,9 +134,14 @@ impl From<&Packed<'_>> for Record {
                 month: narrow(head[3]),
                 lists: lists(packed),
             }),
-            _ => Record::Close {
+            6 => Record::Close {
                 month: narrow(head[1]),
             },
+            _ => Record::Clearing(Clearing {
+                registration: narrow(head[1]),
+                price: narrow(head[2]),
+                kw: narrow(head[3]),
+            }),
         }
     }
 }

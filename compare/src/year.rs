@@ -1,8 +1,9 @@
 //! A delivery year: the records accepted, and what they came to at the last close.
 
+use crate::clearings::Clearings;
 use crate::fields::{LSES, REGISTRATIONS};
 use crate::owed::{cap, days, Owed};
-use crate::records::{Entry, Event, Lse, Opening, Registration, Test};
+use crate::records::{Clearing, Entry, Event, Lse, Opening, Registration, Test};
 
 pub const MOST_EVENTS: usize = 16;
 
@@ -15,6 +16,7 @@ pub const CLOSES: usize = 15;
 pub struct Year {
     pub opening: Opening,
     pub registrations: [Option<Registration>; REGISTRATIONS],
+    pub clearings: [Clearings; REGISTRATIONS],
     pub lses: [Option<Lse>; LSES],
     pub events: Vec<Event>,
     pub tests: Vec<Test>,
@@ -33,6 +35,7 @@ impl Year {
         Year {
             opening,
             registrations: [None; REGISTRATIONS],
+            clearings: [Clearings::default(); REGISTRATIONS],
             lses: [None; LSES],
             events: Vec::with_capacity(MOST_EVENTS),
             tests: Vec::with_capacity(MOST_TESTS),
@@ -47,6 +50,13 @@ impl Year {
     pub fn registration(&self, entry: &Entry) -> &Registration {
         let registration = &self.registrations[usize::from(entry.registration)];
         registration.as_ref().expect("question 10 asks for it")
+    }
+
+    /// Adds a clearing, which gives its registration a new rate.
+    pub fn add_clearing(&mut self, clearing: &Clearing) {
+        let id = usize::from(clearing.registration);
+        let registration = self.registrations[id].as_mut();
+        registration.expect("question 10 asks for it").rate = self.clearings[id].add(clearing);
     }
 
     pub fn add_event(&mut self, event: Event) {

@@ -99,8 +99,8 @@ fn every_number_comes_up() {
     eprintln!("calls {calls:?}\nfiles {files:?}");
     let of_calls: BTreeSet<u64> = calls.into_keys().collect();
     let of_files: BTreeSet<u64> = files.into_keys().collect();
-    assert_eq!(of_calls, (0..=16).collect());
-    assert_eq!(of_files, (0..=15).collect());
+    assert_eq!(of_calls, (0..=17).collect());
+    assert_eq!(of_files, (0..=17).filter(|number| *number != 16).collect());
 }
 
 #[test]
@@ -128,7 +128,7 @@ fn plausible_years_are_accepted_and_reach_every_amount() {
 
 #[test]
 fn full_years_are_accepted_whole() {
-    const RECORDS: usize = 1 + 64 + 16 + 24 + 16 + 15;
+    const RECORDS: usize = 1 + 64 + 4 * 64 + 16 + 24 + 16 + 15;
     for seed in 0..SEEDS {
         assert_eq!(take_all(&full_file(seed)).0, [0; RECORDS], "seed {seed}");
     }

@@ -1,4 +1,4 @@
-//! The figures of Year A and its edges.
+//! The figures of Year A and its edges, and those of clearings in it.
 
 use settlement::layout::MOST_BYTES;
 use settlement::owed::{cap, convert, due_month, uncapped, Allotment};
@@ -34,6 +34,7 @@ fn bill(records: &[&[u64]]) -> String {
     String::from_utf8(bill_file(&file(&year))).expect("text")
 }
 
+const JUNE_TEST: &[u64] = &[5, 1, 0, 1, 0, 2, 0, 600, 1, 2_100];
 const JUNE_EVENT: &[u64] = &[4, 1, 1, 1, 0, 2, 0, 600, 1, 2_100];
 const SEPTEMBER_EVENT: &[u64] = &[4, 1, 4, 1, 0, 1, 0, 600];
 
@@ -62,9 +63,8 @@ fn definitions() {
 
 #[test]
 fn test_of_june() {
-    let test: &[u64] = &[5, 1, 0, 1, 0, 2, 0, 600, 1, 2_100];
     let text = "M 1\nS 0 0 147600 0\nS 1 0 0 0\nL 0 110700\nL 1 36900\nN 8 15\n";
-    assert_eq!(bill(&[test, &[6, 1], &[6, 1]]), text);
+    assert_eq!(bill(&[JUNE_TEST, &[6, 1], &[6, 1]]), text);
 }
 
 #[test]
@@ -106,4 +106,46 @@ fn edges_of_a_record() {
     assert_eq!(number(&[0x14, 0xA3, 0x95, 0x18, 0x00]), 0);
     assert_eq!(number(&most), 0);
     assert_eq!(number(&above), 3);
+}
+
+/// The rate of Year A's registration 0 after these clearings, and its seller's revenue in June.
+fn rate_and_revenue(clearings: &[&[u64]]) -> (u32, i64) {
+    let mut book = Book::new();
+    let year: [&[u64]; 2] = [&[1, 0, 9_500, 10_800], &[2, 0, 0, 1, 1, 0, 1_000, 10_000]];
+    for numbers in [&year, clearings].concat() {
+        assert_eq!(book.take(&record(numbers), &mut []).number, 0);
+    }
+    let year = book.year().expect("a year");
+    let registration = year.registrations[0].expect("registration 0");
+    (registration.rate, year.revenue(0, 1))
+}
+
+#[test]
+fn two_clearings() {
+    // (1 × 100 + 3 × 201) / 4 = 703 / 4 = 175, and 1,026 × 175 × 30 = 5,386,500.
+    let [one, other]: [&[u64]; 2] = [&[7, 0, 100, 1], &[7, 0, 201, 3]];
+    assert_eq!(rate_and_revenue(&[one, other]), (175, 5_386_500));
+    // 410 × (175 + 2,000) × 30 / 1,000 = 26,752.
+    let text = "M 1\nS 0 0 26752 0\nS 1 0 0 0\nL 0 20064\nL 1 6688\n";
+    assert_eq!(bill(&[one, other, JUNE_TEST, &[6, 1]]), text);
+}
+
+#[test]
+fn a_clearing_at_price_0() {
+    let clearing: &[u64] = &[7, 0, 0, 1];
+    assert_eq!(rate_and_revenue(&[]), (10_000, 307_800_000));
+    assert_eq!(rate_and_revenue(&[clearing]), (0, 0));
+    // 410 × (0 + 2,000) × 30 / 1,000 = 24,600.
+    let text = "M 1\nS 0 0 24600 0\nS 1 0 0 0\nL 0 18450\nL 1 6150\n";
+    assert_eq!(bill(&[clearing, JUNE_TEST, &[6, 1]]), text);
+}
+
+#[test]
+fn clearings_refused() {
+    let clearing: &[u64] = &[7, 0, 100, 1];
+    assert_eq!(bill(&[&[7, 2, 100, 1]]), "N 6 10\n");
+    assert_eq!(bill(&[clearing; 5]), "N 10 17\n");
+    assert_eq!(bill(&[JUNE_TEST, clearing]), "N 7 7\n");
+    assert_eq!(bill_file(&record(clearing)), b"N 1 6\n");
+    assert_eq!(bill_file(&[0x80]), b"N 1 1\n");
 }

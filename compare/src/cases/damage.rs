@@ -153,7 +153,7 @@ pub fn with_wrong_number(random: &mut Random, numbers: &[u64]) -> Numbers {
     match random.below(4) {
         0 => numbers.push(0),
         1 => numbers.truncate(at),
-        2 => numbers[at] = random.pick(&[0, 7, 17, 65, 1 << 32, u64::MAX]),
+        2 => numbers[at] = random.pick(&[0, 7, 8, 17, 65, 1 << 32, u64::MAX]),
         _ => numbers[at] += 1 << 32,
     }
     numbers

@@ -1,5 +1,6 @@
 //! Record files and calls from a seed: plausible years, and damaged variants of them.
 
+mod clearings;
 pub mod damage;
 mod parties;
 pub mod plan;
@@ -120,10 +121,10 @@ fn call(bytes: Vec<u8>, room: usize) -> Call {
     Call { bytes, room }
 }
 
-/// Registrations and LSEs are many, so fewer of them get one.
+/// Registrations, LSEs and clearings are many, so fewer of them get one.
 fn percent_of_misfits(numbers: &[u64]) -> usize {
     match numbers[0] {
-        2 | 3 => 20,
+        2 | 3 | 7 => 20,
         _ => 60,
     }
 }

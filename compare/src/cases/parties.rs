@@ -5,16 +5,16 @@ use super::record::Numbers;
 use crate::exact::{narrow, widen};
 use crate::records::Product;
 
-/// The opening, then the parties in any order.
+/// The opening, then the parties in any order, each registration before its clearings.
 pub fn opening_and_parties(
     random: &mut Random,
-    registrations: Vec<Numbers>,
+    registrations: Vec<Vec<Numbers>>,
     lses: usize,
 ) -> Vec<Numbers> {
     let ids = ids(random, lses, 16).into_iter();
-    let lses = ids.map(|id| vec![3, id, random.value(1, 1_000_000)]);
-    let mut parties = [registrations, lses.collect()].concat();
-    random.shuffle(&mut parties);
+    let lses = ids.map(|id| vec![vec![3, id, random.value(1, 1_000_000)]]);
+    let parties = [registrations, lses.collect()].concat();
+    let parties = random.merge(parties);
     [vec![opening(random)], parties].concat()
 }
 

@@ -1,7 +1,8 @@
-//! Plausible years from chance: parties, then events, tests and closes in order.
+//! Plausible years from chance: parties and clearings, then events, tests and closes in order.
 
 use std::collections::BTreeSet;
 
+use super::clearings::{all_cleared, some_cleared};
 use super::parties::{
     opening_and_parties, registrations_of_all_zones, registrations_of_few_places,
     zones_and_products,
@@ -33,6 +34,7 @@ pub fn short_year(random: &mut Random) -> Vec<Numbers> {
 fn any_year(random: &mut Random, registrations: usize, lses: usize) -> Vec<Numbers> {
     let registrations = registrations_of_few_places(random, registrations);
     let mut plan = Plan::new(random, &registrations);
+    let registrations = some_cleared(random, registrations);
     let mut records = opening_and_parties(random, registrations, lses);
     let busyness = random.pick(&[2, 3, 5]);
     for z in (0..).take(CLOSES) {
@@ -46,10 +48,12 @@ fn any_year(random: &mut Random, registrations: usize, lses: usize) -> Vec<Numbe
     records
 }
 
-/// A year with no room left: 64 registrations, 16 LSEs, 24 tests, 16 events of 64 entries.
+/// A year with no room left: 64 registrations of 4 clearings each, 16 LSEs, 24 tests, 16 events of
+/// 64 entries.
 pub fn full_year(random: &mut Random) -> Vec<Numbers> {
     let registrations = registrations_of_all_zones(random);
     let mut plan = Plan::new(random, &registrations);
+    let registrations = all_cleared(random, registrations);
     let mut records = opening_and_parties(random, registrations, 16);
     let first_call = random.pick(&[0, 1, 2, 3]);
     let mut tests = zones_and_products();

@@ -62,6 +62,16 @@ impl Random {
         }
     }
 
+    /// The items of all runs in any order, those of one run in theirs.
+    pub fn merge<T>(&mut self, runs: Vec<Vec<T>>) -> Vec<T> {
+        let turns = |(at, run): (usize, &Vec<T>)| vec![at; run.len()];
+        let mut turns: Vec<usize> = runs.iter().enumerate().flat_map(turns).collect();
+        self.shuffle(&mut turns);
+        let mut runs: Vec<_> = runs.into_iter().map(Vec::into_iter).collect();
+        let next = |at: usize| runs[at].next();
+        turns.into_iter().filter_map(next).collect()
+    }
+
     /// The items that chance keeps, each with the given percentage, in their order.
     pub fn some<T: Copy>(&mut self, items: &[T], percent: usize) -> Vec<T> {
         let keep = |_: &&T| self.chance(percent);

@@ -17,9 +17,18 @@ impl Inputs {
         }
     }
 
-    /// The whole years.
-    pub fn full_years(&self) -> Vec<Vec<u8>> {
-        self.years.iter().map(|year| file(year)).collect()
+    /// The whole years without their clearings, and with them.
+    pub fn full_years(&self) -> [Vec<Vec<u8>>; 2] {
+        let without = |year: &Vec<Numbers>| {
+            let mut year = year.clone();
+            year.retain(|numbers| numbers[0] != 7);
+            file(&year)
+        };
+        let years = self.years.iter();
+        [
+            years.clone().map(without).collect(),
+            years.map(|year| file(year)).collect(),
+        ]
     }
 
     /// Each year's first records of these kinds, so many of each.
@@ -64,5 +73,6 @@ pub fn records() -> Vec<(&'static str, Numbers)> {
         ("an event of 64 entries", lists([4, 1, 1, 1], 16, 64)),
         ("a test of 64 entries", lists([5, 1, 0, 1], 16, 64)),
         ("a close", vec![6, 15]),
+        ("a clearing", vec![7, 63, 12_345, 99_999]),
     ]
 }

@@ -22,6 +22,7 @@ const LSES: (u64, usize) = (3, 16);
 const EVENTS: (u64, usize) = (4, 16);
 const TESTS: (u64, usize) = (5, 24);
 const CLOSES: (u64, usize) = (6, 15);
+const CLEARINGS: (u64, usize) = (7, 256);
 
 /// What the times of Rattle are to be at most, as a multiple of Rust's.
 const READ_OR_WRITE: &str = "1.0";
@@ -46,8 +47,9 @@ fn main() -> io::Result<()> {
     let inputs = Inputs::new();
     take_records(&inputs);
     close_months(&inputs);
-    let [year] = bill([inputs.full_years()]);
+    let [year, cleared] = bill(inputs.full_years());
     row("a full year, 136 records", YEAR, year);
+    row("a full year with 256 clearings", NO_GOAL, cleared);
     for flood in FLOODS {
         row(&flood.name(), NO_GOAL, flood.race()?);
     }
@@ -77,20 +79,23 @@ fn duration(nanoseconds: f64) -> String {
 
 /// Taking is timed as billing a file less billing it without the records in question.
 fn take_records(inputs: &Inputs) {
-    let [opening, registrations, lses, parties, events, tests] = bill([
+    let [opening, registrations, lses, clearings, parties, events, tests] = bill([
         inputs.files(&[OPENING]),
         inputs.files(&[OPENING, REGISTRATIONS]),
         inputs.files(&[OPENING, LSES]),
+        inputs.files(&[OPENING, REGISTRATIONS, CLEARINGS]),
         inputs.files(&[OPENING, REGISTRATIONS, LSES]),
         inputs.files(&[OPENING, REGISTRATIONS, LSES, EVENTS]),
         inputs.files(&[OPENING, REGISTRATIONS, LSES, TESTS]),
     ]);
     let registration = registrations.less(opening).per(REGISTRATIONS.1);
+    let clearing = clearings.less(registrations).per(CLEARINGS.1);
     let event = events.less(parties).per(EVENTS.1);
     let test = tests.less(parties).per(TESTS.1);
     row("a new book that takes an opening", NO_GOAL, opening);
     row("taking a registration", TAKE, registration);
     row("taking an LSE", TAKE, lses.less(opening).per(LSES.1));
+    row("taking a clearing", TAKE, clearing);
     row("taking an event of 64 entries", TAKE_EVENT, event);
     row("taking a test of 2 or 3 entries", NO_GOAL, test);
 }
@@ -146,7 +151,7 @@ fn write(records: &[(&str, Numbers)]) -> Vec<Times> {
 /// For each of the sets of files, whose records are all accepted, the mean time of billing one.
 fn bill<const N: usize>(sets: [Vec<Vec<u8>>; N]) -> [Times; N] {
     type Call = fn(&[u8], &mut [u64], &mut [u8]) -> Billed;
-    let mut numbers = [0; 256];
+    let mut numbers = [0; 512];
     let mut statements = [0; MOST_STATEMENTS];
     let mut call = |call: Call, file: &&Vec<u8>| {
         let (numbers, statements) = (black_box(&mut numbers), black_box(&mut statements));

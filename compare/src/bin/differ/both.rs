@@ -9,8 +9,8 @@ use settlement::{piermint, statement, Billed, Taken, MOST_STATEMENTS};
 /// Nothing, or what differs, to be printed.
 pub type Compared<T = ()> = Result<T, String>;
 
-/// The numbers: 0, and 1 to 16.
-const NUMBERS: usize = 17;
+/// The numbers: 0, and 1 to 17.
+const NUMBERS: usize = 18;
 
 /// The kinds that four bits give, also those that are no record's.
 const KINDS: usize = 16;
