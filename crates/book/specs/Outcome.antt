@@ -18,7 +18,7 @@ use Rattle.questions.specs.Questions.{inTime, questions}
 abbrev pub recordIn : List ℕ → Record
 recordIn bytes = recordOf (numbersOf bytes)
 
--- the number of the first of the sixteen questions that fails, 0 where none does
+-- the number of the first question that fails, 0 where none does
 unfoldable pub postNumber : Year → List ℕ → ℕ → ℕ
 postNumber y bytes room = firstFailed (recordQuestions bytes ++ questions inTime y (recordIn bytes) room)
 

@@ -34,12 +34,12 @@ use Rattle.questions.specs.Admitted.{Admitted, registration-fresh, test-group}
 abbrev pub Knows : Terms → Listing → Type 0
 Knows T l = (i : ℕ) → i < size T → listed l i ≡ true → known T i ≡ true
 
--- an opening, a registration, an LSE and a clearing change the terms of a year that is not begun, or its clearings
+-- an opening, a registration, an LSE and a clearing change the terms or the clearings of a year that is not begun
 pub record Sets (h : Head) : Type 0 where
   pub opened : Bool → Bool
   pub new : Terms → Terms
-  pub cleared : List Clearings → List Clearings
-  pub is : (y : Year) (l : Listing) → yearBy y l h ≡ withTerms y (opened (y .opened)) (new (y .terms)) (cleared (y .clearings))
+  pub clearings : List Clearings → List Clearings
+  pub is : (y : Year) (l : Listing) → yearBy y l h ≡ withTerms y (opened (y .opened)) (new (y .terms)) (clearings (y .clearings))
   pub fresh : {y : Year} {l : Listing} {room : ℕ} → (y .started ≡ true → y .opened ≡ true) → Admitted inTime y (record { head = h; listing = l }) room → y .started ≡ false
   pub other : isClose h ≡ false
 
@@ -127,7 +127,7 @@ does (head.Opening o) =
     (record {
       opened = λ b. true;
       new = λ T. record { leap = o .leap; factor = o .factor; requirement = o .requirement; registrations = T .registrations; obligations = T .obligations };
-      cleared = λ cs. cs;
+      clearings = λ cs. cs;
       is = λ y l. refl;
       fresh = unopened;
       other = refl;
@@ -137,7 +137,7 @@ does (head.Registration r) =
     (record {
       opened = λ b. b;
       new = λ T. record { leap = T .leap; factor = T .factor; requirement = T .requirement; registrations = set (T .registrations) (r .id) (registrationOf r); obligations = T .obligations };
-      cleared = λ cs. cs;
+      clearings = λ cs. cs;
       is = λ y l. refl;
       fresh = λ b a. registration-fresh a;
       other = refl;
@@ -147,7 +147,7 @@ does (head.Lse j) =
     (record {
       opened = λ b. b;
       new = λ T. record { leap = T .leap; factor = T .factor; requirement = T .requirement; registrations = T .registrations; obligations = set (T .obligations) (j .id) (j .obligation) };
-      cleared = λ cs. cs;
+      clearings = λ cs. cs;
       is = λ y l. refl;
       fresh = λ b a. unobliged a;
       other = refl;
@@ -160,7 +160,7 @@ does (head.Clearing c) =
     (record {
       opened = λ b. b;
       new = λ T. T;
-      cleared = λ cs. set cs (c .registration) (clearedBy (getD cs (c .registration) noClearings) (c .price) (c .kw));
+      clearings = λ cs. set cs (c .registration) (clearedBy (getD cs (c .registration) noClearings) (c .price) (c .kw));
       is = λ y l. refl;
       fresh = λ b a. uncleared a;
       other = refl;

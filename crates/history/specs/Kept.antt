@@ -78,7 +78,7 @@ module _ {y : Year} (k : Kept y) {l : Listing} {room : ℕ} where
       let T = x .new (y .terms) in
       let e = x .fresh (k .begun) a in
       let f = k .sound .fresh e in
-      let t : Sound (withTerms y (x .opened (y .opened)) T (x .cleared (y .clearings))) = rw (x .is y l) at s in
+      let t : Sound (withTerms y (x .opened (y .opened)) T (x .clearings (y .clearings))) = rw (x .is y l) at s in
       rw (x .is y l)
       (record {
         sound = t;

@@ -60,11 +60,11 @@ pub fn rate_of(year: &Cells, i: usize, field: u64) -> u64
     requires { ⌜ field ≡ facts (now year) .fieldRate i ⌝ }
     ensures { λ r. ⌜ r ≡ rate (facts (now (year .entry))) i ⌝ }
 {
-    let cleared = cells::clearings_at(year, i);
-    if cleared.count == 0 {
+    let clearings = cells::clearings_at(year, i);
+    if clearings.count == 0 {
         return field;
     }
-    cleared.value / cleared.kw
+    clearings.value / clearings.kw
 }
 
 // Converted by the year's factors: a registration's kilowatts, or a seller's sum.

@@ -9,12 +9,12 @@ use Rattle.units.specs.Units.{convert}
 use Rattle.calendar.specs.Calendar.{limited, annual, offPeak, days, due}
 use Rattle.allotment.specs.Allot.{share}
 use Rattle.owed.specs.Facts.{Facts}
-use Rattle.owed.specs.Owed.{beforeCap, raised, unforced, rate, ofSeller, shareOf, called, calls, shortfallOver, u, cap, daily, spent, charge, excess, e, creditLimit, B}
+use Rattle.owed.specs.Owed.{beforeCap, raised, unforced, rate, ofSeller, shareOf, called, calls, shortfallOver, u, cap, daily, spent, revenue, charge, excess, e, creditLimit, B}
 
 -- Year A, with registration 0 of this product and registration 1 of this seller. Events of these periods list these registrations, a test both, with
 -- reductions of v and 2,100. Registration 0 has so many clearings, of this price × kW and kW in all.
-abbrev withClearings : ℕ → ℕ → ℕ → ℕ → ℕ → List ℕ → List Bool → ℕ → Facts
-withClearings clearings value kw product seller periods listed v =
+abbrev cleared : ℕ → ℕ → ℕ → ℕ → ℕ → List ℕ → List Bool → ℕ → Facts
+cleared clearings value kw product seller periods listed v =
     record {
       leap = 0;
       factor = 9500;
@@ -40,7 +40,7 @@ withClearings clearings value kw product seller periods listed v =
     }
 
 abbrev yearA : ℕ → ℕ → List ℕ → List Bool → ℕ → Facts
-yearA = withClearings 0 0 0
+yearA = cleared 0 0 0
 
 -- with one on-peak event of both registrations
 abbrev A : Facts
@@ -90,15 +90,15 @@ unfolding sumTo share ofSeller shareOf excess e
 excess-figure = refl
 
 -- A with such clearings of registration 0
-abbrev cleared : ℕ → ℕ → ℕ → Facts
-cleared clearings value kw = withClearings clearings value kw limited 1 (1 ∷ []) (true ∷ true ∷ []) 600
+abbrev clearedA : ℕ → ℕ → ℕ → Facts
+clearedA clearings value kw = cleared clearings value kw limited 1 (1 ∷ []) (true ∷ true ∷ []) 600
 
 -- clearings of 1 kW at 100 and 3 kW at 201 give 703 / 4, rounded down (the plain average would be 150, the last alone 201); one of 5 kW at 0 gives 0 though the field says
--- 10,000; without a clearing it is the field. At 175 a day costs 410 × 175 / 2, the cap is 1,026 × 175, B is 175, and 200 kW of excess are credited at
+-- 10,000; without a clearing it is the field. At 175 a day costs 410 × 175 / 2, the cap is 1,026 × 175 and revenue to the end of June 30 times that, B is 175, and 200 kW of excess are credited at
 -- most 200 × 175 / 5 a day: 30 days of these are 210 cents.
-clearing-figures : (rate (cleared 2 (1 * 100 + 3 * 201) (1 + 3)) 0 ≡ 175) × (rate (cleared 1 0 5) 0 ≡ 0) × (rate A 0 ≡ 10000)
-    × (daily (cleared 2 703 4) 0 0 0 ≡ 35875) × (cap (cleared 2 703 4) 0 ≡ 179550)
-    × (B (withClearings 2 703 4 limited 1 [] [] 600) 0 0 ≡ 175)
-    × (creditLimit (withClearings 2 703 4 limited 1 (1 ∷ []) (true ∷ true ∷ []) 1200) 1 0 0 ≡ 210)
-unfolding sumTo anyTo convert days share beforeCap unforced rate ofSeller shareOf called calls shortfallOver u cap daily spent excess e creditLimit B
-clearing-figures = (refl, refl, refl, refl, refl, refl, refl)
+clearing-figures : (rate (clearedA 2 (1 * 100 + 3 * 201) (1 + 3)) 0 ≡ 175) × (rate (clearedA 1 0 5) 0 ≡ 0) × (rate A 0 ≡ 10000)
+    × (daily (clearedA 2 703 4) 0 0 0 ≡ 35875) × (cap (clearedA 2 703 4) 0 ≡ 179550) × (revenue (clearedA 2 703 4) 1 0 ≡ 5386500)
+    × (B (cleared 2 703 4 limited 1 [] [] 600) 0 0 ≡ 175)
+    × (creditLimit (cleared 2 703 4 limited 1 (1 ∷ []) (true ∷ true ∷ []) 1200) 1 0 0 ≡ 210)
+unfolding sumTo anyTo convert days share beforeCap unforced rate ofSeller shareOf called calls shortfallOver u cap daily spent revenue excess e creditLimit B
+clearing-figures = (refl, refl, refl, refl, refl, refl, refl, refl)

@@ -41,7 +41,7 @@ pub record Limits (F : Facts) : Type 0 where
   pub once : (i : ℕ) → i < registrations → sumTo places (λ p. cond (F .tested p i) 1 0) ≤ 1
 
 -- a rate is at most what a field and each price can be
-rate-le : (F : Facts) (i : ℕ) → F .fieldRate i ≤ 100000 → F .clearedValue i ≤ 100000 * F .clearedKw i → rate F i ≤ 100000
+pub rate-le : (F : Facts) (i : ℕ) → F .fieldRate i ≤ 100000 → F .clearedValue i ≤ 100000 * F .clearedKw i → rate F i ≤ 100000
 unfolding rate
 rate-le F i f v = go (ltb 0 (F .clearings i))
   where

@@ -200,9 +200,9 @@ fn clearing_number(year: &Cells, c: ClearingHead) -> u64
         return joining;
     }
     let registration = cells::registration_at(year, c.registration as usize);
-    let cleared = cells::clearings_at(year, c.registration as usize);
+    let clearings = cells::clearings_at(year, c.registration as usize);
     let known = registration.known;
-    let few = cleared.count < 4;
+    let few = clearings.count < 4;
     first_failed(known, 10, few, 17)
 }
 

@@ -18,7 +18,7 @@ use Rattle.year.specs.declared.Event.{Event}
 use Rattle.year.specs.declared.Amounts.{Amounts}
 use Rattle.year.specs.declared.Year.{Year}
 use Rattle.year.specs.Year.{clearingsOf, pastTest}
-use Rattle.year.specs.Steps.{withOpening, withRegistration, withLse, clearedBy, withClearing, withEvent, withTest, withClose}
+use Rattle.year.specs.Steps.{withOpening, withRegistration, withLse, withClearing, withEvent, withTest, withClose}
 use Rattle.year.specs.Sound.{SoundTest, SoundAmounts, Sound}
 use Rattle.cells.specs.Rows.{Laid, laid-on, Same, same-on, same-in, same-before, same-behind, rows-laid, cells-laid, numbers-kept, numbers-anew}
 use Rattle.cells.specs.Layout.{flag, registrationAt, listingAt, eventAt, cellRegistrations, cellObligations, cellTerms, cellEvents, cellTests, cellBilled, cellClearings, yearIn, Held}
