@@ -93,9 +93,9 @@ excess-figure = refl
 abbrev clearedA : ℕ → ℕ → ℕ → Facts
 clearedA clearings value kw = cleared clearings value kw limited 1 (1 ∷ []) (true ∷ true ∷ []) 600
 
--- clearings of 1 kW at 100 and 3 kW at 201 give 703 / 4, rounded down (the plain average would be 150, the last alone 201); one of 5 kW at 0 gives 0 though the field says
--- 10,000; without a clearing it is the field. At 175 a day costs 410 × 175 / 2, the cap is 1,026 × 175 and revenue to the end of June 30 times that, B is 175, and 200 kW of excess are credited at
--- most 200 × 175 / 5 a day: 30 days of these are 210 cents.
+-- clearings of 1 kW at 100 and 3 kW at 201 give 703 / 4, rounded down (the plain average would be 150, the last alone 201); one of 5 kW at 0
+-- gives 0 though the field says 10,000; without a clearing it is the field. At 175 a day costs 410 × 175 / 2, the cap is 1,026 × 175, revenue to
+-- the end of June 30 times that, B is 175, and 200 kW of excess are credited at most 200 × 175 / 5 a day: 30 days of these are 210 cents.
 clearing-figures : (rate (clearedA 2 (1 * 100 + 3 * 201) (1 + 3)) 0 ≡ 175) × (rate (clearedA 1 0 5) 0 ≡ 0) × (rate A 0 ≡ 10000)
     × (daily (clearedA 2 703 4) 0 0 0 ≡ 35875) × (cap (clearedA 2 703 4) 0 ≡ 179550) × (revenue (clearedA 2 703 4) 1 0 ≡ 5386500)
     × (B (cleared 2 703 4 limited 1 [] [] 600) 0 0 ≡ 175)
