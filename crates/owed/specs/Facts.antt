@@ -68,7 +68,7 @@ module _ (y : Year) where
         seller = year.seller (y .terms);
         product = year.product (y .terms);
         committed = year.committed (y .terms);
-        fieldRate = year.rate (y .terms);
+        fieldRate = year.fieldRate (y .terms);
         clearings = λ i. year.clearingsOf y i .count;
         clearedValue = λ i. year.clearingsOf y i .value;
         clearedKw = λ i. year.clearingsOf y i .kw;

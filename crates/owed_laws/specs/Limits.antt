@@ -17,7 +17,7 @@ use Rattle.year.specs.declared.Year.{Year}
 use Rattle.year.specs.Year.{pastListing, pastEvent, pastTest, zone, product, obligation}
 use Rattle.year.specs.Year as year
 use Rattle.year.specs.Sound.{SoundListing, AtMost, Sound}
-use Rattle.year.specs.Limits.{each-anywhere, clearings-sound, seller-below, zone-below, product-below, committed-most, committed-blank, rate-most, reduction-most}
+use Rattle.year.specs.Limits.{each-anywhere, clearings-sound, seller-below, zone-below, product-below, committed-most, committed-blank, field-rate-most, reduction-most}
 use Rattle.owed.specs.Facts.{Facts, factsOf, registrations, sellers, places}
 use Rattle.owed.specs.Owed.{rate}
 
@@ -103,7 +103,7 @@ module _ {y : Year} (S : Sound y) where
         seller = seller-below (S .terms);
         product = product-below (S .terms);
         committed = committed-most (S .terms);
-        rate = λ i. rate-le (factsOf y) i (rate-most (S .terms) i) (clearings-sound S i .value);
+        rate = λ i. rate-le (factsOf y) i (field-rate-most (S .terms) i) (clearings-sound S i .value);
         blank = committed-blank (S .terms);
         obligation = obligation-most;
         events = S .held;

@@ -10,7 +10,7 @@ use Rattle.ids.specs.Each.{Each}
 use Rattle.year.specs.declared.Listing.{Listing}
 use Rattle.year.specs.declared.Terms.{Terms}
 use Rattle.year.specs.declared.Year.{Year}
-use Rattle.year.specs.Year.{registration, clearingsOf, known, seller, zone, product, committed, rate, size, lses, reduction}
+use Rattle.year.specs.Year.{registration, clearingsOf, known, seller, zone, product, committed, fieldRate, size, lses, reduction}
 use Rattle.year.specs.Sound.{SoundRegistration, SoundClearings, AtMost, SoundListing, SoundTerms, Sound}
 use Rattle.year.specs.Kept.{sound-no-registration, sound-no-clearings}
 
@@ -48,9 +48,9 @@ module _ {T : Terms} (s : SoundTerms T) where
   unfolding known committed
   committed-blank i e = registration-sound i .blank e
 
-  pub rate-most : (i : ℕ) → rate T i ≤ 100000
-  unfolding rate
-  rate-most i = registration-sound i .rate
+  pub field-rate-most : (i : ℕ) → fieldRate T i ≤ 100000
+  unfolding fieldRate
+  field-rate-most i = registration-sound i .rate
 
   pub size-is : size T ≡ 64
   size-is = s .registrations .long

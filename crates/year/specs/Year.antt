@@ -92,8 +92,8 @@ module _ (T : Terms) where
   unfoldable pub committed : ℕ → ℕ
   committed i = registration i .committed .0
 
-  unfoldable pub rate : ℕ → ℕ
-  rate i = registration i .rate
+  unfoldable pub fieldRate : ℕ → ℕ
+  fieldRate i = registration i .rate
 
   -- the obligation of LSE j, 0 where it is not known
   unfoldable pub obligation : ℕ → ℕ

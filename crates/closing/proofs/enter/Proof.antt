@@ -4,7 +4,7 @@ use mathlib.Core.Path.{ap}
 use native.Mathlib.Omega.{arith}
 use native.Mathlib.Nat.{mul-le-mul}
 use borrow.Author.Needs.{needs}
-use Rattle.year.specs.Year.{seller, zone, product, committed, rate}
+use Rattle.year.specs.Year.{seller, zone, product, committed, fieldRate}
 use Rattle.year.specs.Sound.{SoundRegistration}
 use Rattle.cells.specs.Layout.{placeIn}
 use Rattle.owed.specs.Owed.{cap}
@@ -18,7 +18,7 @@ sound : (s : tie.Start) → SoundRegistration (s .args .r)
 sound s = rw (s .pre .2) (s .pre .0 .sound .terms .registrations .at (s .args .i) (s .pre .1))
 
 rate-of-requires : tie.Need-rate-of-requires
-unfolding rate
+unfolding fieldRate
 rate-of-requires c κs =
     let s = c .before .before in
     (s .pre .0, (s .pre .1, ap (λ r. r .rate) (s .pre .2)))
@@ -32,7 +32,7 @@ mul-cap c =
     record { fits = omega (arith, mul-le-mul all rate, mul-le-mul all (sound s .rate)) }
 
 returns : tie.Need-returns
-unfolding seller zone product committed rate placeIn cap
+unfolding seller zone product committed placeIn cap
 returns c =
     let s = c .before .before .before .before .before .before .before .before .before .before .before .before .before .before .before .before .before .before in
     let r = s .pre .2 in
