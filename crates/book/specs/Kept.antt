@@ -26,8 +26,8 @@ use Rattle.owed_laws.specs.Limits.{limits}
 use Rattle.owed_laws.specs.Totals.{sound-amounts}
 use Rattle.entries.specs.Entries.{inGroup, everyListed}
 use Rattle.recorded.specs.After.{registrationOf, eventOf, testOf, yearBy, yearWith}
-use Rattle.questions.specs.Questions.{inTime, questions}
-use Rattle.questions.specs.Admitted.{Admitted, admitted, registration-fresh, event-held, test-group, test-free, clearings-few, not-finished, next-month}
+use Rattle.questions.specs.Questions.{inTime, q7, questions}
+use Rattle.questions.specs.Admitted.{Admitted, admitted, not-started, event-held, test-group, test-free, clearings-few, not-finished, next-month}
 use Rattle.book.specs.Outcome.{recordIn, postNumber, yearAfter}
 use Rattle.book.specs.Numbers.{all-passed}
 use Rattle.book.specs.Made.{within, permits}
@@ -55,10 +55,10 @@ own-place {T} s l z p e i m t =
 
 module _ {y : Year} (s : Sound y) where
   pub suits : {l : Listing} → SoundListing l → {room : ℕ} (h : Head) → Within h → Admitted inTime y (record { head = h; listing = l }) room → Suits y l h
-  unfolding Suits Within
+  unfolding Suits Within q7
   suits sl (Opening o) w a = w
   suits sl (Registration r) w a =
-      (registration-fresh a, w .id, record { seller = w .seller; area = w .area; zone = w .zone; product = w .product; committed = w .committed; rate = w .rate; blank = λ q. absurd (let z : _≡_ {A = ℕ} 0 1 = cc in omega arith) })
+      (not-started refl a, w .id, record { seller = w .seller; area = w .area; zone = w .zone; product = w .product; committed = w .committed; rate = w .rate; blank = λ q. absurd (let z : _≡_ {A = ℕ} 0 1 = cc in omega arith) })
   suits sl (Lse j) w a = (w .id, w .obligation)
   suits sl (Event e) w a = (event-held a, record { month = w; listing = sl })
   suits {l} sl (Test t) w a =

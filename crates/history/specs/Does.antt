@@ -17,18 +17,16 @@ use Rattle.year.specs.declared.Year.{Year}
 use Rattle.year.specs.Year.{noClearings, listed, known, area, zone, product, obligation, size, lses}
 use Rattle.year.specs.Steps.{withTerms, clearedBy}
 use Rattle.heads.specs.declared.OpeningHead.{OpeningHead}
-use Rattle.heads.specs.declared.LseHead.{LseHead}
 use Rattle.heads.specs.declared.EventHead.{EventHead}
 use Rattle.heads.specs.declared.TestHead.{TestHead}
 use Rattle.heads.specs.declared.CloseHead.{CloseHead}
-use Rattle.heads.specs.declared.ClearingHead.{ClearingHead}
 use Rattle.heads.specs.declared.Head.{Head}
 use Rattle.heads.specs.declared.Head.the-variants as head
 use Rattle.heads.specs.Record.{isClose}
 use Rattle.recorded.specs.After.{registrationOf, yearBy}
 use Rattle.questions.specs.Questions.{inTime, q6, q7, q8, q10}
 use Rattle.entries.specs.Entries.{inArea, inGroup, everyListed, deficitsListed}
-use Rattle.questions.specs.Admitted.{Admitted, registration-fresh, test-group}
+use Rattle.questions.specs.Admitted.{Admitted, not-started, test-group}
 
 -- is each listed registration known
 abbrev pub Knows : Terms → Listing → Type 0
@@ -80,14 +78,6 @@ module _ {y : Year} {l : Listing} {room : ℕ} where
       go false h q = refl
       go true h q = absurd (let z : _≡_ {A = ℕ} 0 1 = cc (h refl) in omega arith)
 
-  unobliged : {j : LseHead} → Admitted inTime y (record { head = head.Lse j; listing = l }) room → y .started ≡ false
-  unfolding q7
-  unobliged a = not-true (y .started) (a .seven)
-
-  uncleared : {c : ClearingHead} → Admitted inTime y (record { head = head.Clearing c; listing = l }) room → y .started ≡ false
-  unfolding q7
-  uncleared a = not-true (y .started) (a .seven)
-
   -- an event, a test and a close are of a year that is opened; what they list is known, and a close has an LSE to credit
   module _ {e : EventHead} (a : Admitted inTime y (record { head = head.Event e; listing = l }) room) where
     pub event-open : y .opened ≡ true
@@ -121,7 +111,7 @@ module _ {y : Year} {l : Listing} {room : ℕ} where
         (and-parts (anyTo (size (y .terms)) (known (y .terms))) (anyTo (lses (y .terms)) (λ j. ltb 0 (obligation (y .terms) j))) (a .eight) .1)
 
 pub does : (h : Head) → Does h
-unfolding yearBy
+unfolding yearBy q7
 does (head.Opening o) =
     terms
     (record {
@@ -139,7 +129,7 @@ does (head.Registration r) =
       new = λ T. record { leap = T .leap; factor = T .factor; requirement = T .requirement; registrations = set (T .registrations) (r .id) (registrationOf r); obligations = T .obligations };
       clearings = λ cs. cs;
       is = λ y l. refl;
-      fresh = λ b a. registration-fresh a;
+      fresh = λ b a. not-started refl a;
       other = refl;
     })
 does (head.Lse j) =
@@ -149,7 +139,7 @@ does (head.Lse j) =
       new = λ T. record { leap = T .leap; factor = T .factor; requirement = T .requirement; registrations = T .registrations; obligations = set (T .obligations) (j .id) (j .obligation) };
       clearings = λ cs. cs;
       is = λ y l. refl;
-      fresh = λ b a. unobliged a;
+      fresh = λ b a. not-started refl a;
       other = refl;
     })
 does (head.Event e) = event e refl
@@ -162,6 +152,6 @@ does (head.Clearing c) =
       new = λ T. T;
       clearings = λ cs. set cs (c .registration) (clearedBy (getD cs (c .registration) noClearings) (c .price) (c .kw));
       is = λ y l. refl;
-      fresh = λ b a. uncleared a;
+      fresh = λ b a. not-started refl a;
       other = refl;
     })

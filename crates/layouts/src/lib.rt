@@ -1,10 +1,8 @@
 // The record layouts as tables, a row a kind, and what the code looks up in them.
 ghost use mathlib.Core.Path.{_≡_};
-ghost use mathlib.Core.Bool.{true};
-ghost use Prim.Native.Nat.{_+_, _*_, _≤_, _<_};
+ghost use Prim.Native.Nat.{_≤_, _<_};
 ghost use lib.ListN.{length};
-ghost use Rattle.bits.specs.Table.{total};
-ghost use Rattle.layouts.specs.Layout.{layouts, head, lists, rulesFor, widths, longestRecord};
+ghost use Rattle.layouts.specs.Layout.{layouts, lists, widths};
 ghost use Rattle.layouts.specs.Parts.{startOf, kinds, parts, rules, lows, highs, rowOf, rowAt, Placed};
 
 pub mod shapes;

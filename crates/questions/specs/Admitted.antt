@@ -1,7 +1,7 @@
 -- What a record that passes questions 6 to 17 has: each question's yes, and what it says of the year.
 use Prim.Native.Nat.{ℕ, _+_, _≤_, _<_}
-use mathlib.Core.Path.{_≡_}
-use mathlib.Core.Bool.{Bool, true, false}
+use mathlib.Core.Path.{_≡_, sym, _∙_}
+use mathlib.Core.Bool.{Bool, true, false, not}
 use lib.Dec.{ltb}
 use lib.ListN.{getD}
 use borrow.Author.Tests.{not-true, ltb-true, leb-true, eqb-true}
@@ -11,12 +11,11 @@ use Rattle.records.specs.Accepted.{passed}
 use Rattle.year.specs.declared.Listing.{Listing}
 use Rattle.year.specs.declared.Year.{Year}
 use Rattle.year.specs.Year.{clearingsOf, pastTest, testPlace}
-use Rattle.heads.specs.declared.RegistrationHead.{RegistrationHead}
 use Rattle.heads.specs.declared.EventHead.{EventHead}
 use Rattle.heads.specs.declared.TestHead.{TestHead}
 use Rattle.heads.specs.declared.CloseHead.{CloseHead}
 use Rattle.heads.specs.declared.ClearingHead.{ClearingHead}
-use Rattle.heads.specs.declared.Head.the-variants.{Registration, Event, Test, Close, Clearing}
+use Rattle.heads.specs.declared.Head.the-variants.{Event, Test, Close, Clearing}
 use Rattle.heads.specs.Record.{Record}
 use Rattle.entries.specs.Entries.{inGroup, everyListed, deficitsListed}
 use Rattle.questions.specs.Questions.{q6, q7, q8, q9, q10, q17, q11, q12, q13, q14, q15, q16, questions}
@@ -54,11 +53,11 @@ admitted rule y r room e =
     let p16 = passed 15 (q16 room h) _ (p15 .1) in
     record { six = p6 .0; seven = p7 .0; eight = p8 .0; nine = p9 .0; ten = p10 .0; seventeen = p17 .0; eleven = p11 .0; twelve = p12 .0; thirteen = p13 .0; fourteen = p14 .0; fifteen = p15 .0; sixteen = p16 .0 }
 
-module _ {rule : ℕ → ℕ → Bool} {y : Year} {l : Listing} {room : ℕ} where
-  pub registration-fresh : {r : RegistrationHead} → Admitted rule y (record { head = Registration r; listing = l }) room → y .started ≡ false
-  unfolding q7
-  registration-fresh a = not-true (y .started) (a .seven)
+-- what question 7 is put to comes before the first event, test or close
+pub not-started : {rule : ℕ → ℕ → Bool} {y : Year} {r : Record} {room : ℕ} → q7 y (r .head) ≡ not (y .started) → Admitted rule y r room → y .started ≡ false
+not-started {y = y} e a = not-true (y .started) (sym e ∙ a .seven)
 
+module _ {rule : ℕ → ℕ → Bool} {y : Year} {l : Listing} {room : ℕ} where
   pub event-held : {e : EventHead} → Admitted rule y (record { head = Event e; listing = l }) room → y .held < 16
   unfolding q12
   event-held a = ltb-true (y .held) 16 (a .twelve)

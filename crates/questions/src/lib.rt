@@ -1,6 +1,6 @@
 // Questions 6 to 17, put to a year and a record: a function for each kind, in the order of the list.
 ghost use mathlib.Core.Path.{_≡_};
-ghost use mathlib.Core.Bool.{not, _&&_};
+ghost use mathlib.Core.Bool.{not, _&&_, cond};
 ghost use mathlib.Core.List.{[], _∷_};
 ghost use Prim.Native.Nat.{ℕ, _+_, _≤_, max};
 ghost use lib.Dec.{leb, ltb};
@@ -44,9 +44,9 @@ fn has_parties(year: &Cells) -> bool
     any_registration(year) && any_lse(year)
 }
 
-// Questions 6, 7 and 9 of a registration or an LSE.
-fn joining_number(year_open: bool, late: bool, known: bool) -> u64
-    ensures { λ r. ⌜ r ≡ firstFailed ((6, year_open) ∷ (7, not late) ∷ (9, not known) ∷ []) ⌝ }
+// Questions 6 and 7 of a registration, an LSE or a clearing, and behind them the number of what else it is asked.
+fn joining_number(year_open: bool, late: bool, later: u64) -> u64
+    ensures { λ r. ⌜ r ≡ cond year_open (cond (not late) later 7) 6 ⌝ }
 {
     if !year_open {
         return 6;
@@ -54,7 +54,14 @@ fn joining_number(year_open: bool, late: bool, known: bool) -> u64
     if late {
         return 7;
     }
-    if known { 9 } else { 0 }
+    later
+}
+
+// Question 9.
+fn id_number(taken: bool) -> u64
+    ensures { λ r. ⌜ r ≡ firstFailed ((9, not taken) ∷ []) ⌝ }
+{
+    if taken { 9 } else { 0 }
 }
 
 // Of a registration.
@@ -63,7 +70,8 @@ fn registration_number(year: &Cells, r: RegistrationHead) -> u64
     ensures { λ n. ⌜ ((l : Listing) (room : ℕ) → n ≡ firstFailed (questions inTime (yearIn (now (year .entry))) (record { head = Head.Registration r; listing = l }) room)) ⌝ }
 {
     let old = cells::registration_at(year, r.id as usize);
-    joining_number(is_open(year), cells::started(year), old.known)
+    let later = id_number(old.known);
+    joining_number(is_open(year), cells::started(year), later)
 }
 
 // Of an LSE.
@@ -72,7 +80,8 @@ fn lse_number(year: &Cells, j: LseHead) -> u64
     ensures { λ n. ⌜ ((l : Listing) (room : ℕ) → n ≡ firstFailed (questions inTime (yearIn (now (year .entry))) (record { head = Head.Lse j; listing = l }) room)) ⌝ }
 {
     let obligation = cells::obligation_of(year, j.id as usize);
-    joining_number(is_open(year), cells::started(year), obligation != 0)
+    let later = id_number(obligation != 0);
+    joining_number(is_open(year), cells::started(year), later)
 }
 
 // The first month with which events of a month are no longer taken.
@@ -190,20 +199,17 @@ fn first_failed(first: bool, number: u64, second: bool, other: u64) -> u64
     if second { 0 } else { other }
 }
 
-// Of a clearing, which has no id that could be taken.
+// Of a clearing.
 fn clearing_number(year: &Cells, c: ClearingHead) -> u64
     requires { ⌜ ClearingWithin c ⌝ }
     ensures { λ n. ⌜ ((l : Listing) (room : ℕ) → n ≡ firstFailed (questions inTime (yearIn (now (year .entry))) (record { head = Head.Clearing c; listing = l }) room)) ⌝ }
 {
-    let joining = joining_number(is_open(year), cells::started(year), false);
-    if joining != 0 {
-        return joining;
-    }
     let registration = cells::registration_at(year, c.registration as usize);
     let clearings = cells::clearings_at(year, c.registration as usize);
     let known = registration.known;
     let few = clearings.count < 4;
-    first_failed(known, 10, few, 17)
+    let later = first_failed(known, 10, few, 17);
+    joining_number(is_open(year), cells::started(year), later)
 }
 
 // The number of the first question from 6 on that fails, or 0. The listing is a row by id.

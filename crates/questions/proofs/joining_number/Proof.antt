@@ -1,24 +1,16 @@
 -- `joining_number` meets its contract.
 use borrow.Author.Tests.{not-true, not-false}
-use Rattle.layouts.specs.Questions.{firstFailed}
 use Rattle.questions.proofs.joining_number.Statement.{statement}
 use Rattle.questions.proofs.joining_number.Tie as tie
 
 returns : tie.Need-returns
-unfolding firstFailed
 returns c = rw (not-true (c .before .args .year-open) (c .if1 .taken))
 
 returns-2 : tie.Need-returns-2
-unfolding firstFailed
 returns-2 c = rw (not-false (c .before .before .args .year-open) (c .before .if1 .left), c .if2 .taken)
 
 returns-3 : tie.Need-returns-3
-unfolding firstFailed
-returns-3 c = rw (not-false (c .before .before .before .args .year-open) (c .before .before .if1 .left), c .before .if2 .left, c .if3 .taken)
-
-returns-4 : tie.Need-returns-4
-unfolding firstFailed
-returns-4 c = rw (not-false (c .before .before .before .args .year-open) (c .before .before .if1 .left), c .before .if2 .left, c .if3 .left)
+returns-3 c = rw (not-false (c .before .before .args .year-open) (c .before .if1 .left), c .if2 .left)
 
 pub joining-number-spec : {M : Type 1} → statement M
-joining-number-spec = tie.close (tie.spec returns returns-2 returns-3 returns-4)
+joining-number-spec = tie.close (tie.spec returns returns-2 returns-3)
