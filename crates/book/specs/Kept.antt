@@ -58,7 +58,7 @@ module _ {y : Year} (s : Sound y) where
   unfolding Suits Within q7
   suits sl (Opening o) w a = w
   suits sl (Registration r) w a =
-      (not-started refl a, w .id, record { seller = w .seller; area = w .area; zone = w .zone; product = w .product; committed = w .committed; rate = w .rate; blank = λ q. absurd (let z : _≡_ {A = ℕ} 0 1 = cc in omega arith) })
+      (not-started refl a, w .id, record { seller = w .seller; area = w .area; zone = w .zone; product = w .product; committed = w .committed; rate = w .rate; some = λ q. w .some; blank = λ q. absurd (let z : _≡_ {A = ℕ} 0 1 = cc in omega arith) })
   suits sl (Lse j) w a = (w .id, w .obligation)
   suits sl (Event e) w a = (event-held a, record { month = w; listing = sl })
   suits {l} sl (Test t) w a =

@@ -39,7 +39,7 @@ module _ (bytes : List ℕ) (a : Accepted bytes) where
       either Within (eqb k 1) (λ e. let o = records.opening bytes a (kind-is 1 (eqb-true k 1 e)) in record { leap = o .leap; factor = o .factor .1; requirement = o .requirement .1 })
       (λ _. either Within (eqb k 2) (λ e.
       let r = records.registration bytes a (kind-is 2 (eqb-true k 2 e)) in
-      record { id = r .id; seller = r .seller; area = r .area; zone = r .zone; product = omega (arith, r .product); committed = r .committed .1; rate = r .rate })
+      record { id = r .id; seller = r .seller; area = r .area; zone = r .zone; product = omega (arith, r .product); some = r .committed .0; committed = r .committed .1; rate = r .rate })
       (λ _. either Within (eqb k 3) (λ e. let j = records.lse bytes a (kind-is 3 (eqb-true k 3 e)) in record { id = j .id; obligation = j .obligation .1 })
       (λ _. either Within (eqb k 4) (λ e. records.event bytes a (kind-is 4 (eqb-true k 4 e)) .month .1)
       (λ _. either Within (eqb k 5) (λ e. let t = records.test bytes a (kind-is 5 (eqb-true k 5 e)) in record { zone = t .zone; product = omega (arith, t .product) })

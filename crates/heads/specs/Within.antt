@@ -14,6 +14,7 @@ pub record RegistrationWithin (r : RegistrationHead) : Type 0 where
   pub area : r .area < 8
   pub zone : r .zone < 8
   pub product : r .product < 3
+  pub some : 1 ≤ r .committed
   pub committed : r .committed ≤ 100000
   pub rate : r .rate ≤ 100000
 

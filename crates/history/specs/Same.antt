@@ -21,7 +21,7 @@ use Rattle.year.specs.Year.{newYear, noTest, pastEvent, pastTest, listed, reduc
 use Rattle.year.specs.Steps.{withTerms, withEvent, withTest, withClose}
 use Rattle.year.specs.Sound.{Sound}
 use Rattle.owed.specs.Facts.{factsOf, sellers}
-use Rattle.owed.specs.Owed.{rate, called, compliance, test, amounts}
+use Rattle.owed.specs.Owed.{own, ofArea, areaRate, rate, called, compliance, test, amounts}
 use Rattle.owed_laws.specs.Independent as independent
 
 -- what two records list is the same but for the reductions of seller s's registrations
@@ -77,7 +77,7 @@ module _ {s : ℕ} {y z : Year} (h : Same s y z) where
 
   -- their facts agree in what is another seller's
   same-facts : (r : ℕ) → (r ≡ s → ⊥) → independent.Same r (factsOf y) (factsOf z)
-  unfolding listed deficit rate
+  unfolding listed deficit own ofArea areaRate rate
   same-facts r n =
       record {
         leap = rw (h .terms);

@@ -16,6 +16,7 @@ pub record Facts : Type 0 where
   -- registration i
   pub known : ℕ → Bool
   pub seller : ℕ → ℕ
+  pub area : ℕ → ℕ
   pub product : ℕ → ℕ
   pub committed : ℕ → ℕ
   pub fieldRate : ℕ → ℕ
@@ -66,6 +67,7 @@ module _ (y : Year) where
         requirement = y .terms .requirement;
         known = year.known (y .terms);
         seller = year.seller (y .terms);
+        area = year.area (y .terms);
         product = year.product (y .terms);
         committed = year.committed (y .terms);
         fieldRate = year.fieldRate (y .terms);

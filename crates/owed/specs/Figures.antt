@@ -1,4 +1,4 @@
--- Figures of the definitions: document 01's starred ones in one table, those of document 02's C-11, and more that were worked by hand.
+-- Figures of the definitions: document 01's starred ones in one table, those of document 02's C-11 and C-12, and more that were worked by hand.
 use Prim.Native.Nat.{ℕ, _+_, _*_}
 use mathlib.Core.List.{List, [], _∷_}
 use mathlib.Core.Bool.{Bool, true, false}
@@ -9,21 +9,23 @@ use Rattle.units.specs.Units.{convert}
 use Rattle.calendar.specs.Calendar.{limited, annual, offPeak, days, due}
 use Rattle.allotment.specs.Allot.{share}
 use Rattle.owed.specs.Facts.{Facts}
-use Rattle.owed.specs.Owed.{beforeCap, raised, unforced, rate, ofSeller, shareOf, called, calls, shortfallOver, u, cap, daily, spent, revenue, charge, excess, e, creditLimit, B}
+use Rattle.owed.specs.Owed.{beforeCap, raised, unforced, own, ofArea, areaRate, rate, ofSeller, shareOf, called, calls, shortfallOver, u, cap, daily, spent, revenue, charge, excess, e, creditLimit, B}
 
--- Year A, with registration 0 of this product and registration 1 of this seller. Events of these periods list these registrations, a test both, with
--- reductions of v and 2,100. Registration 0 has so many clearings, of this price × kW and kW in all.
+-- Year A, with registration 0 of this product and registration 1 of this seller; registration 2, of 400 kW at 0, in their area, registration 3, at 0
+-- too, alone in another. Events of these periods list these registrations, a test all in the area, with reductions of v, 2,100 and v. Registration 0
+-- has so many clearings, of this price × kW and kW in all.
 abbrev cleared : ℕ → ℕ → ℕ → ℕ → ℕ → List ℕ → List Bool → ℕ → Facts
 cleared clearings value kw product seller periods listed v =
     record {
       leap = 0;
       factor = 9500;
       requirement = 10800;
-      known = holds (true ∷ true ∷ []);
-      seller = at (0 ∷ seller ∷ []);
-      product = at (product ∷ limited ∷ []);
-      committed = at (1000 ∷ 2000 ∷ []);
-      fieldRate = at (10000 ∷ 15000 ∷ []);
+      known = holds (true ∷ true ∷ true ∷ true ∷ []);
+      seller = at (0 ∷ seller ∷ 2 ∷ 3 ∷ []);
+      area = at (1 ∷ 1 ∷ 1 ∷ 2 ∷ []);
+      product = at (product ∷ limited ∷ limited ∷ limited ∷ []);
+      committed = at (1000 ∷ 2000 ∷ 400 ∷ 500 ∷ []);
+      fieldRate = at (10000 ∷ 15000 ∷ 0 ∷ 0 ∷ []);
       clearings = at (clearings ∷ []);
       clearedValue = at (value ∷ []);
       clearedKw = at (kw ∷ []);
@@ -32,10 +34,10 @@ cleared clearings value kw product seller periods listed v =
       month = λ ev. 1;
       period = at periods;
       listed = λ ev. holds listed;
-      reduction = λ ev. at (v ∷ 2100 ∷ []);
+      reduction = λ ev. at (v ∷ 2100 ∷ v ∷ []);
       deficit = λ ev s. 0;
-      tested = λ p. holds (true ∷ true ∷ []);
-      testReduction = λ p. at (v ∷ 2100 ∷ []);
+      tested = λ p. holds (true ∷ true ∷ true ∷ []);
+      testReduction = λ p. at (v ∷ 2100 ∷ v ∷ []);
       testDeficit = λ p s. 0;
     }
 
@@ -58,7 +60,7 @@ figures : (unforced A 400 ≡ 410)
     × (beforeCap offPeak 0 410 10000 ≡ 78846)
     × (u twin 0 0 ≡ 1026) × (u twin 1 0 ≡ 1026) × (cap twin 0 ≡ 10260000) × (spent twin 2 0 ≡ 10260000) × (spent twin 3 0 ≡ 10260000)
     × (due limited 1 ≡ 5) × (due limited 4 ≡ 7) × (due annual 12 ≡ 15)
-unfolding sumTo convert due share beforeCap unforced rate ofSeller shareOf calls shortfallOver u cap daily spent
+unfolding sumTo convert due share beforeCap unforced own ofArea areaRate rate ofSeller shareOf calls shortfallOver u cap daily spent
 figures =
     (refl, refl, refl, refl, refl, refl, refl, refl, refl, refl, refl, refl, refl, refl, refl, refl, refl, refl, refl, refl, refl)
 
@@ -75,13 +77,13 @@ raised-figures = (refl, refl)
 
 -- both registrations are seller 0's, and an event lists the second: B is the first's rate, 10,000. Over all entries of the test it would be 13,333.
 base-figure : B (yearA limited 0 (1 ∷ []) (false ∷ true ∷ []) 600) 0 0 ≡ 10000
-unfolding sumTo anyTo rate ofSeller called B
+unfolding sumTo anyTo own ofArea areaRate rate ofSeller called B
 base-figure = refl
 
 -- three on-peak events: n is 3 for the first of them too, and 1,366,666 × 183 / 1,000 is 250,099 from its due month on. Rounded to cents before, it would be 249,978.
 days-figure : (charge (yearA limited 1 (1 ∷ 1 ∷ 1 ∷ []) (true ∷ true ∷ []) 600) 6 0 0 ≡ 250099)
     × (charge (yearA limited 1 (1 ∷ 1 ∷ 1 ∷ []) (true ∷ true ∷ []) 600) 4 0 0 ≡ 0)
-unfolding sumTo convert days due share beforeCap unforced rate ofSeller shareOf calls shortfallOver u cap daily spent charge
+unfolding sumTo convert days due share beforeCap unforced own ofArea areaRate rate ofSeller shareOf calls shortfallOver u cap daily spent charge
 days-figure = (refl, refl)
 
 -- both registrations are seller 0's, and it is short: registration 1 has no excess, though it gives 100 more
@@ -94,11 +96,23 @@ abbrev clearedA : ℕ → ℕ → ℕ → Facts
 clearedA clearings value kw = cleared clearings value kw limited 1 (1 ∷ []) (true ∷ true ∷ []) 600
 
 -- clearings of 1 kW at 100 and 3 kW at 201 give 703 / 4, rounded down (the plain average would be 150, the last alone 201); one of 5 kW at 0
--- gives 0 though the field says 10,000; without a clearing it is the field. At 175 a day costs 410 × 175 / 2, the cap is 1,026 × 175, revenue to
+-- gives 0 of its own though the field says 10,000; without a clearing it is the field. At 175 a day costs 410 × 175 / 2, the cap is 1,026 × 175, revenue to
 -- the end of June 30 times that, B is 175, and 200 kW of excess are credited at most 200 × 175 / 5 a day: 30 days of these are 210 cents.
-clearing-figures : (rate (clearedA 2 (1 * 100 + 3 * 201) (1 + 3)) 0 ≡ 175) × (rate (clearedA 1 0 5) 0 ≡ 0) × (rate A 0 ≡ 10000)
+clearing-figures : (rate (clearedA 2 (1 * 100 + 3 * 201) (1 + 3)) 0 ≡ 175) × (own (clearedA 1 0 5) 0 ≡ 0) × (rate A 0 ≡ 10000)
     × (daily (clearedA 2 703 4) 0 0 0 ≡ 35875) × (cap (clearedA 2 703 4) 0 ≡ 179550) × (revenue (clearedA 2 703 4) 1 0 ≡ 5386500)
     × (B (cleared 2 703 4 limited 1 [] [] 600) 0 0 ≡ 175)
     × (creditLimit (cleared 2 703 4 limited 1 (1 ∷ []) (true ∷ true ∷ []) 1200) 1 0 0 ≡ 210)
-unfolding sumTo anyTo convert days share beforeCap unforced rate ofSeller shareOf called calls shortfallOver u cap daily spent revenue excess e creditLimit B
+unfolding sumTo anyTo convert days share beforeCap unforced own ofArea areaRate rate ofSeller shareOf called calls shortfallOver u cap daily spent revenue excess e creditLimit B
 clearing-figures = (refl, refl, refl, refl, refl, refl, refl, refl)
+
+-- 1,000 kW at 10,000 and 2,000 kW at 15,000 lend 40,000,000 / 3,000 to the third, rounded down; with its own 400 kW in the divisor it would be
+-- 11,764, with weights of 1 it would be 12,500. Alone in its area registration 3 stays at 0, and one that is not known has 0. Where registration 0's
+-- clearings come to 0 it borrows too, and registration 1 alone lends.
+-- At 13,333 a day without any reduction costs 410 × 13,333 / 2, the cap is 410 × 13,333, revenue to the end of June 30 times that, B is 13,333, and
+-- 200 kW of excess are credited at most 200 × 13,333 / 5 a day, 30 days of which are 15,999 cents.
+borrowed-figures : (rate A 2 ≡ 13333) × (rate A 3 ≡ 0) × (rate A 4 ≡ 0) × (rate (clearedA 1 0 5) 0 ≡ 15000) × (rate (clearedA 1 0 5) 2 ≡ 15000)
+    × (daily (yearA limited 1 (1 ∷ []) (false ∷ false ∷ true ∷ []) 0) 0 0 2 ≡ 2733265) × (cap A 2 ≡ 5466530) × (revenue A 1 2 ≡ 163995900)
+    × (B (yearA limited 1 [] [] 600) 0 2 ≡ 13333)
+    × (creditLimit (yearA limited 1 (1 ∷ []) (false ∷ false ∷ true ∷ []) 600) 1 0 2 ≡ 15999)
+unfolding sumTo anyTo convert days share beforeCap unforced own ofArea areaRate rate ofSeller shareOf called calls shortfallOver u cap daily spent revenue excess e creditLimit B
+borrowed-figures = (refl, refl, refl, refl, refl, refl, refl, refl, refl, refl)

@@ -1,4 +1,4 @@
--- What is owed (document 01, with document 02's C-11), in the document's order, over facts. Amounts are to date at month k; i is a registration, s a seller, j an LSE, ev an event, p the place of a test.
+-- What is owed (document 01, with document 02's C-11 and C-12), in the document's order, over facts. Amounts are to date at month k; i is a registration, s a seller, a an area, j an LSE, ev an event, p the place of a test.
 -- a - b is 0 where b is the larger, so "at least 0" is written as `-`; a / 0 is 0, so nothing is allotted where all weights are 0.
 -- A sum or an allotment over some registrations runs over all ids, in rising order, with 0 for the others.
 use Prim.Native.Nat.{ℕ, zero, suc, _+_, _-_, _*_, _/_, min, max}
@@ -32,9 +32,23 @@ module _ (F : Facts) where
   unfoldable pub unforced : ℕ → ℕ
   unforced a = convert (F .factor) (F .requirement) a
 
-  -- registration i's rate: of its clearings, where it has any, the average by kW, rounded down; else its field
+  -- registration i's own rate: of its clearings, where it has any, the average by kW, rounded down; else its field
+  unfoldable pub own : ℕ → ℕ
+  own i = cond (ltb 0 (F .clearings i)) (F .clearedValue i / F .clearedKw i) (F .fieldRate i)
+
+  -- an area's rate: the average of the own rates above 0 of its known registrations, by committed kW, rounded down
+  abbrev pub lends : ℕ → Bool
+  lends i = F .known i && ltb 0 (own i)
+
+  unfoldable pub ofArea : ℕ → (ℕ → ℕ) → ℕ
+  ofArea a f = sumTo registrations (keyed (F .area) f a)
+
+  unfoldable pub areaRate : ℕ → ℕ
+  areaRate a = ofArea a (only lends (λ i. F .committed i * own i)) / ofArea a (only lends (F .committed))
+
+  -- the rate in force: its own; where that is 0, its area's; 0 where it is not known
   unfoldable pub rate : ℕ → ℕ
-  rate i = cond (ltb 0 (F .clearings i)) (F .clearedValue i / F .clearedKw i) (F .fieldRate i)
+  rate i = cond (F .known i) (cond (ltb 0 (own i)) (own i) (areaRate (F .area i))) 0
 
   -- what f sums up to over seller s's registrations
   unfoldable pub ofSeller : ℕ → (ℕ → ℕ) → ℕ

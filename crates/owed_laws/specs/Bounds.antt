@@ -1,20 +1,21 @@
 -- Bounds of what the rules compute for one entry, one registration, one seller or one event, where the facts are within their limits.
 use Prim.Native.Nat.{ℕ, _*_, _-_, _/_, _≤_, _<_, _^_}
 use mathlib.Core.Bool.{Bool, true, false, cond}
-use mathlib.Core.Path.{refl}
+use mathlib.Core.Path.{_≡_, refl}
 use native.Mathlib.Omega.{arith}
 use native.Mathlib.Nat.{mul-le-mul, mul-le-mul-left, div-le-of-le-mul, div-mul-le-self, le-trans, le-refl}
-use lib.Dec.{eqb, leb}
-use borrow.Author.Tests.{eq-eqb}
+use lib.Dec.{eqb, leb, ltb}
+use borrow.Author.Tests.{ltb-true, eq-eqb}
 use Rattle.ids.specs.Ids.{sumTo, only, keyed}
-use Rattle.ids.specs.Sums.{sum-mul, sum-le, sum-bound}
+use Rattle.ids.specs.Sums.{sum-bound}
 use Rattle.ids.specs.Tests.{cond-le}
 use Rattle.units.specs.Units.{convert-scaled}
 use Rattle.calendar.specs.Calendar.{due, days-le}
 use Rattle.allotment.specs.Allot.{share-most}
 use Rattle.owed.specs.Facts.{Facts, registrations}
-use Rattle.owed.specs.Owed.{raised, D, unforced, rate, ofSeller, shareOf, shortfallOver, shortfall, lack, more, u, cap, daily, spent, charge, excess, e, creditLimit, creditOf, stands, testShortfall, B, testOf}
+use Rattle.owed.specs.Owed.{raised, D, unforced, own, areaRate, rate, ofSeller, shareOf, shortfallOver, shortfall, lack, more, u, cap, daily, spent, charge, excess, e, creditLimit, creditOf, stands, testShortfall, B, testOf}
 use Rattle.owed_laws.specs.Limits.{Limits}
+use Rattle.owed_laws.specs.Rates.{worth-most, area-rate-some}
 use Rattle.owed_laws.specs.Sellers.{ofSeller-le, net-is, excess-is}
 use Rattle.owed_laws.specs.Allotments.{e-allotted}
 
@@ -98,23 +99,20 @@ module _ {F : Facts} (L : Limits F) where
       let h : e F ev i * rate F i / 5 ≤ 2000000000 = omega (arith, mul-le-mul (e-le ev i) (L .rate i)) in
       omega (arith, mul-le-mul h (D-le k))
 
+  -- a rate is at least 1 where a registration of its area has one of its own
+  pub rate-some : (i j : ℕ) → F .known i ≡ true → F .area i ≡ F .area j → j < registrations → F .known j ≡ true → 1 ≤ own F j → 1 ≤ rate F i
+  unfolding rate
+  rate-some i j here same l there lent = rw (here, same) (go (ltb 0 (own F i)) refl)
+    where
+      go : (b : Bool) → ltb 0 (own F i) ≡ b → 1 ≤ cond b (own F i) (areaRate F (F .area j))
+      go true e = ltb-true 0 (own F i) e
+      go false e = area-rate-some F j l there lent (L .some j there)
+
   -- a test's base, at most the highest rate, its rate, and its charge
   pub worth-le : (p : ℕ → Bool) (s : ℕ)
       → ofSeller F s (only p (λ i. F .committed i * rate F i)) ≤ ofSeller F s (only p (F .committed)) * 100000
   unfolding ofSeller
-  worth-le p s =
-      let c : ℕ → ℕ = keyed (F .seller) (only p (F .committed)) s in
-      let w : ℕ → ℕ = keyed (F .seller) (only p (λ i. F .committed i * rate F i)) s in
-      omega (
-        arith,
-        sum-mul registrations c 100000,
-        sum-le registrations {f = w} {g = λ i. c i * 100000} (λ i l. go (eqb (F .seller i) s) (p i) (F .committed i) (L .rate i)),
-      )
-    where
-      go : (k b : Bool) (c : ℕ) {q : ℕ} → q ≤ 100000 → cond k (cond b (c * q) 0) 0 ≤ cond k (cond b c 0) 0 * 100000
-      go false b c h = omega arith
-      go true false c h = omega arith
-      go true true c h = mul-le-mul-left c h
+  worth-le p s = worth-most registrations (F .seller) (F .committed) (rate F) p s 100000 (L .rate)
 
   pub B-le : (p s : ℕ) → B F p s ≤ 100000
   unfolding B

@@ -1,4 +1,5 @@
 -- The laws of what is owed.
+pub mod Rates
 pub mod Limits
 pub mod Sellers
 pub mod Allotments

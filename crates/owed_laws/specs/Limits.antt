@@ -1,11 +1,11 @@
 -- Limits of the facts of a sound year, at every id.
-use Prim.Native.Nat.{ℕ, _+_, _*_, _/_, _≤_, _<_}
+use Prim.Native.Nat.{ℕ, _+_, _*_, _≤_, _<_}
 use mathlib.Core.Bool.{Bool, true, false, cond}
 use mathlib.Core.List.{List}
 use mathlib.Core.Path.{_≡_, refl}
 use native.Mathlib.Omega.{arith}
-use native.Mathlib.Nat.{le-trans, le-refl, le-of-eq, div-le-of-le-mul}
-use lib.Dec.{eqb, ltb, lit≤}
+use native.Mathlib.Nat.{le-trans, le-refl, le-of-eq}
+use lib.Dec.{eqb, lit≤}
 use lib.ListN.{length, getD}
 use borrow.Author.Tests.{eq-eqb}
 use Rattle.ids.specs.Ids.{sumTo}
@@ -17,18 +17,22 @@ use Rattle.year.specs.declared.Year.{Year}
 use Rattle.year.specs.Year.{pastListing, pastEvent, pastTest, zone, product, obligation}
 use Rattle.year.specs.Year as year
 use Rattle.year.specs.Sound.{SoundListing, AtMost, Sound}
-use Rattle.year.specs.Limits.{each-anywhere, clearings-sound, seller-below, zone-below, product-below, committed-most, committed-blank, field-rate-most, reduction-most}
+use Rattle.year.specs.Limits.{each-anywhere, clearings-sound, seller-below, area-below, zone-below, product-below, committed-most, committed-some, committed-blank, field-rate-most, reduction-most}
 use Rattle.owed.specs.Facts.{Facts, factsOf, registrations, sellers, places}
-use Rattle.owed.specs.Owed.{rate}
+use Rattle.owed.specs.Owed.{own, rate}
+use Rattle.owed_laws.specs.Rates.{own-le, rate-le}
 
 pub record Limits (F : Facts) : Type 0 where
   pub leap : F .leap ≤ 1
   pub factor : F .factor ≤ 12000
   pub requirement : F .requirement ≤ 12000
   pub seller : (i : ℕ) → F .seller i < sellers
+  pub area : (i : ℕ) → F .area i < 8
   pub product : (i : ℕ) → F .product i < 3
   pub committed : (i : ℕ) → F .committed i ≤ 100000
+  pub own : (i : ℕ) → own F i ≤ 100000
   pub rate : (i : ℕ) → rate F i ≤ 100000
+  pub some : (i : ℕ) → F .known i ≡ true → 1 ≤ F .committed i
   pub blank : (i : ℕ) → F .known i ≡ false → F .committed i ≡ 0
   pub obligation : (j : ℕ) → F .obligation j ≤ 1000000
   pub events : F .events ≤ 16
@@ -39,15 +43,6 @@ pub record Limits (F : Facts) : Type 0 where
   pub testDeficit : (p s : ℕ) → F .testDeficit p s ≤ 1000000
   -- no registration is in two tests
   pub once : (i : ℕ) → i < registrations → sumTo places (λ p. cond (F .tested p i) 1 0) ≤ 1
-
--- a rate is at most what a field and each price can be
-pub rate-le : (F : Facts) (i : ℕ) → F .fieldRate i ≤ 100000 → F .clearedValue i ≤ 100000 * F .clearedKw i → rate F i ≤ 100000
-unfolding rate
-rate-le F i f v = go (ltb 0 (F .clearings i))
-  where
-    go : (b : Bool) → cond b (F .clearedValue i / F .clearedKw i) (F .fieldRate i) ≤ 100000
-    go true = div-le-of-le-mul (F .clearedKw i) (omega (arith, v))
-    go false = f
 
 -- a listing's numbers, at every id
 record Within (l : Listing) : Type 0 where
@@ -94,6 +89,9 @@ module _ {y : Year} (S : Sound y) where
       go p true h = rw (eq-eqb (3 * zone (y .terms) i + product (y .terms) i) p (h refl)) (le-refl 1)
       go p false h = omega arith
 
+  own-most : (i : ℕ) → own (factsOf y) i ≤ 100000
+  own-most i = own-le (factsOf y) i (field-rate-most (S .terms) i) (clearings-sound S i .value)
+
   pub limits : Limits (factsOf y)
   limits =
       record {
@@ -101,9 +99,12 @@ module _ {y : Year} (S : Sound y) where
         factor = S .terms .factors .factor;
         requirement = S .terms .factors .requirement;
         seller = seller-below (S .terms);
+        area = area-below (S .terms);
         product = product-below (S .terms);
         committed = committed-most (S .terms);
-        rate = λ i. rate-le (factsOf y) i (field-rate-most (S .terms) i) (clearings-sound S i .value);
+        own = own-most;
+        rate = rate-le (factsOf y) own-most;
+        some = committed-some (S .terms);
         blank = committed-blank (S .terms);
         obligation = obligation-most;
         events = S .held;

@@ -1,10 +1,10 @@
--- Where the rows of the working table stand: by registration 64 places, by seller and by LSE 16.
+-- Where the rows of the working table stand: by registration 64 places, by seller and by LSE 16, by area 8.
 use Prim.Native.Nat.{ℕ}
 
 abbrev pub size : ℕ
-size = 960
+size = 1104
 
--- a registration's terms
+-- a registration's terms, its rate in force, and its cap
 abbrev pub sellerRow : ℕ
 sellerRow = 0
 
@@ -60,6 +60,19 @@ testRow = 864
 abbrev pub lseRow : ℕ
 lseRow = 880
 
--- the place of a registration's test
+-- the place of a registration's test, its own rate, and its area
 abbrev pub placeRow : ℕ
 placeRow = 896
+
+abbrev pub ownRow : ℕ
+ownRow = 960
+
+abbrev pub areaRow : ℕ
+areaRow = 1024
+
+-- what an area's registrations with a rate of their own committed, and what that is worth
+abbrev pub lentRow : ℕ
+lentRow = 1088
+
+abbrev pub worthRow : ℕ
+worthRow = 1096

@@ -33,11 +33,7 @@ fn rate_of(worth: u64, committed: Nominated) -> u64
     requires { ⌜ worth ≤ committed .0 * 100000 ⌝ }
     ensures { λ r. ⌜ r ≡ raised (worth / committed .0) ⌝ }
 {
-    let kw = committed.0;
-    if kw == 0 {
-        return 2000;
-    }
-    let base = worth / kw;
+    let base = committed.average(worth);
     let fifth = base / 5;
     if fifth < 2000 {
         base + 2000

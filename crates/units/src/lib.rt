@@ -1,6 +1,6 @@
 // Nominated and unforced kilowatts: two units, with conversion the only way across.
 ghost use mathlib.Core.Path.{_≡_};
-ghost use Prim.Native.Nat.{_*_, _-_, _≤_};
+ghost use Prim.Native.Nat.{_*_, _-_, _/_, _≤_};
 ghost use Rattle.units.specs.Units.{convert, nominatedLimit, unforcedLimit, factorLimit, most};
 
 // Kilowatts as nominated.
@@ -42,6 +42,16 @@ impl Nominated {
         } else {
             Nominated(0)
         }
+    }
+
+    // What one of these kilowatts is worth on average, rounded down, where all are worth so much; of none, 0.
+    pub fn average(self, worth: u64) -> u64
+        ensures { λ r. ⌜ r ≡ worth / self .0 ⌝ }
+    {
+        if self.0 == 0 {
+            return 0;
+        }
+        worth / self.0
     }
 
     // Converted by the year's two factors, in ten-thousandths.

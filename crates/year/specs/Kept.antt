@@ -20,6 +20,9 @@ use Rattle.year.specs.Steps.{withTerms, withOpening, withRegistration, w
 use Rattle.year.specs.Sound.{SoundRegistration, SoundClearings, AtMost, SoundListing, SoundEvent, SoundTest, Factors, SoundTerms, Fits42, SoundAmounts, Sound}
 use Rattle.ids.specs.Sets.{kept-set}
 
+false-true : {X : Type 0} {b : Bool} → b ≡ false → b ≡ true → X
+false-true e t = absurd (let z : _≡_ {A = ℕ} 0 1 = cc in omega arith)
+
 pub sound-no-listing : SoundListing noListing
 sound-no-listing =
     record { listed = length-replicate 64 false; reductions = each-replicate (AtMost 100000) 0 64 (lit≤ tt); deficits = each-replicate (AtMost 1000000) 0 16 (lit≤ tt); unlisted = λ i l e. getD-replicate 64 i 0 0 l }
@@ -29,7 +32,7 @@ sound-no-event = record { month = lit≤ tt; listing = sound-no-listing }
 
 pub sound-no-registration : SoundRegistration noRegistration
 sound-no-registration =
-    record { seller = lit< tt; area = lit< tt; zone = lit< tt; product = lit< tt; committed = lit≤ tt; rate = lit≤ tt; blank = λ e. refl }
+    record { seller = lit< tt; area = lit< tt; zone = lit< tt; product = lit< tt; committed = lit≤ tt; rate = lit≤ tt; some = λ e. false-true refl e; blank = λ e. refl }
 
 pub sound-no-clearings : SoundClearings noClearings
 sound-no-clearings = record { few = lit≤ tt; some = lit≤ tt; kw = lit≤ tt; value = lit≤ tt }
@@ -42,9 +45,6 @@ sound-no-amounts : SoundAmounts noAmounts
 sound-no-amounts =
     let none = each-replicate Fits42 0 16 (lit< tt) in
     record { compliance = none; test = none; credit = none; lse = none }
-
-false-true : {X : Type 0} {b : Bool} → b ≡ false → b ≡ true → X
-false-true e t = absurd (let z : _≡_ {A = ℕ} 0 1 = cc in omega arith)
 
 -- the tests, each at its place
 abbrev SoundTests : Terms → List Test → Type 0

@@ -1,7 +1,7 @@
 -- What sound terms and listings say of every id, also past the arrays' ends.
 use Prim.Native.Nat.{ℕ, zero, suc, _≤_, _<_}
 use mathlib.Core.Path.{_≡_}
-use mathlib.Core.Bool.{false}
+use mathlib.Core.Bool.{true, false}
 use mathlib.Core.List.{List, [], _∷_}
 use native.Mathlib.Omega.{arith}
 use lib.Dec.{lit≤}
@@ -10,7 +10,7 @@ use Rattle.ids.specs.Each.{Each}
 use Rattle.year.specs.declared.Listing.{Listing}
 use Rattle.year.specs.declared.Terms.{Terms}
 use Rattle.year.specs.declared.Year.{Year}
-use Rattle.year.specs.Year.{registration, clearingsOf, known, seller, zone, product, committed, fieldRate, size, lses, reduction}
+use Rattle.year.specs.Year.{registration, clearingsOf, known, seller, area, zone, product, committed, fieldRate, size, lses, reduction}
 use Rattle.year.specs.Sound.{SoundRegistration, SoundClearings, AtMost, SoundListing, SoundTerms, Sound}
 use Rattle.year.specs.Kept.{sound-no-registration, sound-no-clearings}
 
@@ -32,6 +32,10 @@ module _ {T : Terms} (s : SoundTerms T) where
   unfolding seller
   seller-below i = registration-sound i .seller
 
+  pub area-below : (i : ℕ) → area T i < 8
+  unfolding area
+  area-below i = registration-sound i .area
+
   pub zone-below : (i : ℕ) → zone T i < 8
   unfolding zone
   zone-below i = registration-sound i .zone
@@ -43,6 +47,10 @@ module _ {T : Terms} (s : SoundTerms T) where
   pub committed-most : (i : ℕ) → committed T i ≤ 100000
   unfolding committed
   committed-most i = registration-sound i .committed
+
+  pub committed-some : (i : ℕ) → known T i ≡ true → 1 ≤ committed T i
+  unfolding known committed
+  committed-some i e = registration-sound i .some e
 
   pub committed-blank : (i : ℕ) → known T i ≡ false → committed T i ≡ 0
   unfolding known committed

@@ -22,6 +22,7 @@ pub record SoundRegistration (r : Registration) : Type 0 where
   pub product : r .product < 3
   pub committed : r .committed .0 ≤ 100000
   pub rate : r .rate ≤ 100000
+  pub some : r .known ≡ true → 1 ≤ r .committed .0
   pub blank : r .known ≡ false → r .committed .0 ≡ 0
 
 -- at most four clearings, each of 1 to 100,000 kW and at a price of at most 100,000

@@ -16,7 +16,7 @@ use Rattle.bits.specs.Pack.{bitsOf, spell, byteOf, bytesOf, pack, encode}
 use Rattle.layouts.specs.Layout.{itemsIn, rulesTo, rulesFor}
 use Rattle.layouts.specs.Questions.{recordQuestions, firstFailed, kindOf, headOf, rulesOf, numbersOf, isKind, isWhole, permits, permitted, isFilled, rises, idsRise, recordNumber, consumed}
 use Rattle.year.specs.Year.{newYear, listed, reduction, deficit, known, seller, area, zone, product, committed, fieldRate, obligation}
-use Rattle.owed.specs.Owed.{beforeCap, raised, unforced, rate, ofSeller, shareOf, called, calls, shortfallOver, u, cap, daily, spent, charge, excess, e, creditShare, creditLimit, creditOf, B, testOf, compliance, test, credit, charges, credits, lse, amounts}
+use Rattle.owed.specs.Owed.{beforeCap, raised, unforced, own, ofArea, areaRate, rate, ofSeller, shareOf, called, calls, shortfallOver, u, cap, daily, spent, charge, excess, e, creditShare, creditLimit, creditOf, B, testOf, compliance, test, credit, charges, credits, lse, amounts}
 use Rattle.statement.specs.Statement.{countTo, difference, hasRegistration, hasObligation, sellerColumns, lineFields, linesTo, statementFields, statementOf}
 use Rattle.statement.specs.Value42.{value42}
 use Rattle.heads.specs.Record.{headOf as namedHead, withItem, withItems, listingTo, listingIn}
@@ -98,7 +98,7 @@ withEvents = parties ++ ((0x61 ∷ 0x62 ∷ 0x63 ∷ 0x64 ∷ []) ++ (juneEvent 
 
 -- what the bill program prints of a file. What computes it is named here, once for all figures.
 bill : List ℕ → List ℕ
-unfolding sumTo anyTo allTo tabulate convert days due callable testable share bitAt number bitsOf spell byteOf bytesOf pack encode itemsIn times rulesTo rulesFor recordQuestions firstFailed kindOf headOf rulesOf numbersOf isKind isWhole permits permitted isFilled rises idsRise listed reduction deficit known seller area zone product committed fieldRate obligation beforeCap raised unforced rate ofSeller shareOf called calls shortfallOver u cap daily spent charge excess e creditShare creditLimit creditOf B testOf compliance test credit charges credits lse amounts countTo difference hasRegistration hasObligation sellerColumns lineFields linesTo statementFields statementOf value42 namedHead withItem withItems listingTo listingIn inArea inGroup everyListed deficitsListed listsExactly inTime q6 q7 q8 q9 q10 q17 q11 q12 q13 q14 q15 q16 questions postNumber yearBy bufferWith yearAfter bufferAfter digitsTo decimal cents refusalLine linesFrom monthLine partyLine statementLines answerLines bytes recordNumber consumed recordsTo isAccepted isClosing buffered step run answered gather lastOr sumOver summed termsIn clearingsIn eventsIn testsIn recorded callsOf answerText textOf
+unfolding sumTo anyTo allTo tabulate convert days due callable testable share bitAt number bitsOf spell byteOf bytesOf pack encode itemsIn times rulesTo rulesFor recordQuestions firstFailed kindOf headOf rulesOf numbersOf isKind isWhole permits permitted isFilled rises idsRise listed reduction deficit known seller area zone product committed fieldRate obligation beforeCap raised unforced own ofArea areaRate rate ofSeller shareOf called calls shortfallOver u cap daily spent charge excess e creditShare creditLimit creditOf B testOf compliance test credit charges credits lse amounts countTo difference hasRegistration hasObligation sellerColumns lineFields linesTo statementFields statementOf value42 namedHead withItem withItems listingTo listingIn inArea inGroup everyListed deficitsListed listsExactly inTime q6 q7 q8 q9 q10 q17 q11 q12 q13 q14 q15 q16 questions postNumber yearBy bufferWith yearAfter bufferAfter digitsTo decimal cents refusalLine linesFrom monthLine partyLine statementLines answerLines bytes recordNumber consumed recordsTo isAccepted isClosing buffered step run answered gather lastOr sumOver summed termsIn clearingsIn eventsIn testsIn recorded callsOf answerText textOf
 bill file = billText file blank
 
 -- Year A: each record's number, the buffer that each is lent (as the one before left it; one record more shows what the last leaves), the
@@ -133,6 +133,18 @@ withClearings =
 clearing-figures : bill withClearings ≡ bytes "N 8 10\nM 1\nS 0 0 26752 0\nS 1 0 0 0\nL 0 20064\nL 1 6688\n"
 unfolding bill
 clearing-figures = refl
+
+-- Registration 2, of 400 kW at 0 in the area of both, borrows (1,000 × 10,000 + 2,000 × 15,000) / 3,000, 13,333; it gives nothing in a test of its
+-- own zone: 410 × (13,333 + 2,666) × 30 / 1,000, 196,787.
+abbrev withBorrower : List ℕ
+withBorrower =
+    parties
+    ++ ((0x20 ∷ 0x88 ∷ 0xA0 ∷ 0x03 ∷ 0x20 ∷ 0x00 ∷ 0x00 ∷ [])
+    ++ ((0x54 ∷ 0x08 ∷ 0x00 ∷ 0x84 ∷ 0x00 ∷ 0x00 ∷ []) ++ (0x61 ∷ [])))
+
+borrowed-figures : bill withBorrower ≡ bytes "M 1\nS 0 0 0 0\nS 1 0 0 0\nS 2 0 196787 0\nL 0 147590\nL 1 49197\n"
+unfolding bill
+borrowed-figures = refl
 
 -- Year A's close, after the six records before it: it is accepted, so demand 3's claims at a close are made of it; and what they say there.
 abbrev earlier : List Call

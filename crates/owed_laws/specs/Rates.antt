@@ -1,0 +1,73 @@
+-- The rate in force: at most what a field and each price can be, and at least 1 where anything can be borrowed.
+use Prim.Native.Nat.{ℕ, _*_, _/_, _≤_, _<_}
+use mathlib.Core.Bool.{Bool, true, false, _&&_, cond}
+use mathlib.Core.Path.{_≡_, refl}
+use native.Mathlib.Omega.{arith}
+use native.Mathlib.Nat.{mul-le-mul-left, div-le-of-le-mul, le-div-iff-mul-le}
+use lib.Dec.{eqb, ltb}
+use borrow.Author.Tests.{ltb-true, lt-ltb, eq-eqb}
+use Rattle.ids.specs.Ids.{sumTo, only, keyed}
+use Rattle.ids.specs.Sums.{sum-mul, sum-le, sum-one}
+use Rattle.owed.specs.Facts.{Facts, registrations}
+use Rattle.owed.specs.Owed.{own, lends, ofArea, areaRate, rate}
+
+-- what kilowatts are worth at rates, all of a key that are picked: at most their most, and at least as much where no rate is 0
+module _ (n : ℕ) (key kw q : ℕ → ℕ) (p : ℕ → Bool) (k : ℕ) where
+  abbrev weight : ℕ
+  weight = sumTo n (keyed key (only p kw) k)
+
+  abbrev worth : ℕ
+  worth = sumTo n (keyed key (only p (λ i. kw i * q i)) k)
+
+  pub worth-most : (m : ℕ) → ((i : ℕ) → q i ≤ m) → worth ≤ weight * m
+  worth-most m h =
+      omega (arith, sum-mul n (keyed key (only p kw) k) m, sum-le n {g = λ i. keyed key (only p kw) k i * m} (λ i l. go (eqb (key i) k) (p i) (kw i) (h i)))
+    where
+      go : (s b : Bool) (c : ℕ) {x : ℕ} → x ≤ m → cond s (cond b (c * x) 0) 0 ≤ cond s (cond b c 0) 0 * m
+      go false b c h = omega arith
+      go true false c h = omega arith
+      go true true c h = mul-le-mul-left c h
+
+  pub worth-least : ((i : ℕ) → p i ≡ true → 1 ≤ q i) → weight ≤ worth
+  worth-least h = sum-le n (λ i l. go (eqb (key i) k) (p i) (kw i) (h i))
+    where
+      go : (s b : Bool) (c : ℕ) {x : ℕ} → (b ≡ true → 1 ≤ x) → cond s (cond b c 0) 0 ≤ cond s (cond b (c * x) 0) 0
+      go false b c h = omega arith
+      go true false c h = omega arith
+      go true true c h = omega (arith, mul-le-mul-left c (h refl))
+
+-- a registration's own
+pub own-le : (F : Facts) (i : ℕ) → F .fieldRate i ≤ 100000 → F .clearedValue i ≤ 100000 * F .clearedKw i → own F i ≤ 100000
+unfolding own
+own-le F i f v = go (ltb 0 (F .clearings i))
+  where
+    go : (b : Bool) → cond b (F .clearedValue i / F .clearedKw i) (F .fieldRate i) ≤ 100000
+    go true = div-le-of-le-mul (F .clearedKw i) (omega (arith, v))
+    go false = f
+
+module _ (F : Facts) where
+  area-rate-le : ((i : ℕ) → own F i ≤ 100000) → (a : ℕ) → areaRate F a ≤ 100000
+  unfolding ofArea areaRate
+  area-rate-le h a = div-le-of-le-mul (ofArea F a (only (lends F) (F .committed))) (worth-most registrations (F .area) (F .committed) (own F) (lends F) a 100000 h)
+
+  pub rate-le : ((i : ℕ) → own F i ≤ 100000) → (i : ℕ) → rate F i ≤ 100000
+  unfolding rate
+  rate-le h i = go (F .known i) (ltb 0 (own F i))
+    where
+      go : (b c : Bool) → cond b (cond c (own F i) (areaRate F (F .area i))) 0 ≤ 100000
+      go true true = h i
+      go true false = area-rate-le h (F .area i)
+      go false c = omega arith
+
+  -- the rate of an area where registration j lends
+  above : (i : ℕ) (b : Bool) → (b && ltb 0 (own F i)) ≡ true → 1 ≤ own F i
+  above i true e = ltb-true 0 (own F i) e
+  above i false e = absurd (let z : _≡_ {A = ℕ} 0 1 = cc in omega arith)
+
+  pub area-rate-some : (j : ℕ) → j < registrations → F .known j ≡ true → 1 ≤ own F j → 1 ≤ F .committed j → 1 ≤ areaRate F (F .area j)
+  unfolding ofArea areaRate
+  area-rate-some j l known lent some =
+      let a = F .area j in
+      let one : 1 ≤ ofArea F a (only (lends F) (F .committed)) =
+      omega (arith, some, rw (eq-eqb a a refl, known, lt-ltb 0 (own F j) lent) at (sum-one (keyed (F .area) (only (lends F) (F .committed)) a) l)) in
+      le-div-iff-mul-le one .1 (omega (arith, worth-least registrations (F .area) (F .committed) (own F) (lends F) a (λ i e. above i (F .known i) e)))

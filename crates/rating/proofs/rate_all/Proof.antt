@@ -1,0 +1,32 @@
+-- `rating::rate_all` meets its contract. The loop's invariant: the registrations before i have their rates and caps. Assumes nothing.
+use Prim.Native.Nat.{_-_, _≤_}
+use mathlib.Core.Path.{_≡_}
+use native.Mathlib.Omega.{arith}
+use Rattle.rating.specs.Rating.{Rating, rating-first, rating-all}
+use Rattle.rating.proofs.rate_all.Statement.{statement}
+use Rattle.rating.proofs.rate_all.Tie as tie
+
+abbrev Inv-loop : tie.InvT-loop
+Inv-loop year work₀ i₀ work i = (i ≤ 64) × Rating year i work
+
+abbrev μ-loop : tie.MeasureT-loop
+μ-loop year work₀ i₀ work i = 64 - i
+
+loop-again : tie.Need-loop-again Inv-loop μ-loop
+loop-again c = (omega arith, c .rate .ensures)
+
+returns : tie.Need-returns Inv-loop μ-loop
+returns c = let l = c .before .loop in let z : l .i ≡ 64 = omega arith in rating-all (rw z at (l .inv .1))
+
+pub rate-all-spec : {M : Type 1} → statement M
+rate-all-spec =
+    tie.close
+    (tie.spec
+    Inv-loop
+    μ-loop
+    (λ c. (omega arith, rating-first (c .pre .1)))
+    (λ c κs. (c .before .before .before .pre .0, (omega arith, c .before .before .loop .inv .1)))
+    (λ c. omega arith)
+    (λ c. omega arith)
+    loop-again
+    returns)

@@ -1,0 +1,106 @@
+// Registrations entered into the working table one by one, with what each lends its area; then, once all are there, their rates in force and caps.
+ghost use mathlib.Core.Bool.{cond};
+ghost use mathlib.Core.Path.{_≡_};
+ghost use Prim.Native.Nat.{_+_, _<_};
+ghost use lib.Dec.{ltb};
+ghost use lib.ListN.{length};
+ghost use Rattle.year.specs.Year.{registration};
+ghost use Rattle.cells.specs.Layout.{yearIn, Held};
+ghost use Rattle.looks.specs.Looks.{facts};
+ghost use Rattle.table.specs.Places.{size, ownRow};
+ghost use Rattle.table.specs.Rows.{Aside};
+ghost use Rattle.rating.specs.Entering.{Lending, Begun};
+ghost use Rattle.rating.specs.Rating.{rateBy, Rating, Rated};
+use cells::Cells;
+use table::Work;
+use units::Nominated;
+use year::Registration;
+
+// What a registration lends: all that it committed, at a rate of 0 nothing.
+fn lent_by(committed: Nominated, own: u64) -> Nominated
+    ensures { λ r. ⌜ r .0 ≡ cond (ltb 0 own) (committed .0) 0 ⌝ }
+{
+    if own == 0 {
+        return Nominated(0);
+    }
+    committed
+}
+
+// A registration's own rate and its area go into the table, and what it lends to its area's sums.
+fn lend(year: &Cells, work: &mut Work, i: usize, r: Registration)
+    requires { ⌜ Held (now year) ⌝ }
+    requires { ⌜ (i < 64) × (r ≡ registration (yearIn (now year) .terms) i) ⌝ }
+    requires { ⌜ (length (now work) ≡ size) × Lending (facts (now year)) i (now work) ⌝ }
+    ensures lending { λ _. ⌜ Lending (facts (now (year .entry))) (i + 1) (now (work .exit)) ⌝ }
+    ensures aside { λ _. ⌜ Aside ownRow 144 (now (work .entry)) (now (work .exit)) ⌝ }
+{
+    let field = r.rate;
+    let own = looks::own_rate(year, i, field);
+    let lent = lent_by(r.committed, own);
+    let worth = lent.0 * own;
+    let area = r.area as usize;
+    table::put(work, table::OWN, i, own);
+    table::put(work, table::AREA, i, r.area);
+    table::add_at(work, table::LENT, area, lent.0);
+    table::add_at(work, table::WORTH, area, worth);
+}
+
+// A registration's terms go into the table.
+pub fn enter(year: &Cells, work: &mut Work, i: usize, r: Registration)
+    requires { ⌜ Held (now year) × (i < 64) × (r ≡ registration (yearIn (now year) .terms) i) × Begun (now year) i (now work) ⌝ }
+    ensures { λ _. ⌜ Begun (now (year .entry)) (i + 1) (now (work .exit)) ⌝ }
+{
+    let committed = r.committed;
+    let place = 3 * r.zone + r.product;
+    table::put(work, table::SELLER, i, r.seller);
+    table::put(work, table::PRODUCT, i, r.product);
+    table::put(work, table::COMMITTED, i, committed.0);
+    table::put(work, table::PLACE, i, place);
+    lend(year, work, i, r);
+}
+
+// The rate in force: a registration's own; where that is 0, the average of what is lent in its area. One that is not known has committed nothing.
+fn in_force(work: &Work, committed: Nominated, own: u64, area: usize) -> u64
+    requires { ⌜ area < 8 ⌝ }
+    ensures { λ r. ⌜ r ≡ rateBy (now (work .entry)) (committed .0) own area ⌝ }
+{
+    if committed.0 == 0 {
+        return 0;
+    }
+    if own > 0 {
+        return own;
+    }
+    let lent = Nominated(table::get(work, table::LENT, area));
+    let worth = table::get(work, table::WORTH, area);
+    lent.average(worth)
+}
+
+// A registration's rate in force, and its cap: that rate for all that it committed.
+fn rate(year: &Cells, work: &mut Work, i: usize)
+    requires { ⌜ Held (now year) ⌝ }
+    requires { ⌜ i < 64 ⌝ }
+    requires { ⌜ Rating (now year) i (now work) ⌝ }
+    ensures { λ _. ⌜ Rating (now (year .entry)) (i + 1) (now (work .exit)) ⌝ }
+{
+    let committed = Nominated::new(table::get(work, table::COMMITTED, i));
+    let own = table::get(work, table::OWN, i);
+    let area = table::get(work, table::AREA, i);
+    let rate = in_force(work, committed, own, area as usize);
+    let all = looks::unforced(year, committed);
+    let cap = all.0 * rate;
+    table::put(work, table::RATE, i, rate);
+    table::put(work, table::CAP, i, cap);
+}
+
+// The rates and caps of all registrations, once all are entered.
+pub fn rate_all(year: &Cells, work: &mut Work)
+    requires { ⌜ Held (now year) ⌝ }
+    requires { ⌜ Begun (now year) 64 (now work) ⌝ }
+    ensures { λ _. ⌜ Rated (now (year .entry)) (now (work .exit)) ⌝ }
+{
+    let mut i: usize = 0;
+    while i < 64 {
+        rate(year, work, i);
+        i += 1;
+    }
+}
