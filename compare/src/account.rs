@@ -2,8 +2,9 @@
 
 use std::array;
 
+use crate::average::Average;
 use crate::fields::{LSES, REGISTRATIONS, SELLERS};
-use crate::owed::{cap, convert, days, due_month, uncapped, Allotment, Amounts, Owed};
+use crate::owed::{convert, days, due_month, uncapped, Allotment, Amounts, Owed};
 use crate::records::{Event, Lists, Opening, Registration, Test};
 use crate::year::Year;
 
@@ -27,7 +28,7 @@ pub fn to_date(year: &Year, month: u8) -> Owed {
     }
 }
 
-/// An entry beside its registration: c committed, v reduction, q rate.
+/// An entry beside its registration: c committed, v reduction, q rate in force.
 struct Listed<'a> {
     registration: &'a Registration,
     c: i64,
@@ -60,7 +61,7 @@ fn listed<'a>(year: &'a Year, lists: &'a Lists) -> impl Iterator<Item = Listed<'
             registration,
             c: registration.committed.into(),
             v: entry.reduction.into(),
-            q: registration.rate.into(),
+            q: year.rates[usize::from(entry.registration)],
         }
     })
 }
@@ -89,24 +90,10 @@ impl Tally {
     }
 }
 
-/// A seller's committed kW in a test, alone and by their rates.
-#[derive(Clone, Copy, Default)]
-struct Base {
-    committed: i64,
-    by_rate: i64,
-}
-
-impl Base {
-    fn add(&mut self, l: &Listed) {
-        self.committed += l.c;
-        self.by_rate += l.c * l.q;
-    }
-
-    /// The rate of the seller's shortfall; none if it has no entry.
-    fn test_rate(&self) -> Option<i64> {
-        let base = self.by_rate.checked_div(self.committed)?;
-        Some(base + (base / 5).max(2_000))
-    }
+/// The rate of a seller's shortfall in a test; none if it has no entry.
+fn test_rate(rates: &Average) -> Option<i64> {
+    let base = rates.rounded()?;
+    Some(base + (base / 5).max(2_000))
 }
 
 /// Amounts in the making: at one month, record after record.
@@ -121,7 +108,7 @@ struct Account<'a> {
 
 impl<'a> Account<'a> {
     fn new(year: &'a Year, month: u8) -> Self {
-        let rest = |r: &Option<Registration>| r.map_or(0, |r| cap(&year.opening, &r));
+        let rest = |r: &Option<Registration>| r.map_or(0, |r| year.cap(&r));
         Account {
             year,
             month,
@@ -176,14 +163,14 @@ impl<'a> Account<'a> {
     /// Adds a test's charges to date, of the registrations that no event lists.
     fn add_test(&mut self, test: &Test) {
         let mut tallies = [Tally::default(); SELLERS];
-        let mut bases = [Base::default(); SELLERS];
+        let mut rates = [Average::default(); SELLERS];
         let listed = listed(self.year, &test.lists);
         for l in listed.filter(|l| !self.year.is_called[l.id()]) {
             tallies[l.seller()].add(&l);
-            bases[l.seller()].add(&l);
+            rates[l.seller()].add(l.c, l.q);
         }
-        for (seller, base) in bases.iter().enumerate() {
-            if let Some(rate) = base.test_rate() {
+        for (seller, rates) in rates.iter().enumerate() {
+            if let Some(rate) = test_rate(rates) {
                 let deficit = test.lists.deficits[seller];
                 let shortfall = tallies[seller].shortfall(&self.year.opening, deficit);
                 self.sellers[seller].test += shortfall * rate * self.days / 1_000;

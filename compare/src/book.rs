@@ -68,6 +68,7 @@ impl Book {
 
 /// Closes a month; leaves its statement in the buffer and gives that one's length.
 fn close(year: &mut Year, month: u8, buffer: &mut [u8]) -> usize {
+    year.fix_rates();
     let to_date = account::to_date(year, month);
     let amounts = to_date.less(&year.owed);
     year.owed = to_date;

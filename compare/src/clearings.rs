@@ -1,16 +1,15 @@
-//! The clearings of a registration, and the rate that they give it.
+//! The clearings of a registration, and their average price.
 
-use crate::exact::narrow;
+use crate::average::Average;
 use crate::records::Clearing;
 
 pub const MOST_CLEARINGS: usize = 4;
 
-/// How many clearings there are, and the sums over them.
+/// How many clearings there are, and their prices by cleared kW.
 #[derive(Clone, Copy, Default)]
 pub struct Clearings {
     count: u8,
-    kw: u32,
-    price_by_kw: u64,
+    prices: Average,
 }
 
 impl Clearings {
@@ -18,11 +17,13 @@ impl Clearings {
         usize::from(self.count) < MOST_CLEARINGS
     }
 
-    /// Adds a clearing; gives the average price, weighted by cleared kW.
-    pub fn add(&mut self, clearing: &Clearing) -> u32 {
+    pub fn add(&mut self, clearing: &Clearing) {
         self.count += 1;
-        self.kw += clearing.kw;
-        self.price_by_kw += u64::from(clearing.price) * u64::from(clearing.kw);
-        narrow(self.price_by_kw / u64::from(self.kw))
+        self.prices.add(clearing.kw.into(), clearing.price.into());
+    }
+
+    /// The average price, weighted by cleared kW; none without clearings.
+    pub fn average(&self) -> Option<i64> {
+        self.prices.rounded()
     }
 }

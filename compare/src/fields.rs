@@ -51,3 +51,4 @@ pub const DEFICIT_KW: Field = field(20, 1, 1_000_000);
 pub const REGISTRATIONS: usize = 1 << REGISTRATION_ID.width;
 pub const SELLERS: usize = 1 << SELLER_ID.width;
 pub const LSES: usize = 1 << LSE_ID.width;
+pub const AREAS: usize = 1 << AREA.width;

@@ -1,6 +1,7 @@
 //! The delivery-year book of a demand-response pool, an independent reading of the documents.
 
 pub mod account;
+mod average;
 mod bill;
 mod bits;
 mod book;
@@ -17,6 +18,7 @@ pub mod owed;
 mod packed;
 #[cfg(feature = "piermint")]
 pub mod piermint;
+pub mod rates;
 pub mod records;
 pub mod statement;
 mod year;

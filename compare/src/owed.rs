@@ -7,7 +7,7 @@
 use std::array;
 
 use crate::fields::{LSES, SELLERS};
-use crate::records::{Opening, Product, Registration};
+use crate::records::{Opening, Product};
 
 /// A seller's amounts in cents.
 #[derive(Clone, Copy, Default, Debug, PartialEq, Eq)]
@@ -102,6 +102,6 @@ pub fn uncapped(unforced: i64, rate: i64, off_peak: bool, n: i64) -> i64 {
 }
 
 /// The most that a registration is charged a day, in thousandths of a cent.
-pub fn cap(opening: &Opening, registration: &Registration) -> i64 {
-    convert(opening, registration.committed.into()) * i64::from(registration.rate)
+pub fn cap(opening: &Opening, committed: i64, rate: i64) -> i64 {
+    convert(opening, committed) * rate
 }

@@ -44,8 +44,8 @@ pub struct Registration {
     pub zone: u8,
     pub product: Product,
     pub committed: u32,
-    /// The rate in force: the field's, or the clearings'.
-    pub rate: u32,
+    /// The rate that the record gives, which clearings or an area's lenders replace.
+    pub field_rate: u32,
 }
 
 #[derive(Clone, Copy)]
@@ -155,7 +155,7 @@ pub fn registration(numbers: &[u64; 8]) -> Registration {
         zone: narrow(numbers[4]),
         product: Product::new(numbers[5]),
         committed: narrow(numbers[6]),
-        rate: narrow(numbers[7]),
+        field_rate: narrow(numbers[7]),
     }
 }
 

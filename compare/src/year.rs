@@ -3,6 +3,7 @@
 use crate::clearings::Clearings;
 use crate::fields::{LSES, REGISTRATIONS};
 use crate::owed::{cap, days, Owed};
+use crate::rates::{self, Rates};
 use crate::records::{Clearing, Entry, Event, Lse, Opening, Registration, Test};
 
 pub const MOST_EVENTS: usize = 16;
@@ -17,6 +18,8 @@ pub struct Year {
     pub opening: Opening,
     pub registrations: [Option<Registration>; REGISTRATIONS],
     pub clearings: [Clearings; REGISTRATIONS],
+    /// The rates in force, from the first close on.
+    pub rates: Rates,
     pub lses: [Option<Lse>; LSES],
     pub events: Vec<Event>,
     pub tests: Vec<Test>,
@@ -36,6 +39,7 @@ impl Year {
             opening,
             registrations: [None; REGISTRATIONS],
             clearings: [Clearings::default(); REGISTRATIONS],
+            rates: [0; REGISTRATIONS],
             lses: [None; LSES],
             events: Vec::with_capacity(MOST_EVENTS),
             tests: Vec::with_capacity(MOST_TESTS),
@@ -52,11 +56,8 @@ impl Year {
         registration.as_ref().expect("question 10 asks for it")
     }
 
-    /// Adds a clearing, which gives its registration a new rate.
     pub fn add_clearing(&mut self, clearing: &Clearing) {
-        let id = usize::from(clearing.registration);
-        let registration = self.registrations[id].as_mut();
-        registration.expect("question 10 asks for it").rate = self.clearings[id].add(clearing);
+        self.clearings[usize::from(clearing.registration)].add(clearing);
     }
 
     pub fn add_event(&mut self, event: Event) {
@@ -68,11 +69,25 @@ impl Year {
         self.events.push(event);
     }
 
+    /// Fixes the rates in force at the first close: by then every lender is there, since question 7
+    /// lets no registration and no clearing come after it.
+    pub fn fix_rates(&mut self) {
+        if self.closed == 0 {
+            self.rates = rates::in_force(self);
+        }
+    }
+
+    /// The most that a registration is charged a day, by its rate in force.
+    pub fn cap(&self, registration: &Registration) -> i64 {
+        let rate = self.rates[usize::from(registration.id)];
+        cap(&self.opening, registration.committed.into(), rate)
+    }
+
     /// Revenue to date of a seller, in thousandths of a cent.
     pub fn revenue(&self, seller: usize, month: u8) -> i64 {
         let registrations = self.registrations.iter().flatten();
         let own = registrations.filter(|r| usize::from(r.seller) == seller);
-        let caps: i64 = own.map(|r| cap(&self.opening, r)).sum();
+        let caps: i64 = own.map(|r| self.cap(r)).sum();
         caps * days(self.opening.leap, month)
     }
 }

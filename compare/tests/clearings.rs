@@ -3,6 +3,7 @@
 use std::collections::BTreeMap;
 
 use settlement::cases::{damaged_file, plausible_file};
+use settlement::rates::own;
 use settlement::statement::MOST_BYTES;
 use settlement::{take_each, Book};
 
@@ -31,8 +32,8 @@ fn without_clearings(file: &[u8]) -> Vec<u8> {
     others
 }
 
-/// The rates in force at a file's end, and its statements.
-fn rates_and_statements(file: &[u8]) -> (Vec<u32>, Vec<u8>) {
+/// The own rates at a file's end, and its statements.
+fn rates_and_statements(file: &[u8]) -> (Vec<i64>, Vec<u8>) {
     let mut book = Book::new();
     let mut statements = Vec::new();
     each_record(file, |bytes, _, _| {
@@ -41,8 +42,10 @@ fn rates_and_statements(file: &[u8]) -> (Vec<u32>, Vec<u8>) {
         statements.extend(&buffer[..taken.written]);
     });
     let year = book.year().expect("a year");
+    let own = own(year);
     let registrations = year.registrations.iter().flatten();
-    (registrations.map(|r| r.rate).collect(), statements)
+    let rates = registrations.map(|r| own[usize::from(r.id)]).collect();
+    (rates, statements)
 }
 
 #[test]

@@ -2,8 +2,8 @@
 
 use settlement::layout::MOST_BYTES;
 use settlement::owed::{cap, convert, due_month, uncapped, Allotment};
-use settlement::records::{registration, Opening, Product};
-use settlement::{bill_file, Book};
+use settlement::records::{Opening, Product};
+use settlement::{bill_file, statement, Book};
 
 const YEAR_A: Opening = Opening {
     leap: false,
@@ -53,9 +53,9 @@ fn definitions() {
     assert_eq!(uncapped(410, 10_000, false, 2), 2_050_000);
     assert_eq!(uncapped(410, 10_000, false, 3), 1_366_666);
     assert_eq!(uncapped(410, 10_000, true, 3), 78_846);
-    let twin = registration(&[2, 0, 0, 1, 1, 2, 1_000, 10_000]);
-    assert_eq!(cap(&YEAR_A, &twin), 10_260_000);
-    assert_eq!(2 * uncapped(1_026, 10_000, false, 2), cap(&YEAR_A, &twin));
+    let cap = cap(&YEAR_A, 1_000, 10_000);
+    assert_eq!(cap, 10_260_000);
+    assert_eq!(2 * uncapped(1_026, 10_000, false, 2), cap);
     assert_eq!(due_month(Product::Limited, 1), 5);
     assert_eq!(due_month(Product::Limited, 4), 7);
     assert_eq!(due_month(Product::Annual, 12), 15);
@@ -108,16 +108,21 @@ fn edges_of_a_record() {
     assert_eq!(number(&above), 3);
 }
 
-/// The rate of Year A's registration 0 after these clearings, and its seller's revenue in June.
-fn rate_and_revenue(clearings: &[&[u64]]) -> (u32, i64) {
+/// The rate of Year A's registration 0, alone and after these clearings, and its seller's revenue in
+/// June.
+fn rate_and_revenue(clearings: &[&[u64]]) -> (i64, i64) {
     let mut book = Book::new();
-    let year: [&[u64]; 2] = [&[1, 0, 9_500, 10_800], &[2, 0, 0, 1, 1, 0, 1_000, 10_000]];
-    for numbers in [&year, clearings].concat() {
-        assert_eq!(book.take(&record(numbers), &mut []).number, 0);
+    let parties: [&[u64]; 3] = [
+        &[1, 0, 9_500, 10_800],
+        &[2, 0, 0, 1, 1, 0, 1_000, 10_000],
+        &[3, 0, 3_000],
+    ];
+    for numbers in [&parties, clearings, &[&[6, 1]]].concat() {
+        let mut buffer = [0; statement::MOST_BYTES];
+        assert_eq!(book.take(&record(numbers), &mut buffer).number, 0);
     }
     let year = book.year().expect("a year");
-    let registration = year.registrations[0].expect("registration 0");
-    (registration.rate, year.revenue(0, 1))
+    (year.rates[0], year.revenue(0, 1))
 }
 
 #[test]
@@ -135,8 +140,8 @@ fn a_clearing_at_price_0() {
     let clearing: &[u64] = &[7, 0, 0, 1];
     assert_eq!(rate_and_revenue(&[]), (10_000, 307_800_000));
     assert_eq!(rate_and_revenue(&[clearing]), (0, 0));
-    // 410 × (0 + 2,000) × 30 / 1,000 = 24,600.
-    let text = "M 1\nS 0 0 24600 0\nS 1 0 0 0\nL 0 18450\nL 1 6150\n";
+    // With registration 1 in the area: 410 × (15,000 + 3,000) × 30 / 1,000 = 221,400.
+    let text = "M 1\nS 0 0 221400 0\nS 1 0 0 0\nL 0 166050\nL 1 55350\n";
     assert_eq!(bill(&[clearing, JUNE_TEST, &[6, 1]]), text);
 }
 

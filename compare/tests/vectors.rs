@@ -6,13 +6,13 @@ use std::{env, fs};
 use settlement::{bill_file, lines};
 
 /// The requests that are in, in order; each has a folder of vectors beside the base's.
-const REQUESTS: [&str; 1] = ["C-11"];
+const REQUESTS: [&str; 2] = ["C-11", "C-12"];
 
 /// The vectors of the base or of a request.
 struct Set {
     name: &'static str,
     folder: PathBuf,
-    /// What later requests expect of the same inputs, the last first.
+    /// Folders of what later requests expect of the same inputs, the last first.
     again: Vec<PathBuf>,
 }
 
@@ -74,7 +74,12 @@ fn bills() {
 fn compare(name: &str, answer: fn(&str) -> String) {
     for set in sets() {
         let path = set.folder.join("lines").join(name);
-        let calls = fs::read_to_string(path.with_extension("in")).expect("the calls");
+        let calls = path.with_extension("in");
+        // A request brings calls of the sorts that it changes; the base brings all.
+        if set.name != "base" && !calls.is_file() {
+            continue;
+        }
+        let calls = fs::read_to_string(calls).expect("the calls");
         let expected = set.expected(&path.with_extension("out"));
         let answers = answer(&calls);
         assert_eq!(answers.lines().count(), expected.lines().count());

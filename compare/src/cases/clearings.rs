@@ -32,13 +32,18 @@ pub fn all_cleared(random: &mut Random, registrations: Vec<Numbers>) -> Vec<Vec<
     registrations.into_iter().map(clear).collect()
 }
 
-/// A registration and so many clearings behind it, now and then all at price 0.
+/// A registration and so many clearings behind it; now and then all at price 0, or at prices so low
+/// that their average may round to 0.
 fn with_clearings(random: &mut Random, registration: Numbers, count: usize) -> Vec<Numbers> {
     let id = registration[1];
-    let is_free = random.chance(10);
+    let limit = random.pick(&[1, 2, 4]);
+    let is_cheap = random.chance(20);
     let mut run = vec![registration];
     for _ in 0..count {
-        let price = if is_free { 0 } else { price(random) };
+        let price = match is_cheap {
+            true => widen(random.below(limit)),
+            false => price(random),
+        };
         run.push(clearing(random, id, price));
     }
     run

@@ -29,6 +29,9 @@ fn opening(random: &mut Random) -> Numbers {
 
 /// Registrations of a few areas, zones and products, so that many share a call.
 pub fn registrations_of_few_places(random: &mut Random, count: usize) -> Vec<Numbers> {
+    // Of the rates none is made 0, a third, nearly all, so that an area may have one lender, or all,
+    // so that only clearings lend.
+    let percent_of_zeros = random.pick(&[0, 0, 0, 33, 33, 33, 95, 100]);
     let sellers = some_ids(random, 16);
     let areas = few_places(random);
     let zones = few_places(random);
@@ -42,14 +45,14 @@ pub fn registrations_of_few_places(random: &mut Random, count: usize) -> Vec<Num
             random.pick(&zones),
             random.pick(&products),
             random.value(1, 100_000),
-            random.value(0, 100_000),
+            rate(random, percent_of_zeros),
         ]
     };
     let ids = ids(random, count, 64);
     ids.into_iter().map(|id| register(id, random)).collect()
 }
 
-/// 64 registrations of one area and of every zone and product.
+/// 64 registrations of one area and of every zone and product, a third at a rate of 0.
 pub fn registrations_of_all_zones(random: &mut Random) -> Vec<Numbers> {
     let sellers = some_ids(random, 16);
     let area = widen(random.below(8));
@@ -62,11 +65,19 @@ pub fn registrations_of_all_zones(random: &mut Random) -> Vec<Numbers> {
             zone.into(),
             product.number(),
             random.value(1, 100_000),
-            random.value(0, 100_000),
+            rate(random, 33),
         ]
     };
     let places = zones_and_products().into_iter().cycle();
     (0..64).zip(places).map(register).collect()
+}
+
+/// A rate, in so many of 100 cases 0.
+fn rate(random: &mut Random, percent_of_zeros: usize) -> u64 {
+    match random.chance(percent_of_zeros) {
+        true => 0,
+        false => random.value(0, 100_000),
+    }
 }
 
 pub fn zones_and_products() -> Vec<(u8, Product)> {
