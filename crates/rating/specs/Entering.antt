@@ -108,7 +108,7 @@ module _ (F : Facts) {i : ℕ} {w w₁ w₂ w₃ v : List ℕ} (l : i < 64) (m :
   pub lending-aside : Aside ownRow 144 w v
   lending-aside = aside-more (aside-more (aside-more (aside-more aside-none s₁ (omega arith) (omega arith)) s₂ (omega arith) (omega arith)) s₃ (omega arith) (omega arith)) s₄ (omega arith) (omega arith)
 
--- and its terms are entered
+-- and its terms are entered, of which what is lent knows nothing
 pub lending-kept : {F : Facts} {i q x : ℕ} {w v : List ℕ} → Lending F i w → i ≤ 64 → Stored q x w v → q < ownRow → Lending F i v
 lending-kept h b s l =
     record {
@@ -120,19 +120,10 @@ lending-kept h b s l =
 
 module _ {c : List ℕ} {i : ℕ} {w w₁ w₂ w₃ w₄ : List ℕ} (h : Begun c i w) (l : i < 64) (s₁ : Stored (sellerRow + i) (facts c .seller i) w w₁) (s₂ : Stored (productRow + i) (facts c .product i) w₁ w₂)
     (s₃ : Stored (committedRow + i) (facts c .committed i) w₂ w₃) (s₄ : Stored (placeRow + i) (placeIn c i) w₃ w₄) where
-  -- before it lends
-  pub entered-long : length w₄ ≡ size
-  entered-long = s₄ .long ∙ s₃ .long ∙ s₂ .long ∙ s₁ .long ∙ h .long
-
-  pub entered-lending : Lending (facts c) i w₄
-  entered-lending =
-      lending-kept (lending-kept (lending-kept (lending-kept (h .lending) (omega arith) s₁ (omega arith)) (omega arith) s₂ (omega arith)) (omega arith) s₃ (omega arith)) (omega arith) s₄ (omega arith)
-
-  -- and after
   pub begun-more : {v : List ℕ} → Lending (facts c) (i + 1) v → Aside ownRow 144 w₄ v → Begun c (i + 1) v
   begun-more {v} n a =
       record {
-        long = a .long ∙ entered-long;
+        long = a .long ∙ s₄ .long ∙ s₃ .long ∙ s₂ .long ∙ s₁ .long ∙ h .long;
         entered = record {
           seller = row-aside (row-kept (row-kept (row-kept (row-more (h .entered .seller) s₁ refl) s₂ (λ a b. omega arith)) s₃ (λ a b. omega arith)) s₄ (λ a b. omega arith)) a (λ j m x y. omega arith);
           product = row-aside (row-kept (row-kept (row-more (row-kept (h .entered .product) s₁ (λ a b. omega arith)) s₂ refl) s₃ (λ a b. omega arith)) s₄ (λ a b. omega arith)) a (λ j m x y. omega arith);

@@ -18,7 +18,7 @@ use Rattle.looks.specs.Looks.{facts}
 use Rattle.table.specs.Columns.{Columns}
 use Rattle.table.specs.Places.{size, rateRow, capRow, callsRow, placeRow, lentRow, worthRow}
 use Rattle.table.specs.Rows.{Stored, Row, none, row-kept, row-first, row-more, grown-kept}
-use Rattle.rating.specs.Entering.{Begun}
+use Rattle.rating.specs.Entering.{lentAt, worthAt, Begun}
 
 -- the rate in force by what is committed, a registration's own rate, and what is lent in its area
 abbrev pub rateBy : List ℕ → ℕ → ℕ → ℕ → ℕ
@@ -31,7 +31,7 @@ module _ {c w : List ℕ} (h : Begun c 64 w) (L : Limits (facts c)) (i : ℕ) wh
 
   area-rate-by : (a : ℕ) → a < 8 → at w (worthRow + a) / at w (lentRow + a) ≡ areaRate F a
   unfolding ofArea areaRate
-  area-rate-by a m = rw (h .lending .worth .row .is a m, h .lending .lent .row .is a m, zero-add, zero-add)
+  area-rate-by a m = rw (h .lending .worth .row .is a m, h .lending .lent .row .is a m, zero-add (ofArea F a (worthAt F)), zero-add (ofArea F a (lentAt F)))
 
   pub rate-by : rateBy w (F .committed i) (owed.own F i) (F .area i) ≡ owed.rate F i
   unfolding owed.rate
