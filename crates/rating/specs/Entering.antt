@@ -16,7 +16,7 @@ use Rattle.owed.specs.Owed.{lends}
 use Rattle.owed.specs.Owed as owed
 use Rattle.owed_laws.specs.Limits.{Limits}
 use Rattle.looks.specs.Looks.{facts}
-use Rattle.table.specs.Places.{size, sellerRow, productRow, committedRow, callsRow, placeRow, ownRow, areaRow, lentRow, worthRow}
+use Rattle.table.specs.Places.{size, sellerRow, productRow, committedRow, rateRow, callsRow, placeRow, lentRow, worthRow}
 use Rattle.table.specs.Rows.{Stored, Aside, Row, Grown, none, aside-none, aside-more, row-aside, row-kept, row-first, row-more, grown-first, grown-kept, grown-more, grown-most}
 
 -- what registration i lends: kilowatts, and what they are worth
@@ -27,24 +27,23 @@ module _ (F : Facts) where
   abbrev pub worthAt : ℕ → ℕ
   worthAt = only (lends F) (λ i. F .committed i * owed.own F i)
 
--- the first i registrations' terms
+-- the first i registrations' terms, but for their rates
 pub record Entered (c : List ℕ) (i : ℕ) (w : List ℕ) : Type 0 where
   pub seller : Row w sellerRow i (facts c .seller)
   pub product : Row w productRow i (facts c .product)
   pub committed : Row w committedRow i (facts c .committed)
   pub place : Row w placeRow i (placeIn c)
 
--- their own rates and areas, and by area what they lend
+-- by area what they lend
 pub record Lending (F : Facts) (i : ℕ) (w : List ℕ) : Type 0 where
-  pub own : Row w ownRow i (owed.own F)
-  pub area : Row w areaRow i (F .area)
   pub lent : Grown w lentRow 8 none (F .area) (lentAt F) i
   pub worth : Grown w worthRow 8 none (F .area) (worthAt F) i
 
--- both stand in the table, and nothing else
+-- both stand in the table, with their own rates, and nothing else
 pub record Begun (c : List ℕ) (i : ℕ) (w : List ℕ) : Type 0 where
   pub long : length w ≡ size
   pub entered : Entered c i w
+  pub own : Row w rateRow i (owed.own (facts c))
   pub lending : Lending (facts c) i w
   pub fresh : Row w callsRow 576 none
 
@@ -56,7 +55,8 @@ begun-first c =
     record {
       long = length-replicate {A = ℕ} size 0;
       entered = record { seller = row-first w sellerRow (F .seller); product = row-first w productRow (F .product); committed = row-first w committedRow (F .committed); place = row-first w placeRow (placeIn c) };
-      lending = record { own = row-first w ownRow (owed.own F); area = row-first w areaRow (F .area); lent = grown-first (F .area) (lentAt F) (zeros lentRow 8); worth = grown-first (F .area) (worthAt F) (zeros worthRow 8) };
+      own = row-first w rateRow (owed.own F);
+      lending = record { lent = grown-first (F .area) (lentAt F) (zeros lentRow 8); worth = grown-first (F .area) (worthAt F) (zeros worthRow 8) };
       fresh = zeros callsRow 576;
     }
 
@@ -92,44 +92,38 @@ module _ {F : Facts} (L : Limits F) {i : ℕ} (b : i ≤ 64) {w : List ℕ} (h :
   worth-room = grown-most (h .worth) 0 10000000000 b (λ j l. le-refl 0) (λ j l. worth-at-le L j) a m
 
 -- one more lends
-module _ (F : Facts) {i : ℕ} {w w₁ w₂ w₃ v : List ℕ} (l : i < 64) (m : F .area i < 8)
-    (s₁ : Stored (ownRow + i) (owed.own F i) w w₁) (s₂ : Stored (areaRow + i) (F .area i) w₁ w₂)
-    (s₃ : Stored (lentRow + F .area i) (at w₂ (lentRow + F .area i) + lentAt F i) w₂ w₃)
-    (s₄ : Stored (worthRow + F .area i) (at w₃ (worthRow + F .area i) + worthAt F i) w₃ v) where
+module _ (F : Facts) {i : ℕ} {w m v : List ℕ} (l : F .area i < 8)
+    (s₁ : Stored (lentRow + F .area i) (at w (lentRow + F .area i) + lentAt F i) w m) (s₂ : Stored (worthRow + F .area i) (at m (worthRow + F .area i) + worthAt F i) m v) where
   pub lending-more : Lending F i w → Lending F (i + 1) v
   lending-more h =
       record {
-        own = row-kept (row-kept (row-kept (row-more (h .own) s₁ refl) s₂ (λ a b. omega arith)) s₃ (λ a b. omega arith)) s₄ (λ a b. omega arith);
-        area = row-kept (row-kept (row-more (row-kept (h .area) s₁ (λ a b. omega arith)) s₂ refl) s₃ (λ a b. omega arith)) s₄ (λ a b. omega arith);
-        lent = grown-kept (grown-more (grown-kept (grown-kept (h .lent) s₁ (λ a b. omega arith)) s₂ (λ a b. omega arith)) s₃ m refl refl) s₄ (λ a b. omega arith);
-        worth = grown-more (grown-kept (grown-kept (grown-kept (h .worth) s₁ (λ a b. omega arith)) s₂ (λ a b. omega arith)) s₃ (λ a b. omega arith)) s₄ m refl refl;
+        lent = grown-kept (grown-more (h .lent) s₁ l refl refl) s₂ (λ a b. omega arith);
+        worth = grown-more (grown-kept (h .worth) s₁ (λ a b. omega arith)) s₂ l refl refl;
       }
 
-  pub lending-aside : Aside ownRow 144 w v
-  lending-aside = aside-more (aside-more (aside-more (aside-more aside-none s₁ (omega arith) (omega arith)) s₂ (omega arith) (omega arith)) s₃ (omega arith) (omega arith)) s₄ (omega arith) (omega arith)
+  pub lending-aside : Aside lentRow 16 w v
+  lending-aside = aside-more (aside-more aside-none s₁ (omega arith) (omega arith)) s₂ (omega arith) (omega arith)
 
--- and its terms are entered, of which what is lent knows nothing
-pub lending-kept : {F : Facts} {i q x : ℕ} {w v : List ℕ} → Lending F i w → i ≤ 64 → Stored q x w v → q < ownRow → Lending F i v
-lending-kept h b s l =
+-- what is stored before the sums leaves them as they are
+pub lending-kept : {F : Facts} {i q x : ℕ} {w v : List ℕ} → Lending F i w → Stored q x w v → q < lentRow → Lending F i v
+lending-kept h s l =
+    record { lent = grown-kept (h .lent) s (λ a b. omega arith); worth = grown-kept (h .worth) s (λ a b. omega arith) }
+
+-- and its terms are entered
+pub begun-more : {c : List ℕ} {i : ℕ} {w w₀ w₁ w₂ w₃ w₄ v : List ℕ} → Begun c i w → i < 64 → let F = facts c in
+    Lending F (i + 1) w₀ → Aside lentRow 16 w w₀
+    → Stored (sellerRow + i) (F .seller i) w₀ w₁ → Stored (productRow + i) (F .product i) w₁ w₂ → Stored (committedRow + i) (F .committed i) w₂ w₃
+    → Stored (rateRow + i) (owed.own F i) w₃ w₄ → Stored (placeRow + i) (placeIn c i) w₄ v → Begun c (i + 1) v
+begun-more h l n a s₁ s₂ s₃ s₄ s₅ =
     record {
-      own = row-kept (h .own) s (λ a b. omega arith);
-      area = row-kept (h .area) s (λ a b. omega arith);
-      lent = grown-kept (h .lent) s (λ a b. omega arith);
-      worth = grown-kept (h .worth) s (λ a b. omega arith);
+      long = s₅ .long ∙ s₄ .long ∙ s₃ .long ∙ s₂ .long ∙ s₁ .long ∙ a .long ∙ h .long;
+      entered = record {
+        seller = row-kept (row-kept (row-kept (row-kept (row-more (row-aside (h .entered .seller) a (λ j m x y. omega arith)) s₁ refl) s₂ (λ a b. omega arith)) s₃ (λ a b. omega arith)) s₄ (λ a b. omega arith)) s₅ (λ a b. omega arith);
+        product = row-kept (row-kept (row-kept (row-more (row-kept (row-aside (h .entered .product) a (λ j m x y. omega arith)) s₁ (λ a b. omega arith)) s₂ refl) s₃ (λ a b. omega arith)) s₄ (λ a b. omega arith)) s₅ (λ a b. omega arith);
+        committed = row-kept (row-kept (row-more (row-kept (row-kept (row-aside (h .entered .committed) a (λ j m x y. omega arith)) s₁ (λ a b. omega arith)) s₂ (λ a b. omega arith)) s₃ refl) s₄ (λ a b. omega arith)) s₅ (λ a b. omega arith);
+        place = row-more (row-kept (row-kept (row-kept (row-kept (row-aside (h .entered .place) a (λ j m x y. omega arith)) s₁ (λ a b. omega arith)) s₂ (λ a b. omega arith)) s₃ (λ a b. omega arith)) s₄ (λ a b. omega arith)) s₅ refl;
+      };
+      own = row-kept (row-more (row-kept (row-kept (row-kept (row-aside (h .own) a (λ j m x y. omega arith)) s₁ (λ a b. omega arith)) s₂ (λ a b. omega arith)) s₃ (λ a b. omega arith)) s₄ refl) s₅ (λ a b. omega arith);
+      lending = lending-kept (lending-kept (lending-kept (lending-kept (lending-kept n s₁ (omega arith)) s₂ (omega arith)) s₃ (omega arith)) s₄ (omega arith)) s₅ (omega arith);
+      fresh = row-kept (row-kept (row-kept (row-kept (row-kept (row-aside (h .fresh) a (λ j m x y. omega arith)) s₁ (λ a b. omega arith)) s₂ (λ a b. omega arith)) s₃ (λ a b. omega arith)) s₄ (λ a b. omega arith)) s₅ (λ a b. omega arith);
     }
-
-module _ {c : List ℕ} {i : ℕ} {w w₁ w₂ w₃ w₄ : List ℕ} (h : Begun c i w) (l : i < 64) (s₁ : Stored (sellerRow + i) (facts c .seller i) w w₁) (s₂ : Stored (productRow + i) (facts c .product i) w₁ w₂)
-    (s₃ : Stored (committedRow + i) (facts c .committed i) w₂ w₃) (s₄ : Stored (placeRow + i) (placeIn c i) w₃ w₄) where
-  pub begun-more : {v : List ℕ} → Lending (facts c) (i + 1) v → Aside ownRow 144 w₄ v → Begun c (i + 1) v
-  begun-more {v} n a =
-      record {
-        long = a .long ∙ s₄ .long ∙ s₃ .long ∙ s₂ .long ∙ s₁ .long ∙ h .long;
-        entered = record {
-          seller = row-aside (row-kept (row-kept (row-kept (row-more (h .entered .seller) s₁ refl) s₂ (λ a b. omega arith)) s₃ (λ a b. omega arith)) s₄ (λ a b. omega arith)) a (λ j m x y. omega arith);
-          product = row-aside (row-kept (row-kept (row-more (row-kept (h .entered .product) s₁ (λ a b. omega arith)) s₂ refl) s₃ (λ a b. omega arith)) s₄ (λ a b. omega arith)) a (λ j m x y. omega arith);
-          committed = row-aside (row-kept (row-more (row-kept (row-kept (h .entered .committed) s₁ (λ a b. omega arith)) s₂ (λ a b. omega arith)) s₃ refl) s₄ (λ a b. omega arith)) a (λ j m x y. omega arith);
-          place = row-aside (row-more (row-kept (row-kept (row-kept (h .entered .place) s₁ (λ a b. omega arith)) s₂ (λ a b. omega arith)) s₃ (λ a b. omega arith)) s₄ refl) a (λ j m x y. omega arith);
-        };
-        lending = n;
-        fresh = row-aside (row-kept (row-kept (row-kept (row-kept (h .fresh) s₁ (λ a b. omega arith)) s₂ (λ a b. omega arith)) s₃ (λ a b. omega arith)) s₄ (λ a b. omega arith)) a (λ j m x y. omega arith);
-      }

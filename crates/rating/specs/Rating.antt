@@ -10,42 +10,54 @@ use lib.ListN.{length}
 use borrow.Author.Tests.{lt-ltb, le-ltb}
 use Rattle.ids.specs.Ids.{at}
 use Rattle.cells.specs.Layout.{placeIn}
+use Rattle.cells.specs.Rows.{Off}
 use Rattle.owed.specs.Facts.{Facts}
 use Rattle.owed.specs.Owed.{ofArea, areaRate}
 use Rattle.owed.specs.Owed as owed
 use Rattle.owed_laws.specs.Limits.{Limits}
 use Rattle.looks.specs.Looks.{facts}
 use Rattle.table.specs.Columns.{Columns}
-use Rattle.table.specs.Places.{size, rateRow, capRow, callsRow, placeRow, lentRow, worthRow}
-use Rattle.table.specs.Rows.{Stored, Row, none, row-kept, row-first, row-more, grown-kept}
-use Rattle.rating.specs.Entering.{lentAt, worthAt, Begun}
+use Rattle.table.specs.Places.{size, sellerRow, productRow, committedRow, rateRow, capRow, callsRow, placeRow, lentRow, worthRow, areaRateRow}
+use Rattle.table.specs.Rows.{Stored, Aside, Row, Renewed, none, aside-none, aside-more, row-aside, row-same, row-kept, row-first, row-more, renewed-first, renewed-kept, renewed-more}
+use Rattle.rating.specs.Entering.{lentAt, worthAt, Entered, Lending, Begun}
 
--- the rate in force by what is committed, a registration's own rate, and what is lent in its area
+-- the average of what is lent in an area
+abbrev pub averageIn : List ℕ → ℕ → ℕ
+averageIn w a = at w (worthRow + a) / at w (lentRow + a)
+
+-- it is the area's rate
+area-rate-is : (c : List ℕ) {w : List ℕ} → Lending (facts c) 64 w → (a : ℕ) → a < 8 → averageIn w a ≡ areaRate (facts c) a
+unfolding ofArea areaRate
+area-rate-is c h a m =
+    let F = facts c in
+    rw (h .worth .row .is a m, h .lent .row .is a m, zero-add (ofArea F a (worthAt F)), zero-add (ofArea F a (lentAt F)))
+
+-- the rate in force by what is committed, a registration's own rate, and its area's
 abbrev pub rateBy : List ℕ → ℕ → ℕ → ℕ → ℕ
-rateBy w committed own area = cond (ltb 0 committed) (cond (ltb 0 own) own (at w (worthRow + area) / at w (lentRow + area))) 0
+rateBy w committed own area = cond (ltb 0 committed) (cond (ltb 0 own) own (at w (areaRateRow + area))) 0
 
--- it is the rule's
-module _ {c w : List ℕ} (h : Begun c 64 w) (L : Limits (facts c)) (i : ℕ) where
+-- the first i registrations' rates and caps stand in it, the rates in place of their own
+pub record Rating (c : List ℕ) (i : ℕ) (w : List ℕ) : Type 0 where
+  pub upto : i ≤ 64
+  pub long : length w ≡ size
+  pub entered : Entered c 64 w
+  pub rate : Renewed w rateRow 64 (owed.rate (facts c)) (owed.own (facts c)) i
+  pub cap : Row w capRow i (owed.cap (facts c))
+  pub areas : Row w areaRateRow 8 (areaRate (facts c))
+  pub fresh : Row w callsRow 576 none
+
+-- the rate that is read off it is the rule's
+module _ {c w : List ℕ} {n : ℕ} (h : Rating c n w) (L : Limits (facts c)) (i : ℕ) where
   abbrev F : Facts
   F = facts c
-
-  area-rate-by : (a : ℕ) → a < 8 → at w (worthRow + a) / at w (lentRow + a) ≡ areaRate F a
-  unfolding ofArea areaRate
-  area-rate-by a m = rw (h .lending .worth .row .is a m, h .lending .lent .row .is a m, zero-add (ofArea F a (worthAt F)), zero-add (ofArea F a (lentAt F)))
 
   pub rate-by : rateBy w (F .committed i) (owed.own F i) (F .area i) ≡ owed.rate F i
   unfolding owed.rate
   rate-by = go (F .known i) refl
     where
       go : (b : Bool) → F .known i ≡ b → rateBy w (F .committed i) (owed.own F i) (F .area i) ≡ cond b (cond (ltb 0 (owed.own F i)) (owed.own F i) (areaRate F (F .area i))) 0
-      go true e = rw (lt-ltb 0 (F .committed i) (L .some i e), area-rate-by (F .area i) (L .area i))
+      go true e = rw (lt-ltb 0 (F .committed i) (L .some i e), h .areas .is (F .area i) (L .area i))
       go false e = rw (le-ltb 0 (F .committed i) (omega (arith, L .blank i e)))
-
--- the first i registrations' rates and caps stand in it
-pub record Rating (c : List ℕ) (i : ℕ) (w : List ℕ) : Type 0 where
-  pub begun : Begun c 64 w
-  pub rate : Row w rateRow i (owed.rate (facts c))
-  pub cap : Row w capRow i (owed.cap (facts c))
 
 -- all registrations' terms, and nothing else that the passes read
 pub record Rated (c : List ℕ) (w : List ℕ) : Type 0 where
@@ -53,41 +65,46 @@ pub record Rated (c : List ℕ) (w : List ℕ) : Type 0 where
   pub place : Row w placeRow 64 (placeIn c)
   pub fresh : Row w callsRow 576 none
 
-begun-kept : {c w v : List ℕ} {q x : ℕ} → Begun c 64 w → Stored q x w v → rateRow ≤ q → q < callsRow → Begun c 64 v
-begun-kept h s l m =
+-- what is stored beside the terms leaves them as they are
+entered-aside : {c w v : List ℕ} {q m : ℕ} → Entered c 64 w → Aside q m w v → ((j : ℕ) → j < rateRow → Off q m j) → ((j : ℕ) → j < 64 → Off q m (placeRow + j)) → Entered c 64 v
+entered-aside h a o p =
     record {
-      long = s .long ∙ h .long;
-      entered = record {
-        seller = row-kept (h .entered .seller) s (λ a b. omega arith);
-        product = row-kept (h .entered .product) s (λ a b. omega arith);
-        committed = row-kept (h .entered .committed) s (λ a b. omega arith);
-        place = row-kept (h .entered .place) s (λ a b. omega arith);
-      };
-      lending = record {
-        own = row-kept (h .lending .own) s (λ a b. omega arith);
-        area = row-kept (h .lending .area) s (λ a b. omega arith);
-        lent = grown-kept (h .lending .lent) s (λ a b. omega arith);
-        worth = grown-kept (h .lending .worth) s (λ a b. omega arith);
-      };
-      fresh = row-kept (h .fresh) s (λ a b. omega arith);
+      seller = row-aside (h .seller) a (λ j l. o (sellerRow + j) (omega arith));
+      product = row-aside (h .product) a (λ j l. o (productRow + j) (omega arith));
+      committed = row-aside (h .committed) a (λ j l. o (committedRow + j) (omega arith));
+      place = row-aside (h .place) a p;
     }
 
-pub rating-first : {c w : List ℕ} → Begun c 64 w → Rating c 0 w
-rating-first {c} {w} h = record { begun = h; rate = row-first w rateRow (owed.rate (facts c)); cap = row-first w capRow (owed.cap (facts c)) }
-
-pub rating-more : {c w m v : List ℕ} {i : ℕ} → Rating c i w → i < 64 → Stored (rateRow + i) (owed.rate (facts c) i) w m → Stored (capRow + i) (owed.cap (facts c) i) m v → Rating c (i + 1) v
-rating-more h l s t =
+pub rating-first : {c w v : List ℕ} → Begun c 64 w → Row v areaRateRow 8 (averageIn w) → Aside areaRateRow 8 w v → Rating c 0 v
+rating-first {c} {w} {v} h r a =
     record {
-      begun = begun-kept (begun-kept (h .begun) s (omega arith) (omega arith)) t (omega arith) (omega arith);
-      rate = row-kept (row-more (h .rate) s refl) t (λ a b. omega arith);
-      cap = row-more (row-kept (h .cap) s (λ a b. omega arith)) t refl;
+      upto = omega arith;
+      long = a .long ∙ h .long;
+      entered = entered-aside (h .entered) a (λ j l x y. omega arith) (λ j l x y. omega arith);
+      rate = renewed-first (owed.rate (facts c)) (row-aside (h .own) a (λ j l x y. omega arith));
+      cap = row-first v capRow (owed.cap (facts c));
+      areas = row-same r (area-rate-is c (h .lending));
+      fresh = row-aside (h .fresh) a (λ j l x y. omega arith);
+    }
+
+pub rating-more : {c w m v : List ℕ} {i x y : ℕ} → Rating c i w → i < 64 → Stored (rateRow + i) x w m → x ≡ owed.rate (facts c) i → Stored (capRow + i) y m v → y ≡ owed.cap (facts c) i → Rating c (i + 1) v
+rating-more {w = w} {v = v} h l s d t e =
+    let a : Aside rateRow 128 w v = aside-more (aside-more aside-none s (omega arith) (omega arith)) t (omega arith) (omega arith) in
+    record {
+      upto = omega arith;
+      long = a .long ∙ h .long;
+      entered = entered-aside (h .entered) a (λ j l x y. omega arith) (λ j l x y. omega arith);
+      rate = renewed-kept (renewed-more (h .rate) s d) t (omega arith) (λ a b. omega arith);
+      cap = row-more (row-kept (h .cap) s (λ a b. omega arith)) t e;
+      areas = row-aside (h .areas) a (λ j l x y. omega arith);
+      fresh = row-aside (h .fresh) a (λ j l x y. omega arith);
     }
 
 pub rating-all : {c w : List ℕ} → Rating c 64 w → Rated c w
 rating-all h =
-    let t = h .begun .entered in
+    let t = h .entered in
     record {
-      columns = record { long = h .begun .long; seller = t .seller; product = t .product; committed = t .committed; rate = h .rate; cap = h .cap };
+      columns = record { long = h .long; seller = t .seller; product = t .product; committed = t .committed; rate = h .rate .done; cap = h .cap };
       place = t .place;
-      fresh = h .begun .fresh;
+      fresh = h .fresh;
     }

@@ -6,11 +6,12 @@ ghost use lib.Dec.{ltb};
 ghost use lib.ListN.{length};
 ghost use Rattle.year.specs.Year.{registration};
 ghost use Rattle.cells.specs.Layout.{yearIn, Held};
+ghost use Rattle.owed.specs.Owed.{own};
 ghost use Rattle.looks.specs.Looks.{facts};
-ghost use Rattle.table.specs.Places.{size, ownRow};
-ghost use Rattle.table.specs.Rows.{Aside};
+ghost use Rattle.table.specs.Places.{size, lentRow, areaRateRow};
+ghost use Rattle.table.specs.Rows.{Aside, Row};
 ghost use Rattle.rating.specs.Entering.{Lending, Begun};
-ghost use Rattle.rating.specs.Rating.{rateBy, Rating, Rated};
+ghost use Rattle.rating.specs.Rating.{averageIn, rateBy, Rating, Rated};
 use cells::Cells;
 use table::Work;
 use units::Nominated;
@@ -26,43 +27,61 @@ fn lent_by(committed: Nominated, own: u64) -> Nominated
     committed
 }
 
-// A registration's own rate and its area go into the table, and what it lends to its area's sums.
-fn lend(year: &Cells, work: &mut Work, i: usize, r: Registration)
+// What a registration lends goes to its area's sums. Gives its own rate.
+fn lend(year: &Cells, work: &mut Work, i: usize, r: Registration) -> u64
     requires { ⌜ Held (now year) ⌝ }
     requires { ⌜ (i < 64) × (r ≡ registration (yearIn (now year) .terms) i) ⌝ }
     requires { ⌜ (length (now work) ≡ size) × Lending (facts (now year)) i (now work) ⌝ }
+    ensures own { λ r. ⌜ r ≡ own (facts (now (year .entry))) i ⌝ }
     ensures lending { λ _. ⌜ Lending (facts (now (year .entry))) (i + 1) (now (work .exit)) ⌝ }
-    ensures aside { λ _. ⌜ Aside ownRow 144 (now (work .entry)) (now (work .exit)) ⌝ }
+    ensures aside { λ _. ⌜ Aside lentRow 16 (now (work .entry)) (now (work .exit)) ⌝ }
 {
     let field = r.rate;
     let own = looks::own_rate(year, i, field);
     let lent = lent_by(r.committed, own);
     let worth = lent.0 * own;
     let area = r.area as usize;
-    table::put(work, table::OWN, i, own);
-    table::put(work, table::AREA, i, r.area);
     table::add_at(work, table::LENT, area, lent.0);
     table::add_at(work, table::WORTH, area, worth);
+    own
 }
 
-// A registration's terms go into the table.
+// A registration's terms go into the table, its own rate for its rate.
 pub fn enter(year: &Cells, work: &mut Work, i: usize, r: Registration)
     requires { ⌜ Held (now year) × (i < 64) × (r ≡ registration (yearIn (now year) .terms) i) × Begun (now year) i (now work) ⌝ }
     ensures { λ _. ⌜ Begun (now (year .entry)) (i + 1) (now (work .exit)) ⌝ }
 {
+    let own = lend(year, work, i, r);
     let committed = r.committed;
     let place = 3 * r.zone + r.product;
     table::put(work, table::SELLER, i, r.seller);
     table::put(work, table::PRODUCT, i, r.product);
     table::put(work, table::COMMITTED, i, committed.0);
+    table::put(work, table::RATE, i, own);
     table::put(work, table::PLACE, i, place);
-    lend(year, work, i, r);
 }
 
-// The rate in force: a registration's own; where that is 0, the average of what is lent in its area. One that is not known has committed nothing.
-fn in_force(work: &Work, committed: Nominated, own: u64, area: usize) -> u64
-    requires { ⌜ area < 8 ⌝ }
-    ensures { λ r. ⌜ r ≡ rateBy (now (work .entry)) (committed .0) own area ⌝ }
+// Each area's rate: the average of what is lent there.
+fn average(work: &mut Work)
+    requires { ⌜ length (now work) ≡ size ⌝ }
+    ensures averages { λ _. ⌜ Row (now (work .exit)) areaRateRow 8 (averageIn (now (work .entry))) ⌝ }
+    ensures aside { λ _. ⌜ Aside areaRateRow 8 (now (work .entry)) (now (work .exit)) ⌝ }
+{
+    let mut a: usize = 0;
+    while a < 8 {
+        let lent = Nominated(table::get(work, table::LENT, a));
+        let worth = table::get(work, table::WORTH, a);
+        let rate = lent.average(worth);
+        table::put(work, table::AREA_RATE, a, rate);
+        a += 1;
+    }
+}
+
+// The rate in force: a registration's own; where that is 0, its area's. One that is not known has committed nothing.
+fn in_force(year: &Cells, work: &Work, i: usize, committed: Nominated, own: u64) -> u64
+    requires { ⌜ Held (now year) ⌝ }
+    requires { ⌜ i < 64 ⌝ }
+    ensures { λ r. ⌜ r ≡ rateBy (now (work .entry)) (committed .0) own (facts (now (year .entry)) .area i) ⌝ }
 {
     if committed.0 == 0 {
         return 0;
@@ -70,12 +89,11 @@ fn in_force(work: &Work, committed: Nominated, own: u64, area: usize) -> u64
     if own > 0 {
         return own;
     }
-    let lent = Nominated(table::get(work, table::LENT, area));
-    let worth = table::get(work, table::WORTH, area);
-    lent.average(worth)
+    let r = cells::registration_at(year, i);
+    table::get(work, table::AREA_RATE, r.area as usize)
 }
 
-// A registration's rate in force, and its cap: that rate for all that it committed.
+// A registration's rate in force, in place of its own, and its cap: that rate for all that it committed.
 fn rate(year: &Cells, work: &mut Work, i: usize)
     requires { ⌜ Held (now year) ⌝ }
     requires { ⌜ i < 64 ⌝ }
@@ -83,9 +101,8 @@ fn rate(year: &Cells, work: &mut Work, i: usize)
     ensures { λ _. ⌜ Rating (now (year .entry)) (i + 1) (now (work .exit)) ⌝ }
 {
     let committed = Nominated::new(table::get(work, table::COMMITTED, i));
-    let own = table::get(work, table::OWN, i);
-    let area = table::get(work, table::AREA, i);
-    let rate = in_force(work, committed, own, area as usize);
+    let own = table::get(work, table::RATE, i);
+    let rate = in_force(year, work, i, committed, own);
     let all = looks::unforced(year, committed);
     let cap = all.0 * rate;
     table::put(work, table::RATE, i, rate);
@@ -98,6 +115,7 @@ pub fn rate_all(year: &Cells, work: &mut Work)
     requires { ⌜ Begun (now year) 64 (now work) ⌝ }
     ensures { λ _. ⌜ Rated (now (year .entry)) (now (work .exit)) ⌝ }
 {
+    average(work);
     let mut i: usize = 0;
     while i < 64 {
         rate(year, work, i);

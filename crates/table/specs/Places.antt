@@ -2,7 +2,7 @@
 use Prim.Native.Nat.{ℕ}
 
 abbrev pub size : ℕ
-size = 1104
+size = 984
 
 -- a registration's terms, its rate in force, and its cap
 abbrev pub sellerRow : ℕ
@@ -60,19 +60,16 @@ testRow = 864
 abbrev pub lseRow : ℕ
 lseRow = 880
 
--- the place of a registration's test, its own rate, and its area
+-- the place of a registration's test
 abbrev pub placeRow : ℕ
 placeRow = 896
 
-abbrev pub ownRow : ℕ
-ownRow = 960
-
-abbrev pub areaRow : ℕ
-areaRow = 1024
-
--- what an area's registrations with a rate of their own committed, and what that is worth
+-- what an area's registrations with a rate of their own committed, what that is worth, and the average
 abbrev pub lentRow : ℕ
-lentRow = 1088
+lentRow = 960
 
 abbrev pub worthRow : ℕ
-worthRow = 1096
+worthRow = 968
+
+abbrev pub areaRateRow : ℕ
+areaRateRow = 976

@@ -7,7 +7,7 @@ ghost use Rattle.table.specs.Rows.{Stored, Aside, Row, none};
 ghost use Rattle.table.specs.Places.{size};
 
 // Rows that change together stand together (specs/Places.antt).
-pub type Work = [u64; 1104];
+pub type Work = [u64; 984];
 
 // By registration, 64 places each: its terms, copied from the lent run; its rate in force, and its cap.
 pub const SELLER: usize = 0;
@@ -52,17 +52,15 @@ pub const TEST: usize = 864;
 
 pub const LSE: usize = 880;
 
-// By registration the place of its test, 3 × zone + product, its own rate, and its area.
+// By registration the place of its test, 3 × zone + product.
 pub const PLACE: usize = 896;
 
-pub const OWN: usize = 960;
+// By area, 8 places each: what those with a rate of their own committed, what that is worth at these rates, and its average.
+pub const LENT: usize = 960;
 
-pub const AREA: usize = 1024;
+pub const WORTH: usize = 968;
 
-// By area, 8 places each: what those with a rate of their own committed, and what that is worth at these rates.
-pub const LENT: usize = 1088;
-
-pub const WORTH: usize = 1096;
+pub const AREA_RATE: usize = 976;
 
 // The number at place i of a row.
 pub fn get(work: &Work, row: usize, i: usize) -> u64

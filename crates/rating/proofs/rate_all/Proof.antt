@@ -12,6 +12,9 @@ Inv-loop year work₀ i₀ work i = (i ≤ 64) × Rating year i work
 abbrev μ-loop : tie.MeasureT-loop
 μ-loop year work₀ i₀ work i = 64 - i
 
+loop-holds : tie.Need-loop-holds Inv-loop μ-loop
+loop-holds c = let s = c .before .before in (omega arith, rating-first (s .pre .1) (c .average .ensures .0) (c .average .ensures .1))
+
 loop-again : tie.Need-loop-again Inv-loop μ-loop
 loop-again c = (omega arith, c .rate .ensures)
 
@@ -24,8 +27,9 @@ rate-all-spec =
     (tie.spec
     Inv-loop
     μ-loop
-    (λ c. (omega arith, rating-first (c .pre .1)))
-    (λ c κs. (c .before .before .before .pre .0, (omega arith, c .before .before .loop .inv .1)))
+    (λ c κs. c .before .pre .1 .long)
+    loop-holds
+    (λ c κs. (c .before .before .before .before .before .pre .0, (omega arith, c .before .before .loop .inv .1)))
     (λ c. omega arith)
     (λ c. omega arith)
     loop-again
