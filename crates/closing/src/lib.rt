@@ -15,7 +15,7 @@ pub fn close(year: &Cells, work: &mut Work, k: u64) -> Amounts
     requires { ⌜ Held (now year) × Begun (now year) 64 (now work) × (1 ≤ k) × (k ≤ 15) ⌝ }
     ensures { λ r. ⌜ r ≡ amounts (facts (now (year .entry))) k ⌝ }
 {
-    rating::rate_all(year, work);
+    rating::rate(year, work);
     passes::bill_events(year, work, k);
     testing::charge_tests(year, work, k);
     lses::credit_lses(year, work);

@@ -32,13 +32,13 @@ module _ (F : Facts) where
   unfoldable pub unforced : ℕ → ℕ
   unforced a = convert (F .factor) (F .requirement) a
 
-  -- registration i's own rate: of its clearings, where it has any, the average by kW, rounded down; else its field
+  -- registration i's own rate: of its clearings, where it has any, the average by kW, rounded down; else its field; 0 where it is not known
   unfoldable pub own : ℕ → ℕ
-  own i = cond (ltb 0 (F .clearings i)) (F .clearedValue i / F .clearedKw i) (F .fieldRate i)
+  own = only (F .known) (λ i. cond (ltb 0 (F .clearings i)) (F .clearedValue i / F .clearedKw i) (F .fieldRate i))
 
-  -- an area's rate: the average of the own rates above 0 of its known registrations, by committed kW, rounded down
+  -- an area's rate: the average of the own rates above 0 of its registrations, by committed kW, rounded down
   abbrev pub lends : ℕ → Bool
-  lends i = F .known i && ltb 0 (own i)
+  lends i = ltb 0 (own i)
 
   unfoldable pub ofArea : ℕ → (ℕ → ℕ) → ℕ
   ofArea a f = sumTo registrations (keyed (F .area) f a)
@@ -46,9 +46,9 @@ module _ (F : Facts) where
   unfoldable pub areaRate : ℕ → ℕ
   areaRate a = ofArea a (only lends (λ i. F .committed i * own i)) / ofArea a (only lends (F .committed))
 
-  -- the rate in force: its own; where that is 0, its area's; 0 where it is not known
+  -- the rate in force: its own; where that is 0, a known registration has its area's
   unfoldable pub rate : ℕ → ℕ
-  rate i = cond (F .known i) (cond (ltb 0 (own i)) (own i) (areaRate (F .area i))) 0
+  rate i = cond (F .known i && eqb (own i) 0) (areaRate (F .area i)) (own i)
 
   -- what f sums up to over seller s's registrations
   unfoldable pub ofSeller : ℕ → (ℕ → ℕ) → ℕ

@@ -4,8 +4,8 @@ use mathlib.Core.Bool.{Bool, true, false, cond}
 use mathlib.Core.Path.{_≡_, refl}
 use native.Mathlib.Omega.{arith}
 use native.Mathlib.Nat.{mul-le-mul, mul-le-mul-left, div-le-of-le-mul, div-mul-le-self, le-trans, le-refl}
-use lib.Dec.{eqb, leb, ltb}
-use borrow.Author.Tests.{ltb-true, eq-eqb}
+use lib.Dec.{eqb, leb}
+use borrow.Author.Tests.{eq-eqb, eqb-false}
 use Rattle.ids.specs.Ids.{sumTo, only, keyed}
 use Rattle.ids.specs.Sums.{sum-bound}
 use Rattle.ids.specs.Tests.{cond-le}
@@ -102,11 +102,11 @@ module _ {F : Facts} (L : Limits F) where
   -- a rate is at least 1 where a registration of its area has one of its own
   pub rate-some : (i j : ℕ) → F .known i ≡ true → F .area i ≡ F .area j → j < registrations → F .known j ≡ true → 1 ≤ own F j → 1 ≤ rate F i
   unfolding rate
-  rate-some i j here same l there lent = rw (here, same) (go (ltb 0 (own F i)) refl)
+  rate-some i j here same l there lent = rw (here, same) (go (eqb (own F i) 0) refl)
     where
-      go : (b : Bool) → ltb 0 (own F i) ≡ b → 1 ≤ cond b (own F i) (areaRate F (F .area j))
-      go true e = ltb-true 0 (own F i) e
-      go false e = area-rate-some F j l there lent (L .some j there)
+      go : (b : Bool) → eqb (own F i) 0 ≡ b → 1 ≤ cond b (areaRate F (F .area j)) (own F i)
+      go true e = area-rate-some F j l lent (L .some j there)
+      go false e = let z = eqb-false (own F i) 0 e in omega arith
 
   -- a test's base, at most the highest rate, its rate, and its charge
   pub worth-le : (p : ℕ → Bool) (s : ℕ)

@@ -44,6 +44,22 @@ pub record Limits (F : Facts) : Type 0 where
   -- no registration is in two tests
   pub once : (i : ℕ) → i < registrations → sumTo places (λ p. cond (F .tested p i) 1 0) ≤ 1
 
+-- a registration is known just where it commits something
+module _ {F : Facts} (L : Limits F) (i : ℕ) where
+  pub committing-known : 1 ≤ F .committed i → F .known i ≡ true
+  committing-known h = go (F .known i) refl
+    where
+      go : (b : Bool) → F .known i ≡ b → b ≡ true
+      go true e = refl
+      go false e = absurd (omega (arith, L .blank i e))
+
+  pub committing-unknown : F .committed i ≡ 0 → F .known i ≡ false
+  committing-unknown z = go (F .known i) refl
+    where
+      go : (b : Bool) → F .known i ≡ b → b ≡ false
+      go true e = absurd (omega (arith, L .some i e))
+      go false e = refl
+
 -- a listing's numbers, at every id
 record Within (l : Listing) : Type 0 where
   reduction : (i : ℕ) → year.reduction l i ≤ 100000

@@ -5,9 +5,10 @@ use mathlib.Core.Path.{_≡_, refl}
 use native.Mathlib.Omega.{arith}
 use native.Mathlib.Nat.{mul-le-mul-left, div-le-of-le-mul, le-div-iff-mul-le}
 use lib.Dec.{eqb, ltb}
-use borrow.Author.Tests.{ltb-true, lt-ltb, eq-eqb}
+use borrow.Author.Tests.{ltb-true, lt-ltb, eq-eqb, ne-eqb}
 use Rattle.ids.specs.Ids.{sumTo, only, keyed}
 use Rattle.ids.specs.Sums.{sum-mul, sum-le, sum-one}
+use Rattle.ids.specs.Tests.{cond-le}
 use Rattle.owed.specs.Facts.{Facts, registrations}
 use Rattle.owed.specs.Owed.{own, lends, ofArea, areaRate, rate}
 
@@ -39,7 +40,7 @@ module _ (n : ℕ) (key kw q : ℕ → ℕ) (p : ℕ → Bool) (k : ℕ) where
 -- a registration's own
 pub own-le : (F : Facts) (i : ℕ) → F .fieldRate i ≤ 100000 → F .clearedValue i ≤ 100000 * F .clearedKw i → own F i ≤ 100000
 unfolding own
-own-le F i f v = go (ltb 0 (F .clearings i))
+own-le F i f v = cond-le (F .known i) (go (ltb 0 (F .clearings i)))
   where
     go : (b : Bool) → cond b (F .clearedValue i / F .clearedKw i) (F .fieldRate i) ≤ 100000
     go true = div-le-of-le-mul (F .clearedKw i) (omega (arith, v))
@@ -52,22 +53,35 @@ module _ (F : Facts) where
 
   pub rate-le : ((i : ℕ) → own F i ≤ 100000) → (i : ℕ) → rate F i ≤ 100000
   unfolding rate
-  rate-le h i = go (F .known i) (ltb 0 (own F i))
+  rate-le h i = go (F .known i && eqb (own F i) 0)
     where
-      go : (b c : Bool) → cond b (cond c (own F i) (areaRate F (F .area i))) 0 ≤ 100000
-      go true true = h i
-      go true false = area-rate-le h (F .area i)
-      go false c = omega arith
+      go : (b : Bool) → cond b (areaRate F (F .area i)) (own F i) ≤ 100000
+      go true = area-rate-le h (F .area i)
+      go false = h i
 
   -- the rate of an area where registration j lends
-  above : (i : ℕ) (b : Bool) → (b && ltb 0 (own F i)) ≡ true → 1 ≤ own F i
-  above i true e = ltb-true 0 (own F i) e
-  above i false e = absurd (let z : _≡_ {A = ℕ} 0 1 = cc in omega arith)
-
-  pub area-rate-some : (j : ℕ) → j < registrations → F .known j ≡ true → 1 ≤ own F j → 1 ≤ F .committed j → 1 ≤ areaRate F (F .area j)
+  pub area-rate-some : (j : ℕ) → j < registrations → 1 ≤ own F j → 1 ≤ F .committed j → 1 ≤ areaRate F (F .area j)
   unfolding ofArea areaRate
-  area-rate-some j l known lent some =
+  area-rate-some j l lent some =
       let a = F .area j in
       let one : 1 ≤ ofArea F a (only (lends F) (F .committed)) =
-      omega (arith, some, rw (eq-eqb a a refl, known, lt-ltb 0 (own F j) lent) at (sum-one (keyed (F .area) (only (lends F) (F .committed)) a) l)) in
-      le-div-iff-mul-le one .1 (omega (arith, worth-least registrations (F .area) (F .committed) (own F) (lends F) a (λ i e. above i (F .known i) e)))
+      omega (arith, some, rw (eq-eqb a a refl, lt-ltb 0 (own F j) lent) at (sum-one (keyed (F .area) (only (lends F) (F .committed)) a) l)) in
+      le-div-iff-mul-le one .1 (omega (arith, worth-least registrations (F .area) (F .committed) (own F) (lends F) a (λ i e. ltb-true 0 (own F i) e)))
+
+  -- a registration that keeps its own, and one that borrows
+  module _ (i : ℕ) where
+    pub rate-kept : 1 ≤ own F i → own F i ≡ rate F i
+    unfolding rate
+    rate-kept h = rw (ne-eqb (own F i) 0 (λ e. omega arith)) (go (F .known i))
+      where
+        go : (b : Bool) → own F i ≡ cond (b && false) (areaRate F (F .area i)) (own F i)
+        go true = refl
+        go false = refl
+
+    pub rate-unknown : F .known i ≡ false → own F i ≡ rate F i
+    unfolding rate
+    rate-unknown e = rw e
+
+    pub rate-borrowed : F .known i ≡ true → own F i ≡ 0 → rate F i ≡ areaRate F (F .area i)
+    unfolding rate
+    rate-borrowed e z = rw (e, eq-eqb (own F i) 0 z)

@@ -1,11 +1,10 @@
 -- The registrations as they are entered into the working table: their terms, and what they lend their areas.
 use Prim.Native.Nat.{ℕ, _+_, _*_, _≤_, _<_}
-use mathlib.Core.Bool.{Bool, true, false, _&&_, cond}
+use mathlib.Core.Bool.{Bool, true, false, cond}
 use mathlib.Core.List.{List}
 use mathlib.Core.Path.{_≡_, refl, _∙_}
 use native.Mathlib.Omega.{arith}
 use native.Mathlib.Nat.{zero-mul, mul-le-mul, le-refl}
-use lib.Dec.{ltb}
 use lib.ListN.{length, replicate, length-replicate}
 use Rattle.ids.specs.Ids.{at, only}
 use Rattle.ids.specs.Sets.{getD-replicate-same}
@@ -16,11 +15,14 @@ use Rattle.owed.specs.Owed.{lends}
 use Rattle.owed.specs.Owed as owed
 use Rattle.owed_laws.specs.Limits.{Limits}
 use Rattle.looks.specs.Looks.{facts}
-use Rattle.table.specs.Places.{size, sellerRow, productRow, committedRow, rateRow, callsRow, placeRow, lentRow, worthRow}
+use Rattle.table.specs.Places.{size, sellerRow, productRow, committedRow, rateRow, capRow, callsRow, placeRow, areaRow, lentRow, worthRow}
 use Rattle.table.specs.Rows.{Stored, Aside, Row, Grown, none, aside-none, aside-more, row-aside, row-kept, row-first, row-more, grown-first, grown-kept, grown-more, grown-most}
 
--- what registration i lends: kilowatts, and what they are worth
+-- registration i's cap by its own rate; what it lends: kilowatts, and what they are worth
 module _ (F : Facts) where
+  abbrev pub ownCap : ℕ → ℕ
+  ownCap i = owed.unforced F (F .committed i) * owed.own F i
+
   abbrev pub lentAt : ℕ → ℕ
   lentAt = only (lends F) (F .committed)
 
@@ -33,17 +35,19 @@ pub record Entered (c : List ℕ) (i : ℕ) (w : List ℕ) : Type 0 where
   pub product : Row w productRow i (facts c .product)
   pub committed : Row w committedRow i (facts c .committed)
   pub place : Row w placeRow i (placeIn c)
+  pub area : Row w areaRow i (facts c .area)
 
 -- by area what they lend
 pub record Lending (F : Facts) (i : ℕ) (w : List ℕ) : Type 0 where
   pub lent : Grown w lentRow 8 none (F .area) (lentAt F) i
   pub worth : Grown w worthRow 8 none (F .area) (worthAt F) i
 
--- both stand in the table, with their own rates, and nothing else
+-- both stand in the table, with their own rates and the caps by these, and nothing else
 pub record Begun (c : List ℕ) (i : ℕ) (w : List ℕ) : Type 0 where
   pub long : length w ≡ size
   pub entered : Entered c i w
   pub own : Row w rateRow i (owed.own (facts c))
+  pub cap : Row w capRow i (ownCap (facts c))
   pub lending : Lending (facts c) i w
   pub fresh : Row w callsRow 576 none
 
@@ -54,29 +58,22 @@ begun-first c =
     let zeros : (p n : ℕ) → Row w p n none = λ p n. record { is = λ j m. getD-replicate-same {A = ℕ} size (p + j) 0 } in
     record {
       long = length-replicate {A = ℕ} size 0;
-      entered = record { seller = row-first w sellerRow (F .seller); product = row-first w productRow (F .product); committed = row-first w committedRow (F .committed); place = row-first w placeRow (placeIn c) };
+      entered = record { seller = row-first w sellerRow (F .seller); product = row-first w productRow (F .product); committed = row-first w committedRow (F .committed); place = row-first w placeRow (placeIn c); area = row-first w areaRow (F .area) };
       own = row-first w rateRow (owed.own F);
+      cap = row-first w capRow (ownCap F);
       lending = record { lent = grown-first (F .area) (lentAt F) (zeros lentRow 8); worth = grown-first (F .area) (worthAt F) (zeros worthRow 8) };
       fresh = zeros callsRow 576;
     }
 
--- one that is not known has committed nothing, so it lends nothing whatever its rate
+-- what is lent, at the own rate
+pub worth-is : (F : Facts) (i : ℕ) → lentAt F i * owed.own F i ≡ worthAt F i
+worth-is F i = go (lends F i)
+  where
+    go : (b : Bool) → cond b (F .committed i) 0 * owed.own F i ≡ cond b (F .committed i * owed.own F i) 0
+    go true = refl
+    go false = zero-mul (owed.own F i)
+
 module _ {F : Facts} (L : Limits F) (i : ℕ) where
-  pub lent-is : cond (ltb 0 (owed.own F i)) (F .committed i) 0 ≡ lentAt F i
-  lent-is = go (F .known i) (ltb 0 (owed.own F i)) (L .blank i)
-    where
-      go : (k b : Bool) → (k ≡ false → F .committed i ≡ 0) → cond b (F .committed i) 0 ≡ cond (k && b) (F .committed i) 0
-      go true b h = refl
-      go false true h = h refl
-      go false false h = refl
-
-  pub worth-is : lentAt F i * owed.own F i ≡ worthAt F i
-  worth-is = go (lends F i)
-    where
-      go : (b : Bool) → cond b (F .committed i) 0 * owed.own F i ≡ cond b (F .committed i * owed.own F i) 0
-      go true = refl
-      go false = zero-mul (owed.own F i)
-
   pub lent-le : lentAt F i ≤ 100000
   lent-le = cond-le (lends F i) (L .committed i)
 
@@ -110,20 +107,23 @@ lending-kept h s l =
     record { lent = grown-kept (h .lent) s (λ a b. omega arith); worth = grown-kept (h .worth) s (λ a b. omega arith) }
 
 -- and its terms are entered
-pub begun-more : {c : List ℕ} {i : ℕ} {w w₀ w₁ w₂ w₃ w₄ v : List ℕ} → Begun c i w → i < 64 → let F = facts c in
+pub begun-more : {c : List ℕ} {i : ℕ} {w w₀ w₁ w₂ w₃ w₄ w₅ w₆ v : List ℕ} → Begun c i w → i < 64 → let F = facts c in
     Lending F (i + 1) w₀ → Aside lentRow 16 w w₀
     → Stored (sellerRow + i) (F .seller i) w₀ w₁ → Stored (productRow + i) (F .product i) w₁ w₂ → Stored (committedRow + i) (F .committed i) w₂ w₃
-    → Stored (rateRow + i) (owed.own F i) w₃ w₄ → Stored (placeRow + i) (placeIn c i) w₄ v → Begun c (i + 1) v
-begun-more h l n a s₁ s₂ s₃ s₄ s₅ =
+    → Stored (rateRow + i) (owed.own F i) w₃ w₄ → Stored (capRow + i) (ownCap F i) w₄ w₅
+    → Stored (placeRow + i) (placeIn c i) w₅ w₆ → Stored (areaRow + i) (F .area i) w₆ v → Begun c (i + 1) v
+begun-more h l n a s₁ s₂ s₃ s₄ s₅ s₆ s₇ =
     record {
-      long = s₅ .long ∙ s₄ .long ∙ s₃ .long ∙ s₂ .long ∙ s₁ .long ∙ a .long ∙ h .long;
+      long = s₇ .long ∙ s₆ .long ∙ s₅ .long ∙ s₄ .long ∙ s₃ .long ∙ s₂ .long ∙ s₁ .long ∙ a .long ∙ h .long;
       entered = record {
-        seller = row-kept (row-kept (row-kept (row-kept (row-more (row-aside (h .entered .seller) a (λ j m x y. omega arith)) s₁ refl) s₂ (λ a b. omega arith)) s₃ (λ a b. omega arith)) s₄ (λ a b. omega arith)) s₅ (λ a b. omega arith);
-        product = row-kept (row-kept (row-kept (row-more (row-kept (row-aside (h .entered .product) a (λ j m x y. omega arith)) s₁ (λ a b. omega arith)) s₂ refl) s₃ (λ a b. omega arith)) s₄ (λ a b. omega arith)) s₅ (λ a b. omega arith);
-        committed = row-kept (row-kept (row-more (row-kept (row-kept (row-aside (h .entered .committed) a (λ j m x y. omega arith)) s₁ (λ a b. omega arith)) s₂ (λ a b. omega arith)) s₃ refl) s₄ (λ a b. omega arith)) s₅ (λ a b. omega arith);
-        place = row-more (row-kept (row-kept (row-kept (row-kept (row-aside (h .entered .place) a (λ j m x y. omega arith)) s₁ (λ a b. omega arith)) s₂ (λ a b. omega arith)) s₃ (λ a b. omega arith)) s₄ (λ a b. omega arith)) s₅ refl;
+        seller = row-kept (row-kept (row-kept (row-kept (row-kept (row-kept (row-more (row-aside (h .entered .seller) a (λ j m x y. omega arith)) s₁ refl) s₂ (λ a b. omega arith)) s₃ (λ a b. omega arith)) s₄ (λ a b. omega arith)) s₅ (λ a b. omega arith)) s₆ (λ a b. omega arith)) s₇ (λ a b. omega arith);
+        product = row-kept (row-kept (row-kept (row-kept (row-kept (row-more (row-kept (row-aside (h .entered .product) a (λ j m x y. omega arith)) s₁ (λ a b. omega arith)) s₂ refl) s₃ (λ a b. omega arith)) s₄ (λ a b. omega arith)) s₅ (λ a b. omega arith)) s₆ (λ a b. omega arith)) s₇ (λ a b. omega arith);
+        committed = row-kept (row-kept (row-kept (row-kept (row-more (row-kept (row-kept (row-aside (h .entered .committed) a (λ j m x y. omega arith)) s₁ (λ a b. omega arith)) s₂ (λ a b. omega arith)) s₃ refl) s₄ (λ a b. omega arith)) s₅ (λ a b. omega arith)) s₆ (λ a b. omega arith)) s₇ (λ a b. omega arith);
+        place = row-kept (row-more (row-kept (row-kept (row-kept (row-kept (row-kept (row-aside (h .entered .place) a (λ j m x y. omega arith)) s₁ (λ a b. omega arith)) s₂ (λ a b. omega arith)) s₃ (λ a b. omega arith)) s₄ (λ a b. omega arith)) s₅ (λ a b. omega arith)) s₆ refl) s₇ (λ a b. omega arith);
+        area = row-more (row-kept (row-kept (row-kept (row-kept (row-kept (row-kept (row-aside (h .entered .area) a (λ j m x y. omega arith)) s₁ (λ a b. omega arith)) s₂ (λ a b. omega arith)) s₃ (λ a b. omega arith)) s₄ (λ a b. omega arith)) s₅ (λ a b. omega arith)) s₆ (λ a b. omega arith)) s₇ refl;
       };
-      own = row-kept (row-more (row-kept (row-kept (row-kept (row-aside (h .own) a (λ j m x y. omega arith)) s₁ (λ a b. omega arith)) s₂ (λ a b. omega arith)) s₃ (λ a b. omega arith)) s₄ refl) s₅ (λ a b. omega arith);
-      lending = lending-kept (lending-kept (lending-kept (lending-kept (lending-kept n s₁ (omega arith)) s₂ (omega arith)) s₃ (omega arith)) s₄ (omega arith)) s₅ (omega arith);
-      fresh = row-kept (row-kept (row-kept (row-kept (row-kept (row-aside (h .fresh) a (λ j m x y. omega arith)) s₁ (λ a b. omega arith)) s₂ (λ a b. omega arith)) s₃ (λ a b. omega arith)) s₄ (λ a b. omega arith)) s₅ (λ a b. omega arith);
+      own = row-kept (row-kept (row-kept (row-more (row-kept (row-kept (row-kept (row-aside (h .own) a (λ j m x y. omega arith)) s₁ (λ a b. omega arith)) s₂ (λ a b. omega arith)) s₃ (λ a b. omega arith)) s₄ refl) s₅ (λ a b. omega arith)) s₆ (λ a b. omega arith)) s₇ (λ a b. omega arith);
+      cap = row-kept (row-kept (row-more (row-kept (row-kept (row-kept (row-kept (row-aside (h .cap) a (λ j m x y. omega arith)) s₁ (λ a b. omega arith)) s₂ (λ a b. omega arith)) s₃ (λ a b. omega arith)) s₄ (λ a b. omega arith)) s₅ refl) s₆ (λ a b. omega arith)) s₇ (λ a b. omega arith);
+      lending = lending-kept (lending-kept (lending-kept (lending-kept (lending-kept (lending-kept (lending-kept n s₁ (omega arith)) s₂ (omega arith)) s₃ (omega arith)) s₄ (omega arith)) s₅ (omega arith)) s₆ (omega arith)) s₇ (omega arith);
+      fresh = row-kept (row-kept (row-kept (row-kept (row-kept (row-kept (row-kept (row-aside (h .fresh) a (λ j m x y. omega arith)) s₁ (λ a b. omega arith)) s₂ (λ a b. omega arith)) s₃ (λ a b. omega arith)) s₄ (λ a b. omega arith)) s₅ (λ a b. omega arith)) s₆ (λ a b. omega arith)) s₇ (λ a b. omega arith);
     }

@@ -1,25 +1,20 @@
 -- The rates in force and the caps, registration by registration, in the working table that all are entered into.
-use Prim.Native.Nat.{ℕ, _+_, _/_, _≤_, _<_}
-use mathlib.Core.Bool.{Bool, true, false, cond}
+use Prim.Native.Nat.{ℕ, _+_, _*_, _/_, _≤_, _<_}
 use mathlib.Core.List.{List}
-use mathlib.Core.Path.{_≡_, refl, _∙_}
+use mathlib.Core.Path.{_≡_, ap, _∙_}
 use native.Mathlib.Omega.{arith}
 use native.Mathlib.Nat.{zero-add}
-use lib.Dec.{ltb}
 use lib.ListN.{length}
-use borrow.Author.Tests.{lt-ltb, le-ltb}
 use Rattle.ids.specs.Ids.{at}
 use Rattle.cells.specs.Layout.{placeIn}
 use Rattle.cells.specs.Rows.{Off}
-use Rattle.owed.specs.Facts.{Facts}
 use Rattle.owed.specs.Owed.{ofArea, areaRate}
 use Rattle.owed.specs.Owed as owed
-use Rattle.owed_laws.specs.Limits.{Limits}
 use Rattle.looks.specs.Looks.{facts}
 use Rattle.table.specs.Columns.{Columns}
-use Rattle.table.specs.Places.{size, sellerRow, productRow, committedRow, rateRow, capRow, callsRow, placeRow, lentRow, worthRow, areaRateRow}
-use Rattle.table.specs.Rows.{Stored, Aside, Row, Renewed, none, aside-none, aside-more, row-aside, row-same, row-kept, row-first, row-more, renewed-first, renewed-kept, renewed-more}
-use Rattle.rating.specs.Entering.{lentAt, worthAt, Entered, Lending, Begun}
+use Rattle.table.specs.Places.{size, sellerRow, productRow, committedRow, rateRow, capRow, callsRow, placeRow, areaRow, lentRow, worthRow, areaRateRow}
+use Rattle.table.specs.Rows.{Stored, Aside, Row, Renewed, none, aside-none, aside-more, row-aside, row-same, renewed-first, renewed-kept, renewed-more, renewed-none}
+use Rattle.rating.specs.Entering.{ownCap, lentAt, worthAt, Entered, Lending, Begun}
 
 -- the average of what is lent in an area
 abbrev pub averageIn : List ℕ → ℕ → ℕ
@@ -32,32 +27,15 @@ area-rate-is c h a m =
     let F = facts c in
     rw (h .worth .row .is a m, h .lent .row .is a m, zero-add (ofArea F a (worthAt F)), zero-add (ofArea F a (lentAt F)))
 
--- the rate in force by what is committed, a registration's own rate, and its area's
-abbrev pub rateBy : List ℕ → ℕ → ℕ → ℕ → ℕ
-rateBy w committed own area = cond (ltb 0 committed) (cond (ltb 0 own) own (at w (areaRateRow + area))) 0
-
--- the first i registrations' rates and caps stand in it, the rates in place of their own
+-- the first i registrations' rates in force and their caps stand in it, the others' own ones still
 pub record Rating (c : List ℕ) (i : ℕ) (w : List ℕ) : Type 0 where
   pub upto : i ≤ 64
   pub long : length w ≡ size
   pub entered : Entered c 64 w
   pub rate : Renewed w rateRow 64 (owed.rate (facts c)) (owed.own (facts c)) i
-  pub cap : Row w capRow i (owed.cap (facts c))
+  pub cap : Renewed w capRow 64 (owed.cap (facts c)) (ownCap (facts c)) i
   pub areas : Row w areaRateRow 8 (areaRate (facts c))
   pub fresh : Row w callsRow 576 none
-
--- the rate that is read off it is the rule's
-module _ {c w : List ℕ} {n : ℕ} (h : Rating c n w) (L : Limits (facts c)) (i : ℕ) where
-  abbrev F : Facts
-  F = facts c
-
-  pub rate-by : rateBy w (F .committed i) (owed.own F i) (F .area i) ≡ owed.rate F i
-  unfolding owed.rate
-  rate-by = go (F .known i) refl
-    where
-      go : (b : Bool) → F .known i ≡ b → rateBy w (F .committed i) (owed.own F i) (F .area i) ≡ cond b (cond (ltb 0 (owed.own F i)) (owed.own F i) (areaRate F (F .area i))) 0
-      go true e = rw (lt-ltb 0 (F .committed i) (L .some i e), h .areas .is (F .area i) (L .area i))
-      go false e = rw (le-ltb 0 (F .committed i) (omega (arith, L .blank i e)))
 
 -- all registrations' terms, and nothing else that the passes read
 pub record Rated (c : List ℕ) (w : List ℕ) : Type 0 where
@@ -66,36 +44,52 @@ pub record Rated (c : List ℕ) (w : List ℕ) : Type 0 where
   pub fresh : Row w callsRow 576 none
 
 -- what is stored beside the terms leaves them as they are
-entered-aside : {c w v : List ℕ} {q m : ℕ} → Entered c 64 w → Aside q m w v → ((j : ℕ) → j < rateRow → Off q m j) → ((j : ℕ) → j < 64 → Off q m (placeRow + j)) → Entered c 64 v
+entered-aside : {c w v : List ℕ} {q m : ℕ} → Entered c 64 w → Aside q m w v → ((j : ℕ) → j < rateRow → Off q m j) → ((j : ℕ) → placeRow ≤ j → j < lentRow → Off q m j) → Entered c 64 v
 entered-aside h a o p =
     record {
       seller = row-aside (h .seller) a (λ j l. o (sellerRow + j) (omega arith));
       product = row-aside (h .product) a (λ j l. o (productRow + j) (omega arith));
       committed = row-aside (h .committed) a (λ j l. o (committedRow + j) (omega arith));
-      place = row-aside (h .place) a p;
+      place = row-aside (h .place) a (λ j l. p (placeRow + j) (omega arith) (omega arith));
+      area = row-aside (h .area) a (λ j l. p (areaRow + j) (omega arith) (omega arith));
     }
 
 pub rating-first : {c w v : List ℕ} → Begun c 64 w → Row v areaRateRow 8 (averageIn w) → Aside areaRateRow 8 w v → Rating c 0 v
-rating-first {c} {w} {v} h r a =
+rating-first {c} h r a =
     record {
       upto = omega arith;
       long = a .long ∙ h .long;
-      entered = entered-aside (h .entered) a (λ j l x y. omega arith) (λ j l x y. omega arith);
+      entered = entered-aside (h .entered) a (λ j l x y. omega arith) (λ j k l x y. omega arith);
       rate = renewed-first (owed.rate (facts c)) (row-aside (h .own) a (λ j l x y. omega arith));
-      cap = row-first v capRow (owed.cap (facts c));
+      cap = renewed-first (owed.cap (facts c)) (row-aside (h .cap) a (λ j l x y. omega arith));
       areas = row-same r (area-rate-is c (h .lending));
       fresh = row-aside (h .fresh) a (λ j l x y. omega arith);
     }
 
+-- one that keeps its own
+pub rating-none : {c w : List ℕ} {i : ℕ} → Rating c i w → i < 64 → owed.own (facts c) i ≡ owed.rate (facts c) i → Rating c (i + 1) w
+unfolding owed.cap
+rating-none {c} {i = i} h l e =
+    record {
+      upto = omega arith;
+      long = h .long;
+      entered = h .entered;
+      rate = renewed-none (h .rate) l e;
+      cap = renewed-none (h .cap) l (ap (λ q. owed.unforced (facts c) (facts c .committed i) * q) e);
+      areas = h .areas;
+      fresh = h .fresh;
+    }
+
+-- one that borrows
 pub rating-more : {c w m v : List ℕ} {i x y : ℕ} → Rating c i w → i < 64 → Stored (rateRow + i) x w m → x ≡ owed.rate (facts c) i → Stored (capRow + i) y m v → y ≡ owed.cap (facts c) i → Rating c (i + 1) v
 rating-more {w = w} {v = v} h l s d t e =
     let a : Aside rateRow 128 w v = aside-more (aside-more aside-none s (omega arith) (omega arith)) t (omega arith) (omega arith) in
     record {
       upto = omega arith;
       long = a .long ∙ h .long;
-      entered = entered-aside (h .entered) a (λ j l x y. omega arith) (λ j l x y. omega arith);
+      entered = entered-aside (h .entered) a (λ j l x y. omega arith) (λ j k l x y. omega arith);
       rate = renewed-kept (renewed-more (h .rate) s d) t (omega arith) (λ a b. omega arith);
-      cap = row-more (row-kept (h .cap) s (λ a b. omega arith)) t e;
+      cap = renewed-more (renewed-kept (h .cap) s (h .upto) (λ a b. omega arith)) t e;
       areas = row-aside (h .areas) a (λ j l x y. omega arith);
       fresh = row-aside (h .fresh) a (λ j l x y. omega arith);
     }
@@ -104,7 +98,7 @@ pub rating-all : {c w : List ℕ} → Rating c 64 w → Rated c w
 rating-all h =
     let t = h .entered in
     record {
-      columns = record { long = h .long; seller = t .seller; product = t .product; committed = t .committed; rate = h .rate .done; cap = h .cap };
+      columns = record { long = h .long; seller = t .seller; product = t .product; committed = t .committed; rate = h .rate .done; cap = h .cap .done };
       place = t .place;
       fresh = h .fresh;
     }

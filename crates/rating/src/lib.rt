@@ -11,7 +11,7 @@ ghost use Rattle.looks.specs.Looks.{facts};
 ghost use Rattle.table.specs.Places.{size, lentRow, areaRateRow};
 ghost use Rattle.table.specs.Rows.{Aside, Row};
 ghost use Rattle.rating.specs.Entering.{Lending, Begun};
-ghost use Rattle.rating.specs.Rating.{averageIn, rateBy, Rating, Rated};
+ghost use Rattle.rating.specs.Rating.{averageIn, Rating, Rated};
 use cells::Cells;
 use table::Work;
 use units::Nominated;
@@ -36,8 +36,7 @@ fn lend(year: &Cells, work: &mut Work, i: usize, r: Registration) -> u64
     ensures lending { λ _. ⌜ Lending (facts (now (year .entry))) (i + 1) (now (work .exit)) ⌝ }
     ensures aside { λ _. ⌜ Aside lentRow 16 (now (work .entry)) (now (work .exit)) ⌝ }
 {
-    let field = r.rate;
-    let own = looks::own_rate(year, i, field);
+    let own = looks::own_rate(year, i, r);
     let lent = lent_by(r.committed, own);
     let worth = lent.0 * own;
     let area = r.area as usize;
@@ -46,19 +45,23 @@ fn lend(year: &Cells, work: &mut Work, i: usize, r: Registration) -> u64
     own
 }
 
-// A registration's terms go into the table, its own rate for its rate.
+// A registration's terms go into the table, with its own rate, and the cap that is this rate for all that it committed.
 pub fn enter(year: &Cells, work: &mut Work, i: usize, r: Registration)
     requires { ⌜ Held (now year) × (i < 64) × (r ≡ registration (yearIn (now year) .terms) i) × Begun (now year) i (now work) ⌝ }
     ensures { λ _. ⌜ Begun (now (year .entry)) (i + 1) (now (work .exit)) ⌝ }
 {
     let own = lend(year, work, i, r);
     let committed = r.committed;
+    let all = looks::unforced(year, committed);
+    let cap = all.0 * own;
     let place = 3 * r.zone + r.product;
     table::put(work, table::SELLER, i, r.seller);
     table::put(work, table::PRODUCT, i, r.product);
     table::put(work, table::COMMITTED, i, committed.0);
     table::put(work, table::RATE, i, own);
+    table::put(work, table::CAP, i, cap);
     table::put(work, table::PLACE, i, place);
+    table::put(work, table::AREA, i, r.area);
 }
 
 // Each area's rate: the average of what is lent there.
@@ -77,40 +80,31 @@ fn average(work: &mut Work)
     }
 }
 
-// The rate in force: a registration's own; where that is 0, its area's. One that is not known has committed nothing.
-fn in_force(year: &Cells, work: &Work, i: usize, committed: Nominated, own: u64) -> u64
-    requires { ⌜ Held (now year) ⌝ }
-    requires { ⌜ i < 64 ⌝ }
-    ensures { λ r. ⌜ r ≡ rateBy (now (work .entry)) (committed .0) own (facts (now (year .entry)) .area i) ⌝ }
-{
-    if committed.0 == 0 {
-        return 0;
-    }
-    if own > 0 {
-        return own;
-    }
-    let r = cells::registration_at(year, i);
-    table::get(work, table::AREA_RATE, r.area as usize)
-}
-
-// A registration's rate in force, in place of its own, and its cap: that rate for all that it committed.
-fn rate(year: &Cells, work: &mut Work, i: usize)
+// A registration without a rate of its own has its area's, and the cap by that. One that is not known has committed nothing, and has none.
+fn borrow(year: &Cells, work: &mut Work, i: usize)
     requires { ⌜ Held (now year) ⌝ }
     requires { ⌜ i < 64 ⌝ }
     requires { ⌜ Rating (now year) i (now work) ⌝ }
     ensures { λ _. ⌜ Rating (now (year .entry)) (i + 1) (now (work .exit)) ⌝ }
 {
-    let committed = Nominated::new(table::get(work, table::COMMITTED, i));
     let own = table::get(work, table::RATE, i);
-    let rate = in_force(year, work, i, committed, own);
+    if own > 0 {
+        return;
+    }
+    let committed = Nominated::new(table::get(work, table::COMMITTED, i));
+    if committed.0 == 0 {
+        return;
+    }
+    let area = table::get(work, table::AREA, i) as usize;
+    let rate = table::get(work, table::AREA_RATE, area);
     let all = looks::unforced(year, committed);
     let cap = all.0 * rate;
     table::put(work, table::RATE, i, rate);
     table::put(work, table::CAP, i, cap);
 }
 
-// The rates and caps of all registrations, once all are entered.
-pub fn rate_all(year: &Cells, work: &mut Work)
+// The rates in force of all registrations, once all are entered, and their caps.
+pub fn rate(year: &Cells, work: &mut Work)
     requires { ⌜ Held (now year) ⌝ }
     requires { ⌜ Begun (now year) 64 (now work) ⌝ }
     ensures { λ _. ⌜ Rated (now (year .entry)) (now (work .exit)) ⌝ }
@@ -118,7 +112,7 @@ pub fn rate_all(year: &Cells, work: &mut Work)
     average(work);
     let mut i: usize = 0;
     while i < 64 {
-        rate(year, work, i);
+        borrow(year, work, i);
         i += 1;
     }
 }

@@ -2,7 +2,7 @@
 use Prim.Native.Nat.{ℕ}
 
 abbrev pub size : ℕ
-size = 984
+size = 1048
 
 -- a registration's terms, its rate in force, and its cap
 abbrev pub sellerRow : ℕ
@@ -60,16 +60,19 @@ testRow = 864
 abbrev pub lseRow : ℕ
 lseRow = 880
 
--- the place of a registration's test
+-- the place of a registration's test, and its area
 abbrev pub placeRow : ℕ
 placeRow = 896
 
+abbrev pub areaRow : ℕ
+areaRow = 960
+
 -- what an area's registrations with a rate of their own committed, what that is worth, and the average
 abbrev pub lentRow : ℕ
-lentRow = 960
+lentRow = 1024
 
 abbrev pub worthRow : ℕ
-worthRow = 968
+worthRow = 1032
 
 abbrev pub areaRateRow : ℕ
-areaRateRow = 976
+areaRateRow = 1040

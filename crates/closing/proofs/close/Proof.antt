@@ -11,11 +11,11 @@ use Rattle.closing.proofs.close.Tie as tie
 bill-events-requires : tie.Need-bill-events-requires
 bill-events-requires c κs =
     let p = c .before .before .before .pre in
-    let h = c .before .rate-all .ensures in
+    let h = c .before .rate .ensures in
     (p .0, ((p .2, p .3), (h .columns, row-within callsRow 224 (h .fresh) (omega arith) (omega arith))))
 
 after-events : (c : tie.After-bill-events) → Evented (c .before .before .before .before .args .year .now) (c .before .before .before .before .args .k) (c .bill-events .last .1 .0)
-after-events c = let s = c .before .before .before .before in let r = c .bill-events .ensures in evented (s .args .year .now) (s .args .k) (c .before .before .rate-all .ensures) (r .1 .1 .1) (r .1 .1 .0) (r .0) (r .1 .0)
+after-events c = let s = c .before .before .before .before in let r = c .bill-events .ensures in evented (s .args .year .now) (s .args .k) (c .before .before .rate .ensures) (r .1 .1 .1) (r .1 .1 .0) (r .0) (r .1 .0)
 
 charge-tests-requires : tie.Need-charge-tests-requires
 charge-tests-requires c κs = let p = c .before .before .before .before .before .pre in let h = after-events (c .before) in (p .0, (h .ready, (h .test, (p .2, p .3))))

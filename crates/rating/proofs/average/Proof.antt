@@ -26,8 +26,8 @@ loop-again c =
     let l = c .before .before .before .before .before .before .before .before .loop in
     let a = l .inv .1 .1 in
     let below = c .before .before .before .before .before .before .before .loop-test .taken in
-    let worth = c .before .before .before .get2 .ensures ∙ a .outside (968 + l .a) (λ x y. omega (arith, below)) in
-    let lent = c .before .before .before .before .before .get .ensures ∙ a .outside (960 + l .a) (λ x y. omega (arith, below)) in
+    let worth = c .before .before .before .get2 .ensures ∙ a .outside (1032 + l .a) (λ x y. omega (arith, below)) in
+    let lent = c .before .before .before .before .before .get .ensures ∙ a .outside (1024 + l .a) (λ x y. omega (arith, below)) in
     let rate = rw (worth, lent) at (c .before .before .average .ensures) in
     (omega (arith, below), (row-more (l .inv .1 .0) (c .put .ensures) rate, aside-more a (c .put .ensures) (omega arith) (omega (arith, below))))
 

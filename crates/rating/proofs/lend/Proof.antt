@@ -1,30 +1,26 @@
 -- `rating::lend` meets its contract: two sums of its area grow by what the registration lends.
 use Prim.Native.Nat.{_+_, _≤_}
-use mathlib.Core.Path.{_≡_, ap, _∙_}
+use mathlib.Core.Path.{_≡_}
 use native.Mathlib.Omega.{arith}
 use native.Mathlib.Nat.{mul-le-mul}
 use borrow.Author.Needs.{needs}
-use Rattle.year.specs.Year.{area, committed, fieldRate}
+use Rattle.year.specs.Year.{area, committed}
 use Rattle.year.specs.Sound.{SoundRegistration}
 use Rattle.looks.specs.Looks.{facts}
 use Rattle.owed_laws.specs.Limits.{limits}
-use Rattle.rating.specs.Entering.{lentAt, lent-is, worth-is, lent-le, lent-room, worth-room, lending-more, lending-aside}
+use Rattle.rating.specs.Entering.{lentAt, worth-is, lent-le, lent-room, worth-room, lending-more, lending-aside}
 use Rattle.rating.proofs.lend.Statement.{statement}
 use Rattle.rating.proofs.lend.Tie as tie
 
 sound : (s : tie.Start) → SoundRegistration (s .args .r)
 sound s = rw (s .pre .1 .0 .1) (s .pre .0 .sound .terms .registrations .at (s .args .i) (s .pre .1 .0 .0))
 
-own-rate-requires : tie.Need-own-rate-requires
-unfolding fieldRate
-own-rate-requires c κs = (c .pre .0, (c .pre .1 .0 .0, ap (λ r. r .rate) (c .pre .1 .0 .1)))
-
 -- what is lent is the rule's
 lent-at : (c : tie.After-lent-by) → c .lent-by .result .0 ≡ lentAt (facts (c .before .before .args .year .now)) (c .before .before .args .i)
 unfolding committed
 lent-at c =
     let s = c .before .before in
-    rw (c .before .own-rate .ensures, s .pre .1 .0 .1) at (c .lent-by .ensures) ∙ lent-is (limits (s .pre .0 .sound)) (s .args .i)
+    rw (c .before .own-rate .ensures, s .pre .1 .0 .1) at (c .lent-by .ensures)
 
 lent-most : (c : tie.After-lent-by) → c .lent-by .result .0 ≤ 100000
 lent-most c = let s = c .before .before in rw (lent-at c) (lent-le (limits (s .pre .0 .sound)) (s .args .i))
@@ -44,7 +40,7 @@ add-at-requires-2 c κs =
     let s = c .before .before .before .before .before .before in
     let below = sound s .area in
     let d = c .before .add-at .ensures in
-    let kept = d .others (968 + s .args .r .area) (λ z. omega (arith, below)) in
+    let kept = d .others (1032 + s .args .r .area) (λ z. omega (arith, below)) in
     (omega (arith, below, d .long, s .pre .1 .1 .0), omega (arith, kept, worth-room (limits (s .pre .0 .sound)) (omega (arith, s .pre .1 .0 .0)) (s .pre .1 .1 .1) (s .args .r .area) below, mul-le-mul (lent-most (c .before .before .before .before)) (own-most (c .before .before .before .before .before))))
 
 returns : tie.Need-returns
@@ -57,14 +53,14 @@ returns c =
     let own = c .before .before .before .before .before .before .own-rate .ensures in
     let lent = lent-at (c .before .before .before .before .before) in
     let s₁ = rw (lent, r) at (c .before .before .add-at .ensures) in
-    let s₂ = rw (lent, own, worth-is L (s .args .i), r) at (c .add-at2 .ensures) in
+    let s₂ = rw (lent, own, worth-is F (s .args .i), r) at (c .add-at2 .ensures) in
     (own, (lending-more F (L .area (s .args .i)) s₁ s₂ (s .pre .1 .1 .1), lending-aside F (L .area (s .args .i)) s₁ s₂))
 
 pub lend-spec : {M : Type 1} → statement M
 lend-spec =
     tie.close
     (tie.spec
-    own-rate-requires
+    (λ c κs. (c .pre .0, (c .pre .1 .0 .0, c .pre .1 .0 .1)))
     (λ c κs. search needs)
     (λ c. record { fits = omega (arith, mul-le-mul (lent-most (c .before)) (own-most (c .before .before))) })
     add-at-requires
