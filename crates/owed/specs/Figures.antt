@@ -12,8 +12,8 @@ use Rattle.owed.specs.Facts.{Facts}
 use Rattle.owed.specs.Owed.{beforeCap, raised, unforced, own, ofArea, areaRate, rate, ofSeller, shareOf, called, calls, shortfallOver, u, cap, daily, spent, revenue, charge, excess, e, creditLimit, B}
 
 -- Year A, with registration 0 of this product and registration 1 of this seller; registration 2, of 400 kW at 0, in their area, registration 3, at 0
--- too, alone in another. Events of these periods list these registrations, a test all in the area, with reductions of v, 2,100 and v. Registration 0
--- has so many clearings, of this price × kW and kW in all.
+-- too, alone in another; the place of registration 4, which is not known, says 700 kW at 20,000 in their area. Events of these periods list these
+-- registrations, a test all in the area, with reductions of v, 2,100 and v. Registration 0 has so many clearings, of this price × kW and kW in all.
 abbrev cleared : ℕ → ℕ → ℕ → ℕ → ℕ → List ℕ → List Bool → ℕ → Facts
 cleared clearings value kw product seller periods listed v =
     record {
@@ -22,10 +22,10 @@ cleared clearings value kw product seller periods listed v =
       requirement = 10800;
       known = holds (true ∷ true ∷ true ∷ true ∷ []);
       seller = at (0 ∷ seller ∷ 2 ∷ 3 ∷ []);
-      area = at (1 ∷ 1 ∷ 1 ∷ 2 ∷ []);
+      area = at (1 ∷ 1 ∷ 1 ∷ 2 ∷ 1 ∷ []);
       product = at (product ∷ limited ∷ limited ∷ limited ∷ []);
-      committed = at (1000 ∷ 2000 ∷ 400 ∷ 500 ∷ []);
-      fieldRate = at (10000 ∷ 15000 ∷ 0 ∷ 0 ∷ []);
+      committed = at (1000 ∷ 2000 ∷ 400 ∷ 500 ∷ 700 ∷ []);
+      fieldRate = at (10000 ∷ 15000 ∷ 0 ∷ 0 ∷ 20000 ∷ []);
       clearings = at (clearings ∷ []);
       clearedValue = at (value ∷ []);
       clearedKw = at (kw ∷ []);
@@ -106,8 +106,8 @@ unfolding sumTo anyTo convert days share beforeCap unforced own ofArea areaRate 
 clearing-figures = (refl, refl, refl, refl, refl, refl, refl, refl)
 
 -- 1,000 kW at 10,000 and 2,000 kW at 15,000 lend 40,000,000 / 3,000 to the third, rounded down; with its own 400 kW in the divisor it would be
--- 11,764, with weights of 1 it would be 12,500. Alone in its area registration 3 stays at 0, and one that is not known has 0. Where registration 0's
--- clearings come to 0 it borrows too, and registration 1 alone lends.
+-- 11,764, with weights of 1 it would be 12,500. Alone in its area registration 3 stays at 0; registration 4 has no rate, and lends none. Where registration
+-- 0's clearings come to 0 it borrows too, and registration 1 alone lends.
 -- At 13,333 a day without any reduction costs 410 × 13,333 / 2, the cap is 410 × 13,333, revenue to the end of June 30 times that, B is 13,333, and
 -- 200 kW of excess are credited at most 200 × 13,333 / 5 a day, 30 days of which are 15,999 cents.
 borrowed-figures : (rate A 2 ≡ 13333) × (rate A 3 ≡ 0) × (rate A 4 ≡ 0) × (rate (clearedA 1 0 5) 0 ≡ 15000) × (rate (clearedA 1 0 5) 2 ≡ 15000)
