@@ -2,12 +2,12 @@
 use Prim.Native.Nat.{ℕ, _+_, _*_, _≤_, _<_}
 use mathlib.Core.Bool.{Bool, true, false, cond}
 use mathlib.Core.List.{List}
-use mathlib.Core.Path.{_≡_, refl}
+use mathlib.Core.Path.{_≡_, refl, sym}
 use native.Mathlib.Omega.{arith}
 use native.Mathlib.Nat.{le-trans, le-refl, le-of-eq}
-use lib.Dec.{eqb, lit≤}
+use lib.Dec.{eqb, ltb, lit≤}
 use lib.ListN.{length, getD}
-use borrow.Author.Tests.{eq-eqb}
+use borrow.Author.Tests.{lt-ltb, le-ltb, eq-eqb}
 use Rattle.ids.specs.Ids.{sumTo}
 use Rattle.ids.specs.Sums.{sum-le, sum-at}
 use Rattle.year.specs.declared.Event.{Event}
@@ -45,20 +45,12 @@ pub record Limits (F : Facts) : Type 0 where
   pub once : (i : ℕ) → i < registrations → sumTo places (λ p. cond (F .tested p i) 1 0) ≤ 1
 
 -- a registration is known just where it commits something
-module _ {F : Facts} (L : Limits F) (i : ℕ) where
-  pub committing-known : 1 ≤ F .committed i → F .known i ≡ true
-  committing-known h = go (F .known i) refl
-    where
-      go : (b : Bool) → F .known i ≡ b → b ≡ true
-      go true e = refl
-      go false e = absurd (omega (arith, L .blank i e))
-
-  pub committing-unknown : F .committed i ≡ 0 → F .known i ≡ false
-  committing-unknown z = go (F .known i) refl
-    where
-      go : (b : Bool) → F .known i ≡ b → b ≡ false
-      go true e = absurd (omega (arith, L .some i e))
-      go false e = refl
+pub known-is : {F : Facts} → Limits F → (i : ℕ) → F .known i ≡ ltb 0 (F .committed i)
+known-is {F} L i = go (F .known i) refl
+  where
+    go : (b : Bool) → F .known i ≡ b → b ≡ ltb 0 (F .committed i)
+    go true e = sym (lt-ltb 0 (F .committed i) (L .some i e))
+    go false e = sym (le-ltb 0 (F .committed i) (omega (arith, L .blank i e)))
 
 -- a listing's numbers, at every id
 record Within (l : Listing) : Type 0 where

@@ -45,7 +45,7 @@ fn lend(year: &Cells, work: &mut Work, i: usize, r: Registration) -> u64
     own
 }
 
-// A registration's terms go into the table, with its own rate, and the cap that is this rate for all that it committed.
+// A registration's terms go into the table, with its own rate and the cap by that: the rate for all that it committed.
 pub fn enter(year: &Cells, work: &mut Work, i: usize, r: Registration)
     requires { ⌜ Held (now year) × (i < 64) × (r ≡ registration (yearIn (now year) .terms) i) × Begun (now year) i (now work) ⌝ }
     ensures { λ _. ⌜ Begun (now (year .entry)) (i + 1) (now (work .exit)) ⌝ }

@@ -4,10 +4,11 @@ use mathlib.Core.Path.{_≡_, ap, sym, _∙_}
 use native.Mathlib.Omega.{arith}
 use native.Mathlib.Nat.{mul-le-mul}
 use borrow.Author.Needs.{needs}
+use borrow.Author.Tests.{lt-ltb, le-ltb}
 use Rattle.looks.specs.Looks.{facts}
 use Rattle.owed.specs.Owed.{cap}
 use Rattle.owed.specs.Owed as owed
-use Rattle.owed_laws.specs.Limits.{limits, committing-known, committing-unknown}
+use Rattle.owed_laws.specs.Limits.{limits, known-is}
 use Rattle.owed_laws.specs.Rates.{rate-kept, rate-unknown, rate-borrowed}
 use Rattle.owed_laws.specs.Bounds.{unforced-one}
 use Rattle.table.specs.Rows.{renewed-next}
@@ -36,7 +37,7 @@ rate-is c =
     let L = limits (s .pre .0 .sound) in
     let i = s .args .i in
     let none : owed.own F i ≡ 0 = sym (own-is (c .before .before .before .before .before .before .before .before .before .before)) ∙ omega (arith, c .before .before .before .before .before .before .before .before .before .if1 .left) in
-    let there = committing-known L i (omega (arith, new-is (c .before .before .before .before .before .before), c .before .before .before .before .if2 .left)) in
+    let there = known-is L i ∙ lt-ltb 0 (F .committed i) (omega (arith, new-is (c .before .before .before .before .before .before), c .before .before .before .before .if2 .left)) in
     rw (area-is (c .before .before)) at (c .get4 .ensures) ∙ s .pre .1 .1 .areas .is (F .area i) (L .area i) ∙ sym (rate-borrowed F i there none)
 
 returns : tie.Need-returns
@@ -50,8 +51,10 @@ new-requires c κs = let s = c .before .before .before .before .before in rw (co
 returns-2 : tie.Need-returns-2
 returns-2 c =
     let s = c .before .before .before .before .before .before .before .before in
-    let unknown = committing-unknown (limits (s .pre .0 .sound)) (s .args .i) (sym (new-is (c .before .before)) ∙ c .if2 .taken) in
-    rating-none (s .pre .1 .1) (s .pre .1 .0) (rate-unknown (facts (s .args .year .now)) (s .args .i) unknown)
+    let F = facts (s .args .year .now) in
+    let i = s .args .i in
+    let unknown = known-is (limits (s .pre .0 .sound)) i ∙ le-ltb 0 (F .committed i) (omega (arith, new-is (c .before .before), c .if2 .taken)) in
+    rating-none (s .pre .1 .1) (s .pre .1 .0) (rate-unknown F i unknown)
 
 get-requires-4 : tie.Need-get-requires-4
 get-requires-4 c κs = let s = c .before .before .before .before .before .before .before .before .before .before .before in omega (arith, area-is (c .before), limits (s .pre .0 .sound) .area (s .args .i))

@@ -28,12 +28,12 @@ lent-most c = let s = c .before .before in rw (lent-at c) (lent-le (limits (s .p
 own-most : (c : tie.After-own-rate) → c .own-rate .result ≤ 100000
 own-most c = let s = c .before in rw (c .own-rate .ensures) (limits (s .pre .0 .sound) .own (s .args .i))
 
--- the sums have room for one more
+-- each sum has room for what is lent, and for what that is worth
 add-at-requires : tie.Need-add-at-requires
 add-at-requires c κs =
     let s = c .before .before .before .before in
     let below = sound s .area in
-    (omega (arith, below, s .pre .1 .1 .0), omega (arith, lent-room (limits (s .pre .0 .sound)) (omega (arith, s .pre .1 .0 .0)) (s .pre .1 .1 .1) (s .args .r .area) below, lent-most (c .before .before)))
+    (omega (arith, below, s .pre .1 .1 .0), omega (arith, lent-room (limits (s .pre .0 .sound)) (omega (arith, s .pre .1 .0 .0)) (s .pre .1 .1 .1) (s .args .r .area) below, lent-most (c .before .before), mul-le-mul (lent-most (c .before .before)) (own-most (c .before .before .before))))
 
 add-at-requires-2 : tie.Need-add-at-requires-2
 add-at-requires-2 c κs =
@@ -41,7 +41,7 @@ add-at-requires-2 c κs =
     let below = sound s .area in
     let d = c .before .add-at .ensures in
     let kept = d .others (1032 + s .args .r .area) (λ z. omega (arith, below)) in
-    (omega (arith, below, d .long, s .pre .1 .1 .0), omega (arith, kept, worth-room (limits (s .pre .0 .sound)) (omega (arith, s .pre .1 .0 .0)) (s .pre .1 .1 .1) (s .args .r .area) below, mul-le-mul (lent-most (c .before .before .before .before)) (own-most (c .before .before .before .before .before))))
+    (omega (arith, below, d .long, s .pre .1 .1 .0), omega (arith, kept, worth-room (limits (s .pre .0 .sound)) (omega (arith, s .pre .1 .0 .0)) (s .pre .1 .1 .1) (s .args .r .area) below, lent-most (c .before .before .before .before), mul-le-mul (lent-most (c .before .before .before .before)) (own-most (c .before .before .before .before .before))))
 
 returns : tie.Need-returns
 unfolding area
