@@ -1,4 +1,4 @@
-// An amount a seller, allotted over its registrations: sixteen allotments side by side in four rows of the working table.
+// An amount a seller, allotted over its registrations: sixteen allotments side by side in five rows of the working table.
 ghost use mathlib.Core.Path.{_≡_};
 ghost use Prim.Native.Nat.{_+_, _≤_, _<_};
 ghost use lib.ListN.{length};
@@ -8,16 +8,18 @@ ghost use Rattle.abreast.specs.Abreast.{stepper, Shared};
 use allotment::Allotment;
 use table::Work;
 
-// The rows: the sums of all weights, then the amounts, the weights passed and the last quotients.
+// The rows: the sums of all weights, then the amounts, the weights passed, the last quotients and the divisions.
 pub const AMOUNT: usize = 16;
 
 const PASSED: usize = 32;
 
 const QUOTIENT: usize = 48;
 
+const DIVISIONS: usize = 64;
+
 // The share of seller s's next weight, in the rows from p on.
 pub fn share(work: &mut Work, p: usize, s: usize, weight: u64) -> u64
-    requires { ⌜ (length (now work) ≡ size) × (p + 64 ≤ size) × (s < 16) ⌝ }
+    requires { ⌜ (length (now work) ≡ size) × (p + 80 ≤ size) × (s < 16) ⌝ }
     requires { ⌜ Asks (stepper p (now work) s) weight ⌝ }
     ensures { λ r. ⌜ Shared p s weight (now (work .entry)) (now (work .exit)) r ⌝ }
 {
@@ -26,10 +28,12 @@ pub fn share(work: &mut Work, p: usize, s: usize, weight: u64) -> u64
         total: table::get(work, p, s),
         passed: table::get(work, p + PASSED, s),
         quotient: table::get(work, p + QUOTIENT, s),
+        divisions: table::get(work, p + DIVISIONS, s),
     };
     let share = before.share(weight);
     let next = share.next;
     table::put(work, p + PASSED, s, next.passed);
     table::put(work, p + QUOTIENT, s, next.quotient);
+    table::put(work, p + DIVISIONS, s, next.divisions);
     share.value
 }

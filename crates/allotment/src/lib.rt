@@ -10,6 +10,8 @@ pub struct Allotment {
     pub passed: u64,
     // amount × passed / total: it was computed for the share before, and the next takes it off.
     pub quotient: u64,
+    // How many divisions were made.
+    pub divisions: u64,
 }
 
 pub struct Share {
@@ -19,17 +21,18 @@ pub struct Share {
 
 impl Allotment {
     pub fn new(amount: u64, total: u64) -> Allotment
-        ensures { λ r. ⌜ Carried amount total 0 r ⌝ }
+        ensures { λ r. ⌜ Carried amount total 0 0 r ⌝ }
     {
         Allotment {
             amount,
             total,
             passed: 0,
             quotient: 0,
+            divisions: 0,
         }
     }
 
-    // The next weight's share: one division, and none where the total is 0.
+    // The next weight's share: one division, also of a weight of 0, and none where the total is 0.
     pub fn share(self, weight: u64) -> Share
         requires { ⌜ Asks self weight ⌝ }
         ensures { λ r. ⌜ Gives self weight r ⌝ }
@@ -42,6 +45,7 @@ impl Allotment {
         }
         let passed = self.passed + weight;
         let quotient = self.amount * passed / self.total;
+        let divisions = self.divisions + 1;
         Share {
             value: quotient - self.quotient,
             next: Allotment {
@@ -49,6 +53,7 @@ impl Allotment {
                 total: self.total,
                 passed,
                 quotient,
+                divisions,
             },
         }
     }

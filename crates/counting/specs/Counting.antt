@@ -6,7 +6,7 @@ use mathlib.Core.List.{List}
 use native.Mathlib.Omega.{arith}
 use native.Mathlib.Nat.{le-refl}
 use lib.ListN.{length}
-use Rattle.ids.specs.Ids.{at, sumTo, anyTo}
+use Rattle.ids.specs.Ids.{at, sumTo, countTo, anyTo}
 use Rattle.ids.specs.Sums.{sum-step, sum-bound}
 use Rattle.ids.specs.Tests.{cond-le, any-step}
 use Rattle.owed.specs.Facts.{Facts}
@@ -17,7 +17,7 @@ use Rattle.table.specs.Rows.{Stored, Aside, Row, Renewed, none, mark, aside-non
 -- n and the mark of a called registration, by the first m events
 module _ (F : Facts) (m i : ℕ) where
   unfoldable pub callsBy : ℕ
-  callsBy = sumTo m (λ ev. cond (F .listed ev i && oneOrThree (F .period ev)) 1 0)
+  callsBy = countTo m (λ ev. F .listed ev i && oneOrThree (F .period ev))
 
   unfoldable pub calledBy : ℕ
   calledBy = mark (anyTo m (λ ev. F .listed ev i))

@@ -1,16 +1,18 @@
 -- An event's credits entry by entry.
 use Prim.Native.Nat.{ℕ, _+_, _*_, _/_, _≤_, _<_, min}
 use mathlib.Core.Path.{_≡_, refl, sym, _∙_}
-use mathlib.Core.Bool.{false}
+use mathlib.Core.Bool.{true, false}
 use mathlib.Core.List.{List}
 use native.Mathlib.Omega.{arith}
+use lib.Dec.{lit<}
 use Rattle.allotment.specs.declared.Allotment.{Allotment}
 use Rattle.allotment.specs.declared.Share.{Share}
-use Rattle.allotment.specs.Stepper.{Carried, Asks, Gives, Before, before-first, share-asks, share-value, share-next, share-skip}
+use Rattle.allotment.specs.Stepper.{Carried, Asks, Gives, Before, before-first, share-asks, share-value, share-next, share-skip, shares-made}
 use Rattle.charging.specs.Charging.{Given, given-aside}
 use Rattle.ids.specs.Ids.{at, sumTo}
 use Rattle.ids.specs.Sums.{sum-step, sum-same, sum-bound}
 use Rattle.owed.specs.Facts.{Facts}
+use Rattle.owed.specs.Divisions.{creditDivisions}
 use Rattle.owed.specs.Owed as owed
 use Rattle.owed.specs.Owed.{D, ofSeller, creditShare, creditLimit, creditOf}
 use Rattle.owed_laws.specs.Limits.{Limits}
@@ -45,11 +47,11 @@ pub record Crediting (F : Facts) (k ev i : ℕ) (w₀ w : List ℕ) (a : Allotme
   pub upto : i ≤ 64
   pub given : Given F ev w
   pub aside : Aside creditRow 16 w₀ w
-  pub before : Before 64 (owed.e F ev) (sumTo 64 (owed.charge F k ev)) i a
+  pub before : Before 64 (F .listed ev) (owed.e F ev) (sumTo 64 (owed.charge F k ev)) i a
   pub credit : Grown w creditRow 16 (creditBy F k ev) (F .seller) (creditOf F k ev) i
 
 pub crediting-first : {F : Facts} {k ev b t : ℕ} {w : List ℕ} {a : Allotment} → Given F ev w → Row w creditRow 16 (creditBy F k ev)
-    → b ≡ sumTo 64 (owed.charge F k ev) → t ≡ sumTo 64 (λ i. at w (eRow + i)) → Carried b t 0 a → Crediting F k ev 0 w w a
+    → b ≡ sumTo 64 (owed.charge F k ev) → t ≡ sumTo 64 (λ i. at w (eRow + i)) → Carried b t 0 0 a → Crediting F k ev 0 w w a
 crediting-first {F} {k} {ev} g r p q c =
     record {
       upto = omega arith;
@@ -67,7 +69,7 @@ module _ {F : Facts} {k ev i : ℕ} {w₀ w : List ℕ} {a : Allotment} (h : Cre
         upto = omega arith;
         given = h .given;
         aside = h .aside;
-        before = share-skip (h .before) (e-unlisted F ev i off);
+        before = share-skip (h .before) off (e-unlisted F ev i off);
         credit = grown-none (h .credit) (credit-unlisted F ev i off k);
       }
 
@@ -75,7 +77,7 @@ module _ {F : Facts} {k ev i : ℕ} {w₀ w : List ℕ} {a : Allotment} (h : Cre
   credit-most L q s m = grown-most (h .credit) 749568000000 732000000 (h .upto) (λ j x. by-le L k ev j (omega arith)) (λ j x. credit-le L k ev j) s m
 
   pub asks : i < 64 → Limits F → Asks a (owed.e F ev i)
-  asks l L = share-asks (h .before) l refl (omega (arith, charged-fits L k ev))
+  asks l L = share-asks (h .before) l (lit< tt) refl (omega (arith, charged-fits L k ev))
 
   -- a listed entry: its share of the charges, and its credit
   module _ {r : Share} (v : Gives a (owed.e F ev i) r) where
@@ -83,16 +85,20 @@ module _ {F : Facts} {k ev i : ℕ} {w₀ w : List ℕ} {a : Allotment} (h : Cre
     unfolding creditOf creditShare creditLimit
     credit-is f z d = d ∙ rw (share-value (h .before) refl v, z, f)
 
-    pub crediting-more : {c : ℕ} {y : List ℕ} → i < 64 → F .seller i < 16 → c ≡ creditOf F k ev i → Stored (creditRow + F .seller i) (at w (creditRow + F .seller i) + c) w y → Crediting F k ev (i + 1) w₀ y (r .next)
-    crediting-more l b d t =
+    pub crediting-more : {c : ℕ} {y : List ℕ} → i < 64 → F .listed ev i ≡ true → F .seller i < 16 → c ≡ creditOf F k ev i → Stored (creditRow + F .seller i) (at w (creditRow + F .seller i) + c) w y → Crediting F k ev (i + 1) w₀ y (r .next)
+    crediting-more l on b d t =
         record {
           upto = omega arith;
           given = given-aside (h .given) (aside-of t) (omega arith) (omega arith);
           aside = aside-more (h .aside) t (omega arith) (omega arith);
-          before = share-next (h .before) refl v;
+          before = share-next (h .before) refl on v;
           credit = grown-more (h .credit) t b refl d;
         }
 
   pub crediting-all : i ≡ 64 → Row w creditRow 16 (creditBy F k (ev + 1))
   unfolding creditBy ofSeller
   crediting-all q = row-same (rw q at (h .credit .row)) (λ s m. sym (sum-step ev (λ d. ofSeller F s (creditOf F k d))))
+
+  pub crediting-divisions : i ≡ 64 → a .divisions ≡ creditDivisions F ev
+  unfolding creditDivisions
+  crediting-divisions q = shares-made (h .before) q

@@ -5,6 +5,7 @@ ghost use Rattle.cells.specs.Layout.{Held};
 ghost use Rattle.charging.specs.Charging.{Given};
 ghost use Rattle.ids.specs.Ids.{sumTo};
 ghost use Rattle.looks.specs.Looks.{facts};
+ghost use Rattle.owed.specs.Divisions.{creditDivisions};
 ghost use Rattle.owed.specs.Owed.{charge};
 ghost use Rattle.table.specs.Places.{creditRow};
 ghost use Rattle.table.specs.Rows.{Aside, Row};
@@ -24,14 +25,15 @@ fn limit(e: Nominated, rate: u64, days: u64) -> u64
     e.0 * rate / 5 * days / 1000
 }
 
-// Event ev's charges to date at month k, allotted over its entries by e: each seller's credits with those of its entries.
-pub fn credit(year: &Cells, work: &mut Work, ev: usize, k: u64, charges: u64)
+// Event ev's charges to date at month k, allotted over its entries by e: each seller's credits with those of its entries. Tells the divisions.
+pub fn credit(year: &Cells, work: &mut Work, ev: usize, k: u64, charges: u64) -> u64
     requires { ⌜ Held (now year) ⌝ }
     requires { ⌜ (ev < 16) × (1 ≤ k) × (k ≤ 15) ⌝ }
     requires { ⌜ Given (facts (now year)) ev (now work) ⌝ }
     requires { ⌜ Row (now work) creditRow 16 (creditBy (facts (now year)) k ev) ⌝ }
     requires { ⌜ charges ≡ sumTo 64 (charge (facts (now year)) k ev) ⌝ }
     ensures credited { λ _. ⌜ Row (now (work .exit)) creditRow 16 (creditBy (facts (now (year .entry))) k (ev + 1)) ⌝ }
+    ensures divisions { λ r. ⌜ r ≡ creditDivisions (facts (now (year .entry))) ev ⌝ }
     ensures aside { λ _. ⌜ Aside creditRow 16 (now (work .entry)) (now (work .exit)) ⌝ }
 {
     let days = looks::days_to(year, k);
@@ -50,4 +52,5 @@ pub fn credit(year: &Cells, work: &mut Work, ev: usize, k: u64, charges: u64)
         }
         i += 1;
     }
+    allotment.divisions
 }

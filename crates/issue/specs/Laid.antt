@@ -6,7 +6,7 @@ use mathlib.Core.Path.{_≡_}
 use native.Mathlib.Nat.{add-zero}
 use native.Mathlib.Numerals.{add-one}
 use native.Mathlib.Omega.{arith}
-use Rattle.ids.specs.Ids.{holds}
+use Rattle.ids.specs.Ids.{holds, countTo}
 use Rattle.writer.specs.declared.Writer.{Writer}
 use Rattle.writer.specs.Written.{joined, Ready, Wrote}
 use Rattle.writer.specs.WrittenLaws.{joined-append, written-none, written-join}
@@ -14,8 +14,9 @@ use Rattle.year.specs.declared.Terms.{Terms}
 use Rattle.year.specs.declared.Amounts.{Amounts}
 use Rattle.year.specs.Sound.{SoundTerms}
 use Rattle.year.specs.Limits.{lses-is}
-use Rattle.statement.specs.Statement.{Field, widthsOf, valuesOf, countTo, hasRegistration, hasObligation, sellerFields, lseFields, linesTo, statementFields}
-use Rattle.statement.specs.Lines.{count-same, lines-same, bitsIn, bits-append}
+use Rattle.statement.specs.Statement.{Field, widthsOf, valuesOf, hasRegistration, hasObligation, sellerFields, lseFields, linesTo, statementFields}
+use Rattle.ids.specs.Sums.{count-same}
+use Rattle.statement.specs.Lines.{lines-same, bitsIn, bits-append}
 use Rattle.statement.specs.Sizes.{same-length}
 use Rattle.statement.specs.Marks.{Marks}
 

@@ -6,6 +6,7 @@ ghost use Rattle.ids.specs.Ids.{sumTo};
 ghost use Rattle.allotment.specs.Allot.{share};
 ghost use Rattle.cells.specs.Layout.{Held};
 ghost use Rattle.looks.specs.Looks.{facts};
+ghost use Rattle.owed.specs.Divisions.{lseDivisions};
 ghost use Rattle.table.specs.Places.{size, lseRow};
 ghost use Rattle.table.specs.Rows.{Aside, Row, none};
 ghost use Rattle.lses.specs.Lses.{net, Covered};
@@ -24,13 +25,14 @@ fn net_of(work: &Work) -> u64
     compliance + test - credit
 }
 
-// What is left after the credits is allotted to the LSEs. An id without an obligation is no party.
-pub fn credit_lses(year: &Cells, work: &mut Work)
+// What is left after the credits is allotted to the LSEs. Who has no obligation is not known, and no party. Tells the divisions.
+pub fn credit_lses(year: &Cells, work: &mut Work) -> u64
     requires { ⌜ Held (now year) ⌝ }
     requires { ⌜ Covered (now work) ⌝ }
     requires { ⌜ net (now work) * sumTo 16 (facts (now year) .obligation) < 2 ^ 64 ⌝ }
     requires { ⌜ (length (now work) ≡ size) × Row (now work) lseRow 16 none ⌝ }
     ensures credited { λ _. ⌜ Row (now (work .exit)) lseRow 16 (share 16 (facts (now (year .entry)) .obligation) (net (now (work .entry)))) ⌝ }
+    ensures divisions { λ r. ⌜ r ≡ lseDivisions (facts (now (year .entry))) ⌝ }
     ensures aside { λ _. ⌜ Aside lseRow 16 (now (work .entry)) (now (work .exit)) ⌝ }
 {
     let net = net_of(work);
@@ -46,4 +48,5 @@ pub fn credit_lses(year: &Cells, work: &mut Work)
         }
         j += 1;
     }
+    a.divisions
 }

@@ -1,4 +1,4 @@
--- Figures of the definitions: document 01's starred ones in one table, those of document 02's C-11 and C-12, and more that were worked by hand.
+-- Figures of the definitions: document 01's starred ones in one table, those of document 02's C-11 to C-13, and more that were worked by hand.
 use Prim.Native.Nat.{ℕ, _+_, _*_}
 use mathlib.Core.List.{List, [], _∷_}
 use mathlib.Core.Bool.{Bool, true, false}
@@ -8,7 +8,9 @@ use Rattle.ids.specs.Ids.{at, holds, sumTo, anyTo}
 use Rattle.units.specs.Units.{convert}
 use Rattle.calendar.specs.Calendar.{limited, annual, offPeak, days, due}
 use Rattle.allotment.specs.Allot.{share}
+use Rattle.allotment.specs.Divisions.{divisions}
 use Rattle.owed.specs.Facts.{Facts}
+use Rattle.owed.specs.Divisions.{uDivisions, eDivisions, divisionsOf, creditDivisions, lseDivisions}
 use Rattle.owed.specs.Owed.{beforeCap, raised, unforced, own, ofArea, areaRate, rate, ofSeller, shareOf, called, calls, shortfallOver, u, cap, daily, spent, revenue, charge, excess, e, creditLimit, B}
 
 -- Year A, with registration 0 of this product and registration 1 of this seller; registration 2, of 400 kW at 0, in their area, registration 3, at 0
@@ -86,8 +88,11 @@ days-figure : (charge (yearA limited 1 (1 ∷ 1 ∷ 1 ∷ []) (true ∷ true ∷
 unfolding sumTo convert days due share beforeCap unforced own ofArea areaRate rate ofSeller shareOf calls shortfallOver u cap daily spent charge
 days-figure = (refl, refl)
 
--- both registrations are seller 0's, and it is short: registration 1 has no excess, though it gives 100 more
-excess-figure : e (yearA limited 0 (1 ∷ []) (true ∷ true ∷ []) 600) 0 1 ≡ 0
+-- A with both registrations seller 0's, which is short: registration 1 has no excess, though it gives 100 more
+abbrev bothOfOne : Facts
+bothOfOne = yearA limited 0 (1 ∷ []) (true ∷ true ∷ []) 600
+
+excess-figure : e bothOfOne 0 1 ≡ 0
 unfolding sumTo share ofSeller shareOf excess e
 excess-figure = refl
 
@@ -116,3 +121,12 @@ borrowed-figures : (rate A 2 ≡ 13333) × (rate A 3 ≡ 0) × (rate A 4 ≡ 0) 
     × (creditLimit (yearA limited 1 (1 ∷ []) (false ∷ false ∷ true ∷ []) 600) 1 0 2 ≡ 15999)
 unfolding sumTo anyTo convert days share beforeCap unforced own ofArea areaRate rate ofSeller shareOf called calls shortfallOver u cap daily spent revenue excess e creditLimit B
 borrowed-figures = (refl, refl, refl, refl, refl, refl, refl, refl, refl, refl)
+
+-- Three parties divide three times, and never where their weights are all 0; no party never does. In A seller 0's entry lacks 400 kW and seller 1's gives
+-- 100 more: one division each, none where nothing is lacking or nothing given more; both entries divide the charges, though the first has no excess; two
+-- of sixteen LSEs are known. Where both entries are seller 0's, which is short, u and e divide by two, e of an excess of 0, and the credits never.
+division-figures : (divisions 3 1 ≡ 3) × (divisions 3 0 ≡ 0) × (divisions 0 5 ≡ 0)
+    × (uDivisions A 0 0 ≡ 1) × (uDivisions A 0 1 ≡ 0) × (eDivisions A 0 0 ≡ 0) × (eDivisions A 0 1 ≡ 1) × (creditDivisions A 0 ≡ 2) × (lseDivisions A ≡ 2)
+    × (uDivisions bothOfOne 0 0 ≡ 2) × (eDivisions bothOfOne 0 0 ≡ 2) × (creditDivisions bothOfOne 0 ≡ 0)
+unfolding sumTo share divisions ofSeller shareOf excess e divisionsOf creditDivisions lseDivisions
+division-figures = (refl, refl, refl, refl, refl, refl, refl, refl, refl, refl, refl, refl)

@@ -1,4 +1,5 @@
 -- What is owed: definitions, and figures of them.
 pub mod Facts
 pub mod Owed
+pub mod Divisions
 pub mod Figures

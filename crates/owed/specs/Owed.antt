@@ -4,7 +4,7 @@
 use Prim.Native.Nat.{ℕ, zero, suc, _+_, _-_, _*_, _/_, min, max}
 use mathlib.Core.Bool.{Bool, not, _&&_, _||_, cond}
 use lib.Dec.{leb, ltb, eqb}
-use Rattle.ids.specs.Ids.{sumTo, anyTo, tabulate, only, keyed}
+use Rattle.ids.specs.Ids.{sumTo, countTo, anyTo, tabulate, only, keyed}
 use Rattle.units.specs.Units.{convert}
 use Rattle.calendar.specs.Calendar.{days, due}
 use Rattle.allotment.specs.Allot.{share}
@@ -63,7 +63,7 @@ module _ (F : Facts) where
   called i = anyTo (F .events) (λ ev. F .listed ev i)
 
   unfoldable pub calls : ℕ → ℕ
-  calls i = sumTo (F .events) (λ ev. cond (F .listed ev i && oneOrThree (F .period ev)) 1 0)
+  calls i = countTo (F .events) (λ ev. F .listed ev i && oneOrThree (F .period ev))
 
   -- compliance, step 1: a seller's unforced shortfall, of the entries that are picked, with their reductions and the sellers' deficits
   unfoldable pub shortfallOver : (ℕ → Bool) → (ℕ → ℕ) → (ℕ → ℕ) → ℕ → ℕ

@@ -8,7 +8,7 @@ use native.Mathlib.Nat.{le-trans, le-refl, le-of-eq}
 use lib.Dec.{eqb, ltb, lit≤}
 use lib.ListN.{length, getD}
 use borrow.Author.Tests.{lt-ltb, le-ltb, eq-eqb}
-use Rattle.ids.specs.Ids.{sumTo}
+use Rattle.ids.specs.Ids.{countTo}
 use Rattle.ids.specs.Sums.{sum-le, sum-at}
 use Rattle.year.specs.declared.Event.{Event}
 use Rattle.year.specs.declared.Test.{Test}
@@ -42,7 +42,7 @@ pub record Limits (F : Facts) : Type 0 where
   pub testReduction : (p i : ℕ) → F .testReduction p i ≤ 100000
   pub testDeficit : (p s : ℕ) → F .testDeficit p s ≤ 1000000
   -- no registration is in two tests
-  pub once : (i : ℕ) → i < registrations → sumTo places (λ p. cond (F .tested p i) 1 0) ≤ 1
+  pub once : (i : ℕ) → i < registrations → countTo places (λ p. F .tested p i) ≤ 1
 
 -- a registration is known just where it commits something
 pub known-is : {F : Facts} → Limits F → (i : ℕ) → F .known i ≡ ltb 0 (F .committed i)
@@ -86,7 +86,7 @@ module _ {y : Year} (S : Sound y) where
   obligation-most = each-anywhere (AtMost 1000000) (lit≤ tt) (S .terms .obligations)
 
   -- a registration is in the test of its zone and product alone
-  in-one-test : (i : ℕ) → i < registrations → sumTo places (λ p. cond (factsOf y .tested p i) 1 0) ≤ 1
+  in-one-test : (i : ℕ) → i < registrations → countTo places (λ p. factsOf y .tested p i) ≤ 1
   in-one-test i l =
       let own = 3 * zone (y .terms) i + product (y .terms) i in
       le-trans (sum-le places (λ p b. go p (factsOf y .tested p i) (S .tests p b .own i l)))

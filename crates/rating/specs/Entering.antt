@@ -49,7 +49,7 @@ pub record Begun (c : List ℕ) (i : ℕ) (w : List ℕ) : Type 0 where
   pub own : Row w rateRow i (owed.own (facts c))
   pub cap : Row w capRow i (ownCap (facts c))
   pub lending : Lending (facts c) i w
-  pub fresh : Row w callsRow 576 none
+  pub fresh : Row w callsRow 608 none
 
 pub begun-first : (c : List ℕ) → Begun c 0 (replicate size 0)
 begun-first c =
@@ -62,7 +62,7 @@ begun-first c =
       own = row-first w rateRow (owed.own F);
       cap = row-first w capRow (ownCap F);
       lending = record { lent = grown-first (F .area) (lentAt F) (zeros lentRow 8); worth = grown-first (F .area) (worthAt F) (zeros worthRow 8) };
-      fresh = zeros callsRow 576;
+      fresh = zeros callsRow 608;
     }
 
 -- what is lent, at the own rate

@@ -6,9 +6,10 @@ use mathlib.Core.List.{List}
 use native.Mathlib.Omega.{arith}
 use native.Mathlib.Nat.{mul-le-mul}
 use Rattle.ids.specs.Ids.{at}
-use Rattle.abreast.specs.Abreast.{Abreast, Shared, stepper, shared-aside, abreast-asks, abreast-value, abreast-more, abreast-none, abreast-kept, abreast-aside}
+use Rattle.abreast.specs.Abreast.{Abreast, Shared, stepper, shared-aside, abreast-asks, abreast-value, abreast-more, abreast-none, abreast-all, abreast-kept, abreast-aside}
 use Rattle.allotment.specs.Stepper.{Asks}
 use Rattle.owed.specs.Facts.{Facts}
+use Rattle.owed.specs.Divisions.{uDivisions, eDivisions}
 use Rattle.owed.specs.Owed as owed
 use Rattle.owed_laws.specs.Limits.{Limits}
 use Rattle.owed_laws.specs.Sellers.{ofSeller-le}
@@ -26,13 +27,18 @@ pub record Shares (F : Facts) (ev : ℕ) (w : List ℕ) : Type 0 where
   pub e : Row w eRow 64 (owed.e F ev)
   pub listed : Row w listedRow 64 (λ i. mark (F .listed ev i))
 
+-- how many divisions each seller's two allotments made
+pub record Divided (F : Facts) (ev : ℕ) (w : List ℕ) : Type 0 where
+  pub u : Row w (lackRow + 64) 16 (uDivisions F ev)
+  pub e : Row w (moreRow + 64) 16 (eDivisions F ev)
+
 -- before entry i; w₀ is the table before the pass
 pub record Sharing (F : Facts) (ev i : ℕ) (w₀ w : List ℕ) : Type 0 where
   pub upto : i ≤ 64
   pub columns : Columns F 64 w
-  pub aside : Aside lackRow 320 w₀ w
-  pub lack : Abreast F (owed.lack F ev) (owed.shortfall F ev) lackRow i w
-  pub more : Abreast F (owed.more F ev) (owed.excess F ev) moreRow i w
+  pub aside : Aside lackRow 352 w₀ w
+  pub lack : Abreast F (F .listed ev) (owed.lack F ev) (owed.shortfall F ev) lackRow i w
+  pub more : Abreast F (F .listed ev) (owed.more F ev) (owed.excess F ev) moreRow i w
   pub u : Renewed w uRow 64 (owed.u F ev) none i
   pub e : Renewed w eRow 64 (owed.e F ev) none i
   pub listed : Renewed w listedRow 64 (λ i. mark (F .listed ev i)) none i
@@ -57,8 +63,8 @@ module _ {F : Facts} {ev i : ℕ} {w₀ w : List ℕ} (h : Sharing F ev i w₀ w
         upto = omega arith;
         columns = h .columns;
         aside = h .aside;
-        lack = abreast-none (h .lack) (rw off);
-        more = abreast-none (h .more) (rw off);
+        lack = abreast-none (h .lack) off (rw off);
+        more = abreast-none (h .more) off (rw off);
         u = renewed-none (h .u) l (sym (u-unlisted F ev i off));
         e = renewed-none (h .e) l (sym (e-unlisted F ev i off));
         listed = renewed-none (h .listed) l (rw off);
@@ -66,6 +72,9 @@ module _ {F : Facts} {ev i : ℕ} {w₀ w : List ℕ} (h : Sharing F ev i w₀ w
 
   pub sharing-all : i ≡ 64 → Shares F ev w
   sharing-all q = record { u = rw q at (h .u .done); e = rw q at (h .e .done); listed = rw q at (h .listed .done) }
+
+  pub sharing-divided : i ≡ 64 → Divided F ev w
+  sharing-divided q = record { u = abreast-all (h .lack) q; e = abreast-all (h .more) q }
 
   -- a listed entry
   module _ (L : Limits F) (l : i < 64) (on : F .listed ev i ≡ true) where
@@ -85,10 +94,10 @@ module _ {F : Facts} {ev i : ℕ} {w₀ w : List ℕ} (h : Sharing F ev i w₀ w
 
     -- u is allotted
     module _ {m : List ℕ} {u : ℕ} (g : Shared lackRow (x .seller) (x .lack .0) w m u) where
-      u-aside : Aside (lackRow + 32) 32 w m
+      u-aside : Aside (lackRow + 32) 48 w m
       u-aside = shared-aside (L .seller i) g
 
-      u-more : Abreast F (owed.more F ev) (owed.excess F ev) moreRow i m
+      u-more : Abreast F (F .listed ev) (owed.more F ev) (owed.excess F ev) moreRow i m
       u-more = abreast-aside (h .more) u-aside (λ k a b c d. omega arith)
 
       pub e-asks : Asks (stepper moreRow m (x .seller)) (x .more .0)
@@ -99,7 +108,7 @@ module _ {F : Facts} {ev i : ℕ} {w₀ w : List ℕ} (h : Sharing F ev i w₀ w
 
       -- e too, and both are kept
       module _ {m' : List ℕ} {e : ℕ} (g' : Shared moreRow (x .seller) (x .more .0) m m' e) where
-        e-aside : Aside (moreRow + 32) 32 m m'
+        e-aside : Aside (moreRow + 32) 48 m m'
         e-aside = shared-aside (L .seller i) g'
 
         elsewhere : {p : ℕ} {f : ℕ → ℕ} → Renewed w p 64 f none i → ((j : ℕ) → j < 64 → uRow ≤ p + j) → Renewed m' p 64 f none i
@@ -108,13 +117,13 @@ module _ {F : Facts} {ev i : ℕ} {w₀ w : List ℕ} (h : Sharing F ev i w₀ w
         pub sharing-more : {m1 m2 v : List ℕ} → Stored (uRow + i) u m' m1 → Stored (eRow + i) e m1 m2 → Stored (listedRow + i) 1 m2 v → Sharing F ev (i + 1) w₀ v
         unfolding owed.u owed.e
         sharing-more s1 s2 s3 =
-            let stores : Aside lackRow 320 w _ = aside-more (aside-more (aside-more (aside-then u-aside e-aside (omega arith) (omega arith) (omega arith) (omega arith)) s1 (omega arith) (omega arith)) s2 (omega arith) (omega arith)) s3 (omega arith) (omega arith) in
+            let stores : Aside lackRow 352 w _ = aside-more (aside-more (aside-more (aside-then u-aside e-aside (omega arith) (omega arith) (omega arith) (omega arith)) s1 (omega arith) (omega arith)) s2 (omega arith) (omega arith)) s3 (omega arith) (omega arith) in
             record {
               upto = omega arith;
               columns = columns-aside (h .columns) stores (omega arith) (omega arith);
               aside = aside-then (h .aside) stores (omega arith) (omega arith) (omega arith) (omega arith);
-              lack = abreast-kept (abreast-kept (abreast-kept (abreast-aside (abreast-more (h .lack) (L .seller i) lack-is g) e-aside (λ k a b c d. omega arith)) s1 (λ c d. omega arith)) s2 (λ c d. omega arith)) s3 (λ c d. omega arith);
-              more = abreast-kept (abreast-kept (abreast-kept (abreast-more u-more (L .seller i) more-is g') s1 (λ c d. omega arith)) s2 (λ c d. omega arith)) s3 (λ c d. omega arith);
+              lack = abreast-kept (abreast-kept (abreast-kept (abreast-aside (abreast-more (h .lack) (L .seller i) lack-is g on) e-aside (λ k a b c d. omega arith)) s1 (λ c d. omega arith)) s2 (λ c d. omega arith)) s3 (λ c d. omega arith);
+              more = abreast-kept (abreast-kept (abreast-kept (abreast-more u-more (L .seller i) more-is g' on) s1 (λ c d. omega arith)) s2 (λ c d. omega arith)) s3 (λ c d. omega arith);
               u = renewed-kept (renewed-kept (renewed-more (elsewhere (h .u) (λ j k. omega arith)) s1 (abreast-value (h .lack) (L .seller i) lack-is g)) s2 (omega arith) (λ c d. omega arith)) s3 (omega arith) (λ c d. omega arith);
               e = renewed-kept (renewed-more (renewed-kept (elsewhere (h .e) (λ j k. omega arith)) s1 (h .upto) (λ c d. omega arith)) s2 (abreast-value u-more (L .seller i) more-is g')) s3 (omega arith) (λ c d. omega arith);
               listed = renewed-more (renewed-kept (renewed-kept (elsewhere (h .listed) (λ j k. omega arith)) s1 (h .upto) (λ c d. omega arith)) s2 (h .upto) (λ c d. omega arith)) s3 (rw on);

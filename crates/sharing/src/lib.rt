@@ -6,20 +6,21 @@ ghost use Rattle.table.specs.Columns.{Columns};
 ghost use Rattle.table.specs.Places.{lackRow};
 ghost use Rattle.table.specs.Rows.{Aside};
 ghost use Rattle.weighing.specs.Weighing.{Ready};
-ghost use Rattle.sharing.specs.Sharing.{Shares};
+ghost use Rattle.sharing.specs.Sharing.{Shares, Divided};
 use cells::Cells;
 use table::Work;
 use units::Nominated;
 use units::Unforced;
 
-// Each entry's shares of its seller's shortfall and excess.
+// Each entry's shares of its seller's shortfall and excess; the table then tells each seller's divisions.
 pub fn share(year: &Cells, work: &mut Work, ev: usize)
     requires { ⌜ Held (now year) ⌝ }
     requires { ⌜ ev < 16 ⌝ }
     requires { ⌜ Columns (facts (now year)) 64 (now work) ⌝ }
     requires { ⌜ Ready (facts (now year)) ev (now work) ⌝ }
     ensures shares { λ _. ⌜ Shares (facts (now (year .entry))) ev (now (work .exit)) ⌝ }
-    ensures aside { λ _. ⌜ Aside lackRow 320 (now (work .entry)) (now (work .exit)) ⌝ }
+    ensures divisions { λ _. ⌜ Divided (facts (now (year .entry))) ev (now (work .exit)) ⌝ }
+    ensures aside { λ _. ⌜ Aside lackRow 352 (now (work .entry)) (now (work .exit)) ⌝ }
 {
     let mut i: usize = 0;
     while i < 64 {

@@ -5,23 +5,11 @@ use mathlib.Core.List.{List, [], _∷_, _++_, map-append}
 use mathlib.Core.Path.{_≡_, refl, _∙_}
 use native.Mathlib.Omega.{arith}
 use native.Mathlib.Nat.{mul-add, mul-suc, mul-le-mul-left}
-use Rattle.ids.specs.Ids.{sumTo, tabulate}
-use Rattle.ids.specs.Sums.{sum-same, sum-bound}
+use Rattle.ids.specs.Ids.{sumTo, countTo, tabulate}
+use Rattle.ids.specs.Sums.{count-most}
 use Rattle.bits.specs.Table.{total}
 use Rattle.bits.specs.TableLaws.{total-append}
-use Rattle.statement.specs.Statement.{Field, widthsOf, amountField, lineFields, countTo, linesTo}
-
-pub count-same : (n : ℕ) {p q : ℕ → Bool} → ((i : ℕ) → i < n → p i ≡ q i) → countTo n p ≡ countTo n q
-unfolding countTo
-count-same n h = sum-same n (λ i l. rw (h i l))
-
-one-most : (b : Bool) → cond b 1 0 ≤ 1
-one-most true = omega arith
-one-most false = omega arith
-
-pub count-most : (n : ℕ) (p : ℕ → Bool) → countTo n p ≤ n
-unfolding countTo
-count-most n p = omega (arith, sum-bound n 1 (λ i. cond (p i) 1 0) (λ i l. one-most (p i)))
+use Rattle.statement.specs.Statement.{Field, widthsOf, amountField, lineFields, linesTo}
 
 pub lines-same : (n : ℕ) {p q : ℕ → Bool} (f : ℕ → List Field) → ((i : ℕ) → i < n → p i ≡ q i) → linesTo n p f ≡ linesTo n q f
 unfolding linesTo
@@ -44,7 +32,7 @@ amounts-bits (suc n) now before i =
 
 module _ (n : ℕ) (now before : List ℕ) where
   pub lines-bits : (p : ℕ → Bool) (m : ℕ) → bitsIn (linesTo m p (lineFields n now before)) ≡ (4 + 42 * n) * countTo m p
-  unfolding linesTo lineFields countTo sumTo
+  unfolding linesTo lineFields sumTo
   lines-bits p zero = omega arith
   lines-bits p (suc m) =
       bits-append (linesTo m p (lineFields n now before)) (cond (p m) (lineFields n now before m) []) ∙ go (p m) (lines-bits p m)

@@ -4,10 +4,11 @@ use mathlib.Core.Bool.{true, cond}
 use mathlib.Core.List.{List}
 use mathlib.Core.Path.{_≡_, ap, _∙_}
 use lib.IntN.{ℤ, pos, _+ℤ_}
+use Rattle.ids.specs.Ids.{countTo}
 use Rattle.year.specs.declared.Terms.{Terms}
 use Rattle.year.specs.declared.Amounts.{Amounts}
 use Rattle.year.specs.Sound.{SoundAmounts}
-use Rattle.statement.specs.Statement.{countTo, hasRegistration, hasObligation}
+use Rattle.statement.specs.Statement.{hasRegistration, hasObligation}
 use Rattle.statement.specs.ReadBack.{sumℤ, sumOfParty, sellersIn, lsesIn, lineSeller, lineCompliance, lineTest, lineCredit, lineLse, lineLseCredit, complianceIn, testIn, creditIn, lseIn, chargesIn, creditsIn}
 use Rattle.statement.specs.Reading.{count-below, line-id, line-rising, sum-lines, sum-of}
 use Rattle.statement.specs.Starts.{less, Starts, seller-line, lse-line}

@@ -11,11 +11,11 @@ use native.Mathlib.Numerals.{add-one}
 use lib.Dec.{eqb}
 use lib.IntN.{ℤ, pos, _+ℤ_, +ℤ-idl, +ℤ-idr}
 use borrow.Author.Tests.{eq-eqb, ne-eqb}
-use Rattle.ids.specs.Ids.{sumTo, tabulate}
+use Rattle.ids.specs.Ids.{sumTo, countTo, tabulate}
 use Rattle.ids.specs.Sums.{sum-mono}
 use Rattle.bits.specs.Bits.{fieldAt}
 use Rattle.bits.specs.Table.{fieldsAt}
-use Rattle.statement.specs.Statement.{Field, widthsOf, valuesOf, countTo, amountField, lineFields, linesTo}
+use Rattle.statement.specs.Statement.{Field, widthsOf, valuesOf, amountField, lineFields, linesTo}
 use Rattle.statement.specs.Lines.{bitsIn, lines-bits, amounts-bits}
 use Rattle.statement.specs.ReadBack.{sumℤ, sumOfParty}
 
@@ -66,19 +66,18 @@ module _ (xs : List ℕ) where
 
 -- as many pass before one that passes as its place among them
 pub count-below : (n : ℕ) (q : ℕ → Bool) (i : ℕ) → i < n → q i ≡ true → countTo i q < countTo n q
-unfolding countTo sumTo
+unfolding sumTo
 count-below n q i l e =
     let up : countTo (suc i) q ≤ countTo n q = sum-mono {i = suc i} {n = n} (λ j. cond (q j) 1 0) l in
     let one : countTo (suc i) q ≡ countTo i q + 1 = rw e in
     omega arith
 
 pub count-mono : (q : ℕ → Bool) (i n : ℕ) → i ≤ n → countTo i q ≤ countTo n q
-unfolding countTo
 count-mono q i n l = sum-mono {i = i} {n = n} (λ j. cond (q j) 1 0) l
 
 -- the k-th of the ids that pass
 pub nth : (n : ℕ) (q : ℕ → Bool) (k : ℕ) → k < countTo n q → (i : ℕ) × (i < n) × (q i ≡ true) × (countTo i q ≡ k)
-unfolding countTo sumTo
+unfolding sumTo
 nth zero q k l = absurd (not-suc-le-zero l)
 nth (suc n) q k l = go (q n) refl l (nth n q k)
   where
@@ -110,7 +109,7 @@ module _ (n : ℕ) (q : ℕ → Bool) (id : ℕ → ℕ) (own : (i : ℕ) → i 
 -- a sum over lines, by the ids that they are of
 pub sum-lines : (n : ℕ) (q : ℕ → Bool) (g h : ℕ → ℤ) → ((i : ℕ) → i < n → q i ≡ true → g (countTo i q) ≡ h i)
     → sumℤ (countTo n q) g ≡ sumℤ n (λ i. cond (q i) (h i) (pos 0))
-unfolding sumℤ countTo sumTo
+unfolding sumℤ sumTo
 sum-lines zero q g h e = refl
 sum-lines (suc n) q g h e = go (q n) refl (sum-lines n q g h (λ i l. e i (omega arith)))
   where

@@ -5,7 +5,8 @@ use mathlib.Core.List.{List, [], _∷_, _++_}
 use mathlib.Core.Path.{_≡_}
 use native.Mathlib.Omega.{arith}
 use lib.ListN.{length, length-map}
-use Rattle.ids.specs.Ids.{tabulate}
+use Rattle.ids.specs.Ids.{countTo, tabulate}
+use Rattle.ids.specs.Sums.{count-most}
 use Rattle.bits.specs.Table.{Valid}
 use Rattle.bits.specs.Pack.{bytesFor}
 use Rattle.bits.specs.PackLaws.{length-encode}
@@ -14,8 +15,8 @@ use Rattle.year.specs.declared.Amounts.{Amounts}
 use Rattle.year.specs.Year.{lses, sellers}
 use Rattle.year.specs.Sound.{SoundTerms}
 use Rattle.year.specs.Limits.{lses-is}
-use Rattle.statement.specs.Statement.{largest, Field, widthsOf, valuesOf, countTo, difference, hasRegistration, hasObligation, sellerColumns, amountField, lineFields, sellerFields, lseFields, linesTo, statementFields, statementOf}
-use Rattle.statement.specs.Lines.{count-most, bitsIn, bits-append, lines-bits}
+use Rattle.statement.specs.Statement.{largest, Field, widthsOf, valuesOf, difference, hasRegistration, hasObligation, sellerColumns, amountField, lineFields, sellerFields, lseFields, linesTo, statementFields, statementOf}
+use Rattle.statement.specs.Lines.{bitsIn, bits-append, lines-bits}
 
 -- each value fits its width
 abbrev pub Fitting : List Field → Type 0

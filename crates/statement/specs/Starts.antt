@@ -6,14 +6,14 @@ use mathlib.Core.Path.{_≡_, refl, ap, _∙_}
 use native.Mathlib.Nat.{zero-add, add-assoc}
 use native.Mathlib.Omega.{arith}
 use lib.IntN.{ℤ, pos, _-ℤ_}
-use Rattle.ids.specs.Ids.{at}
+use Rattle.ids.specs.Ids.{at, countTo}
 use Rattle.bits.specs.PackLaws.{read-back}
 use Rattle.year.specs.declared.Terms.{Terms}
 use Rattle.year.specs.declared.Amounts.{Amounts}
 use Rattle.year.specs.Year.{lses, sellers}
 use Rattle.year.specs.Sound.{SoundTerms, SoundAmounts}
 use Rattle.year.specs.Limits.{lses-is}
-use Rattle.statement.specs.Statement.{widthsOf, valuesOf, countTo, hasRegistration, hasObligation, sellerColumns, lineFields, sellerFields, lseFields, linesTo, statementFields, statementOf}
+use Rattle.statement.specs.Statement.{widthsOf, valuesOf, hasRegistration, hasObligation, sellerColumns, lineFields, sellerFields, lseFields, linesTo, statementFields, statementOf}
 use Rattle.statement.specs.Lines.{bitsIn, lines-bits}
 use Rattle.statement.specs.Sizes.{same-length, statement-fits}
 use Rattle.statement.specs.Columns.{Columns, columns-sound, compliance-at, test-at, credit-at}

@@ -3,7 +3,7 @@ use Prim.Native.Nat.{ℕ, zero, suc, _+_, _-_, _*_, _%_, _^_}
 use mathlib.Core.Bool.{Bool, _&&_, cond}
 use mathlib.Core.List.{List, [], _∷_, _++_, map}
 use lib.Dec.{ltb, eqb}
-use Rattle.ids.specs.Ids.{at, sumTo, anyTo, tabulate}
+use Rattle.ids.specs.Ids.{at, countTo, anyTo, tabulate}
 use Rattle.bits.specs.Pack.{encode}
 use Rattle.year.specs.declared.Terms.{Terms}
 use Rattle.year.specs.declared.Amounts.{Amounts}
@@ -15,10 +15,6 @@ amountBits = 42
 
 abbrev pub largest : ℕ
 largest = 354
-
--- how many ids below n pass a test
-unfoldable pub countTo : ℕ → (ℕ → Bool) → ℕ
-countTo n p = sumTo n (λ i. cond (p i) 1 0)
 
 -- now less before, in 42 bits of two's complement
 unfoldable pub difference : ℕ → ℕ → ℕ

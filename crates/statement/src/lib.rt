@@ -1,8 +1,8 @@
 // The parties of a statement: which they are, and how many.
 ghost use mathlib.Core.Path.{_≡_};
-ghost use Rattle.ids.specs.Ids.{holds};
+ghost use Rattle.ids.specs.Ids.{holds, countTo};
 ghost use Rattle.year.specs.Sound.{SoundTerms};
-ghost use Rattle.statement.specs.Statement.{countTo, hasRegistration, hasObligation};
+ghost use Rattle.statement.specs.Statement.{hasRegistration, hasObligation};
 ghost use Rattle.statement.specs.Marks.{Marks};
 use year::Terms;
 

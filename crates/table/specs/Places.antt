@@ -2,7 +2,7 @@
 use Prim.Native.Nat.{ℕ}
 
 abbrev pub size : ℕ
-size = 1048
+size = 1080
 
 -- a registration's terms, its rate in force, and its cap
 abbrev pub sellerRow : ℕ
@@ -37,42 +37,42 @@ complianceRow = 512
 abbrev pub creditRow : ℕ
 creditRow = 528
 
--- one event: two allotments abreast, of shortfalls by lacks and of excesses by what is given more, four rows each; u, e, and 1 where it is listed
+-- one event: two allotments abreast, of shortfalls by lacks and of excesses by what is given more, five rows each; u, e, and 1 where it is listed
 abbrev pub lackRow : ℕ
 lackRow = 544
 
 abbrev pub moreRow : ℕ
-moreRow = 608
+moreRow = 624
 
 abbrev pub uRow : ℕ
-uRow = 672
+uRow = 704
 
 abbrev pub eRow : ℕ
-eRow = 736
+eRow = 768
 
 abbrev pub listedRow : ℕ
-listedRow = 800
+listedRow = 832
 
 -- a seller's test charges to date, and an LSE's credit
 abbrev pub testRow : ℕ
-testRow = 864
+testRow = 896
 
 abbrev pub lseRow : ℕ
-lseRow = 880
+lseRow = 912
 
 -- the place of a registration's test, and its area
 abbrev pub placeRow : ℕ
-placeRow = 896
+placeRow = 928
 
 abbrev pub areaRow : ℕ
-areaRow = 960
+areaRow = 992
 
 -- what an area's registrations with a rate of their own committed, what that is worth, and the average
 abbrev pub lentRow : ℕ
-lentRow = 1024
+lentRow = 1056
 
 abbrev pub worthRow : ℕ
-worthRow = 1032
+worthRow = 1064
 
 abbrev pub areaRateRow : ℕ
-areaRateRow = 1040
+areaRateRow = 1072

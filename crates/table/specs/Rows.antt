@@ -84,6 +84,10 @@ none i = 0
 abbrev pub mark : Bool → ℕ
 mark b = cond b 1 0
 
+pub mark-true : {x : ℕ} (b : Bool) → x ≡ mark b → (x ≡ 0 → ⊥) → b ≡ true
+mark-true true e z = refl
+mark-true false e z = absurd (z e)
+
 pub mark-false : {x : ℕ} (b : Bool) → x ≡ mark b → x ≡ 0 → b ≡ false
 mark-false true e z = absurd (omega arith)
 mark-false false e z = refl

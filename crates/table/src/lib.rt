@@ -7,7 +7,7 @@ ghost use Rattle.table.specs.Rows.{Stored, Aside, Row, none};
 ghost use Rattle.table.specs.Places.{size};
 
 // Rows that change together stand together (specs/Places.antt).
-pub type Work = [u64; 1048];
+pub type Work = [u64; 1080];
 
 // By registration, 64 places each: its terms, copied from the lent run; its rate in force, and its cap.
 pub const SELLER: usize = 0;
@@ -32,37 +32,37 @@ pub const COMPLIANCE: usize = 512;
 
 pub const CREDIT: usize = 528;
 
-// One event, 320 places. Four rows by seller (crate abreast): what its entries lack, the shortfall that is allotted by that, the
-// weights passed and the last quotients; the same four of what they give more and the excess. By registration u, e, and
-// whether it is listed (1).
-pub const EVENT: usize = 320;
+// One event, 352 places. Five rows by seller (crate abreast): what its entries lack, the shortfall that is allotted by that, the
+// weights passed, the last quotients and the divisions; the same five of what they give more and the excess. By registration u, e,
+// and whether it is listed (1).
+pub const EVENT: usize = 352;
 
 pub const LACK: usize = 544;
 
-pub const MORE: usize = 608;
+pub const MORE: usize = 624;
 
-pub const U: usize = 672;
+pub const U: usize = 704;
 
-pub const E: usize = 736;
+pub const E: usize = 768;
 
-pub const LISTED: usize = 800;
+pub const LISTED: usize = 832;
 
 // By seller the test charges to date, and by LSE its credit.
-pub const TEST: usize = 864;
+pub const TEST: usize = 896;
 
-pub const LSE: usize = 880;
+pub const LSE: usize = 912;
 
 // By registration the place of its test, 3 × zone + product, and its area.
-pub const PLACE: usize = 896;
+pub const PLACE: usize = 928;
 
-pub const AREA: usize = 960;
+pub const AREA: usize = 992;
 
 // By area, 8 places each: what those with a rate of their own committed, what that is worth at these rates, and its average.
-pub const LENT: usize = 1024;
+pub const LENT: usize = 1056;
 
-pub const WORTH: usize = 1032;
+pub const WORTH: usize = 1064;
 
-pub const AREA_RATE: usize = 1040;
+pub const AREA_RATE: usize = 1072;
 
 // The number at place i of a row.
 pub fn get(work: &Work, row: usize, i: usize) -> u64

@@ -28,20 +28,20 @@ pub record Weighed (F : Facts) (ev : ℕ) (w : List ℕ) : Type 0 where
   pub long : length w ≡ size
   pub lack : Row w lackRow 16 (λ s. ofSeller F s (owed.lack F ev))
   pub more : Row w moreRow 16 (λ s. ofSeller F s (owed.more F ev))
-  pub freshLack : Row w (lackRow + 32) 32 none
-  pub freshMore : Row w (moreRow + 32) 32 none
+  pub freshLack : Row w (lackRow + 32) 48 none
+  pub freshMore : Row w (moreRow + 32) 48 none
 
 -- before entry i; w₀ is the table before the pass
 pub record Weighing (F : Facts) (ev i : ℕ) (w₀ w : List ℕ) : Type 0 where
   pub upto : i ≤ 64
   pub columns : Columns F 64 w
-  pub aside : Aside lackRow 128 w₀ w
+  pub aside : Aside lackRow 160 w₀ w
   pub lack : Grown w lackRow 16 none (F .seller) (owed.lack F ev) i
   pub more : Grown w moreRow 16 none (F .seller) (owed.more F ev) i
-  pub freshLack : Row w (lackRow + 32) 32 none
-  pub freshMore : Row w (moreRow + 32) 32 none
+  pub freshLack : Row w (lackRow + 32) 48 none
+  pub freshMore : Row w (moreRow + 32) 48 none
 
-pub weighing-first : {F : Facts} (ev : ℕ) {w : List ℕ} → Columns F 64 w → Row w lackRow 128 none → Weighing F ev 0 w w
+pub weighing-first : {F : Facts} (ev : ℕ) {w : List ℕ} → Columns F 64 w → Row w lackRow 160 none → Weighing F ev 0 w w
 weighing-first {F} ev h r =
     record {
       upto = omega arith;
@@ -49,8 +49,8 @@ weighing-first {F} ev h r =
       aside = aside-none;
       lack = grown-first (F .seller) (owed.lack F ev) (row-within lackRow 16 r (omega arith) (omega arith));
       more = grown-first (F .seller) (owed.more F ev) (row-within moreRow 16 r (omega arith) (omega arith));
-      freshLack = row-within (lackRow + 32) 32 r (omega arith) (omega arith);
-      freshMore = row-within (moreRow + 32) 32 r (omega arith) (omega arith);
+      freshLack = row-within (lackRow + 32) 48 r (omega arith) (omega arith);
+      freshMore = row-within (moreRow + 32) 48 r (omega arith) (omega arith);
     }
 
 module _ {F : Facts} {ev i : ℕ} {w₀ w : List ℕ} (h : Weighing F ev i w₀ w) where
@@ -146,8 +146,8 @@ module _ {F : Facts} {ev s : ℕ} {w : List ℕ} (h : Netted F ev s w) where
 
 -- both allotments may begin; u, e and the marks of the entries are still 0
 pub record Ready (F : Facts) (ev : ℕ) (w : List ℕ) : Type 0 where
-  pub lack : Abreast F (owed.lack F ev) (owed.shortfall F ev) lackRow 0 w
-  pub more : Abreast F (owed.more F ev) (owed.excess F ev) moreRow 0 w
+  pub lack : Abreast F (F .listed ev) (owed.lack F ev) (owed.shortfall F ev) lackRow 0 w
+  pub more : Abreast F (F .listed ev) (owed.more F ev) (owed.excess F ev) moreRow 0 w
   pub fresh : Row w uRow 192 none
 
 pub netted-all : {F : Facts} {ev : ℕ} {w : List ℕ} → Netted F ev 16 w → Row w uRow 192 none → Ready F ev w

@@ -17,7 +17,7 @@ use Rattle.layouts.specs.Layout.{itemsIn, rulesTo, rulesFor}
 use Rattle.layouts.specs.Questions.{recordQuestions, firstFailed, kindOf, headOf, rulesOf, numbersOf, isKind, isWhole, permits, permitted, isFilled, rises, idsRise, recordNumber, consumed}
 use Rattle.year.specs.Year.{newYear, listed, reduction, deficit, known, seller, area, zone, product, committed, fieldRate, obligation}
 use Rattle.owed.specs.Owed.{beforeCap, raised, unforced, own, ofArea, areaRate, rate, ofSeller, shareOf, called, calls, shortfallOver, u, cap, daily, spent, charge, excess, e, creditShare, creditLimit, creditOf, B, testOf, compliance, test, credit, charges, credits, lse, amounts}
-use Rattle.statement.specs.Statement.{countTo, difference, hasRegistration, hasObligation, sellerColumns, lineFields, linesTo, statementFields, statementOf}
+use Rattle.statement.specs.Statement.{difference, hasRegistration, hasObligation, sellerColumns, lineFields, linesTo, statementFields, statementOf}
 use Rattle.statement.specs.Value42.{value42}
 use Rattle.heads.specs.Record.{headOf as namedHead, withItem, withItems, listingTo, listingIn}
 use Rattle.questions.specs.Questions.{inTime, q6, q7, q8, q9, q10, q17, q11, q12, q13, q14, q15, q16, questions}
@@ -98,7 +98,7 @@ withEvents = parties ++ ((0x61 ∷ 0x62 ∷ 0x63 ∷ 0x64 ∷ []) ++ (juneEvent 
 
 -- what the bill program prints of a file. What computes it is named here, once for all figures.
 bill : List ℕ → List ℕ
-unfolding sumTo anyTo allTo tabulate convert days due callable testable share bitAt number bitsOf spell byteOf bytesOf pack encode itemsIn times rulesTo rulesFor recordQuestions firstFailed kindOf headOf rulesOf numbersOf isKind isWhole permits permitted isFilled rises idsRise listed reduction deficit known seller area zone product committed fieldRate obligation beforeCap raised unforced own ofArea areaRate rate ofSeller shareOf called calls shortfallOver u cap daily spent charge excess e creditShare creditLimit creditOf B testOf compliance test credit charges credits lse amounts countTo difference hasRegistration hasObligation sellerColumns lineFields linesTo statementFields statementOf value42 namedHead withItem withItems listingTo listingIn inArea inGroup everyListed deficitsListed listsExactly inTime q6 q7 q8 q9 q10 q17 q11 q12 q13 q14 q15 q16 questions postNumber yearBy bufferWith yearAfter bufferAfter digitsTo decimal cents refusalLine linesFrom monthLine partyLine statementLines answerLines bytes recordNumber consumed recordsTo isAccepted isClosing buffered step run answered gather lastOr sumOver summed termsIn clearingsIn eventsIn testsIn recorded callsOf answerText textOf
+unfolding sumTo anyTo allTo tabulate convert days due callable testable share bitAt number bitsOf spell byteOf bytesOf pack encode itemsIn times rulesTo rulesFor recordQuestions firstFailed kindOf headOf rulesOf numbersOf isKind isWhole permits permitted isFilled rises idsRise listed reduction deficit known seller area zone product committed fieldRate obligation beforeCap raised unforced own ofArea areaRate rate ofSeller shareOf called calls shortfallOver u cap daily spent charge excess e creditShare creditLimit creditOf B testOf compliance test credit charges credits lse amounts difference hasRegistration hasObligation sellerColumns lineFields linesTo statementFields statementOf value42 namedHead withItem withItems listingTo listingIn inArea inGroup everyListed deficitsListed listsExactly inTime q6 q7 q8 q9 q10 q17 q11 q12 q13 q14 q15 q16 questions postNumber yearBy bufferWith yearAfter bufferAfter digitsTo decimal cents refusalLine linesFrom monthLine partyLine statementLines answerLines bytes recordNumber consumed recordsTo isAccepted isClosing buffered step run answered gather lastOr sumOver summed termsIn clearingsIn eventsIn testsIn recorded callsOf answerText textOf
 bill file = billText file blank
 
 -- Year A: each record's number, the buffer that each is lent (as the one before left it; one record more shows what the last leaves), the

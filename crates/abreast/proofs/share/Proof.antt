@@ -1,5 +1,6 @@
 -- `abreast::share` meets its contract: what the allotment gives is stored. Assumes nothing.
 use mathlib.Core.Path.{_≡_}
+use native.Mathlib.Omega.{arith}
 use borrow.Author.Needs.{needs}
 use Rattle.allotment.specs.declared.Allotment.{Allotment}
 use Rattle.abreast.specs.Abreast.{stepper, shared}
@@ -7,15 +8,15 @@ use Rattle.abreast.proofs.share.Statement.{statement}
 use Rattle.abreast.proofs.share.Tie as tie
 
 -- the allotment that is read is the table's
-read : (c : tie.After-get4) → let s = c .before .before .before .before .before .before .before .before in
-    _≡_ {A = Allotment} (record { amount = c .before .before .before .before .before .before .get .result; total = c .before .before .before .before .get2 .result; passed = c .before .before .get3 .result; quotient = c .get4 .result }) (stepper (s .args .p) (s .args .work .now) (s .args .s))
-read c = cc (c .before .before .before .before .before .before .get .ensures, c .before .before .before .before .get2 .ensures, c .before .before .get3 .ensures, c .get4 .ensures)
+read : (c : tie.After-get5) → let s = c .before .before .before .before .before .before .before .before .before .before in
+    _≡_ {A = Allotment} (record { amount = c .before .before .before .before .before .before .before .before .get .result; total = c .before .before .before .before .before .before .get2 .result; passed = c .before .before .before .before .get3 .result; quotient = c .before .before .get4 .result; divisions = c .get5 .result }) (stepper (s .args .p) (s .args .work .now) (s .args .s))
+read c = cc (c .before .before .before .before .before .before .before .before .get .ensures, c .before .before .before .before .before .before .get2 .ensures, c .before .before .before .before .get3 .ensures, c .before .before .get4 .ensures, c .get5 .ensures)
 
 returns : tie.Need-returns
 returns c =
-    let b = c .before .before .before .before .before .before in
-    let s = b .before .before .before .before .before .before .before .before in
-    shared (s .pre .0 .2) (rw (read b) at (c .before .before .before .before .before .share .ensures)) (c .before .before .put .ensures) (c .put2 .ensures)
+    let b = c .before .before .before .before .before .before .before .before in
+    let s = b .before .before .before .before .before .before .before .before .before .before in
+    shared (s .pre .0 .2) (rw (read b) at (c .before .before .before .before .before .before .before .share .ensures)) (c .before .before .before .before .put .ensures) (c .before .before .put2 .ensures) (c .put3 .ensures)
 
 pub share-spec : {M : Type 1} → statement M
 share-spec =
@@ -28,9 +29,13 @@ share-spec =
     (λ c κs. search needs)
     (λ c. search needs)
     (λ c κs. search needs)
-    (λ c κs. rw (read c) (c .before .before .before .before .before .before .before .before .pre .1))
+    (λ c. search needs)
+    (λ c κs. search needs)
+    (λ c κs. rw (read c) (c .before .before .before .before .before .before .before .before .before .before .pre .1))
     (λ c. search needs)
     (λ c κs. search needs)
     (λ c. search needs)
     (λ c κs. search needs)
+    (λ c. record { fits = omega (arith, c .before .before .before .before .before .before .before .before .before .before .before .before .before .before .before .before .before .pre .0 .1) })
+    (λ c κs. let s = c .before .before .before .before .before .before .before .before .before .before .before .before .before .before .before .before .before .pre .0 in omega (arith, c .before .put2 .ensures .long, c .before .before .before .put .ensures .long, s .0, s .1, s .2))
     returns)

@@ -36,7 +36,7 @@ returns c =
     let s = c .before .before .before .before .before .before .before .before .before .before .before .before .before .before .before .before .before .before .before .before in
     let r = c .before .before .before .before .before .before .before .before .before .before .before .before .credit-lses .ensures in
     rw (c .before .before .before .before .before .before .before .before .before .numbers-at .ensures, c .before .before .before .before .before .before .numbers-at2 .ensures, c .before .before .before .numbers-at3 .ensures, c .numbers-at4 .ensures)
-    (amounts-are (s .args .year .now) (s .args .k) (after-tests (c .before .before .before .before .before .before .before .before .before .before .before .before .before .before)) (r .1) (r .0))
+    (amounts-are (s .args .year .now) (s .args .k) (after-tests (c .before .before .before .before .before .before .before .before .before .before .before .before .before .before)) (r .1 .1) (r .0))
 
 pub close-spec : {M : Type 1} → statement M
 close-spec =

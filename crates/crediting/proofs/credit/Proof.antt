@@ -9,9 +9,9 @@ use Rattle.looks.specs.Looks.{facts}
 use Rattle.owed_laws.specs.Limits.{limits}
 use Rattle.owed.specs.Owed.{creditOf}
 use Rattle.owed_laws.specs.Bounds.{D-le, e-le, e-sum, credit-le}
-use Rattle.table.specs.Places.{spentRow}
-use Rattle.table.specs.Rows.{mark-false}
-use Rattle.crediting.specs.Crediting.{Crediting, excesses, crediting-first, crediting-none, crediting-more, crediting-all, credit-most, asks, credit-is}
+use Rattle.table.specs.Places.{spentRow, listedRow}
+use Rattle.table.specs.Rows.{mark, mark-true, mark-false}
+use Rattle.crediting.specs.Crediting.{Crediting, excesses, crediting-first, crediting-none, crediting-more, crediting-all, crediting-divisions, credit-most, asks, credit-is}
 use Rattle.crediting.proofs.credit.Statement.{statement}
 use Rattle.crediting.proofs.credit.Tie as tie
 
@@ -54,6 +54,13 @@ add-at-requires c κs =
     let b = L .seller (l .i) in
     rw (line (c .before .before .before .before .before)) (omega (arith, b, l .inv .given .columns .long), omega (arith, credit-most (l .inv) L (s .pre .1 .0 .0) _ b, credit-eq (c .before), credit-le L (s .args .k) (s .args .ev) (l .i)))
 
+-- the mark of entry i
+marked : (c : tie.After-get Inv-loop μ-loop) → c .get .result ≡ mark (facts (c .before .before .before .before .before .before .before .before .before .args .year .now) .listed (c .before .before .before .before .before .before .before .before .before .args .ev) (c .before .before .before .loop .i))
+marked c =
+    let l = c .before .before .before .loop in
+    let read : c .get .result ≡ at (l .work) (listedRow + l .i) = c .get .ensures in
+    read ∙ l .inv .given .shares .listed .is (l .i) (c .before .before .loop-test .taken)
+
 loop-again : tie.Need-loop-again Inv-loop μ-loop
 loop-again c =
     let h = c .before .before .before .before .loop .inv in
@@ -62,12 +69,12 @@ loop-again c =
     (λ a.
     let k : tie.After-lesser Inv-loop μ-loop = record { before = record { before = record { before = record { before = record { before = record { before = record { before = c .before; if1 = a .0 }; line-at-arg = a .1 }; line-at = a .2 }; e = a .3 }; share = a .4 }; limit = a .5 }; lesser = a .6 } in
     let e = line (k .before .before .before .before) in
-    rw (a .10, a .11) (crediting-more h (rw e at (a .4 .ensures)) (c .before .before .before .loop-test .taken) (limits (c .before .before .before .before .before .before .before .before .before .before .pre .0 .sound) .seller i) (credit-eq k) (rw e at (a .8 .ensures))))
-    (λ a. rw (a .1, a .2) (crediting-none h (omega arith) (mark-false _ (c .before .get .ensures ∙ h .given .shares .listed .is i (c .before .before .before .loop-test .taken)) (a .0 .left))))
+    rw (a .10, a .11) (crediting-more h (rw e at (a .4 .ensures)) (c .before .before .before .loop-test .taken) (mark-true _ (marked (c .before)) (a .0 .taken)) (limits (c .before .before .before .before .before .before .before .before .before .before .pre .0 .sound) .seller i) (credit-eq k) (rw e at (a .8 .ensures))))
+    (λ a. rw (a .1, a .2) (crediting-none h (omega arith) (mark-false _ (marked (c .before)) (a .0 .left))))
     (c .if1 .came)
 
 returns : tie.Need-returns Inv-loop μ-loop
-returns c = let h = c .before .loop .inv in (crediting-all h (omega (arith, h .upto)), h .aside)
+returns c = let h = c .before .loop .inv in let all : c .before .loop .i ≡ 64 = omega (arith, h .upto) in (crediting-all h all, (crediting-divisions h all, h .aside))
 
 pub credit-spec : {M : Type 1} → statement M
 credit-spec =

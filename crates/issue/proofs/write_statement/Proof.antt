@@ -6,7 +6,7 @@ use Rattle.ids.specs.Ids.{holds}
 use Rattle.writer.specs.Written.{Ready}
 use Rattle.writer.specs.WrittenLaws.{written-encodes}
 use Rattle.statement.specs.Statement.{widthsOf, valuesOf, statementFields, statementOf}
-use Rattle.statement.specs.Lines.{count-most}
+use Rattle.ids.specs.Sums.{count-most}
 use Rattle.statement.specs.Sizes.{same-length, statement-fits, statement-bits, statement-length}
 use Rattle.issue.specs.Laid.{Laid, statement-laid}
 use Rattle.issue.proofs.write_statement.Statement.{statement}

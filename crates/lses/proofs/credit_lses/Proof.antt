@@ -3,10 +3,13 @@ use Prim.Native.Nat.{_-_, _≤_}
 use mathlib.Core.Path.{_≡_, sym, _∙_}
 use mathlib.Core.Logic.{⊎-elim}
 use native.Mathlib.Omega.{arith}
+use lib.Dec.{lit<}
 use lib.ListN.{length}
+use borrow.Author.Tests.{lt-ltb}
 use Rattle.allotment.specs.Allot.{share, share-zero}
-use Rattle.allotment.specs.Stepper.{Before, before-first, share-asks, share-value, share-next, share-skip}
+use Rattle.allotment.specs.Stepper.{Before, before-first, share-asks, share-value, share-next, share-skip, shares-made}
 use Rattle.looks.specs.Looks.{facts}
+use Rattle.owed.specs.Divisions.{knownLse, lseDivisions}
 use Rattle.owed_laws.specs.Limits.{limits}
 use Rattle.owed_laws.specs.Totals.{obligations-le}
 use Rattle.table.specs.Places.{size, lseRow}
@@ -17,7 +20,7 @@ use Rattle.lses.proofs.credit_lses.Tie as tie
 
 abbrev Inv-loop : tie.InvT-loop
 Inv-loop year work₀ net₀ a₀ j₀ work a j =
-    (j ≤ 16) × (length work ≡ size) × Aside lseRow 16 work₀ work × Before 16 (facts year .obligation) (net work₀) j a
+    (j ≤ 16) × (length work ≡ size) × Aside lseRow 16 work₀ work × Before 16 (knownLse (facts year)) (facts year .obligation) (net work₀) j a
     × Renewed work lseRow 16 (share 16 (facts year .obligation) (net work₀)) none j
 
 abbrev μ-loop : tie.MeasureT-loop
@@ -37,13 +40,14 @@ loop-again c =
     let F = facts (c .before .before .before .before .before .before .before .before .before .args .year .now) in
     let w = c .before .obligation-of .ensures in
     ⊎-elim
-    (λ a. rw (a .5, a .6) (omega arith, a .3 .ensures .long ∙ l .inv .1, aside-more (l .inv .2) (a .3 .ensures) (omega arith) (omega arith), share-next (l .inv .3) w (a .1 .ensures), renewed-more (l .inv .4) (a .3 .ensures) (share-value (l .inv .3) w (a .1 .ensures))))
+    (λ a. rw (a .5, a .6) (omega arith, a .3 .ensures .long ∙ l .inv .1, aside-more (l .inv .2) (a .3 .ensures) (omega arith) (omega arith), share-next (l .inv .3) w (lt-ltb 0 (F .obligation (l .j)) (omega (arith, w, a .0 .taken))) (a .1 .ensures), renewed-more (l .inv .4) (a .3 .ensures) (share-value (l .inv .3) w (a .1 .ensures))))
     (λ a. let z : F .obligation (l .j) ≡ 0 = sym w ∙ a .0 .left in
-    rw (a .1, a .2) (omega arith, l .inv .1, l .inv .2, share-skip (l .inv .3) z, renewed-none (l .inv .4) (omega arith) (sym (share-zero 16 (F .obligation) _ (l .j) z))))
+    rw (a .1, a .2) (omega arith, l .inv .1, l .inv .2, share-skip (l .inv .3) (rw z) z, renewed-none (l .inv .4) (omega arith) (sym (share-zero 16 (F .obligation) _ (l .j) z))))
     (c .if1 .came)
 
 returns : tie.Need-returns Inv-loop μ-loop
-returns c = let l = c .before .loop in let z : l .j ≡ 16 = omega arith in (rw z at (l .inv .4 .done), l .inv .2)
+unfolding lseDivisions
+returns c = let l = c .before .loop in let z : l .j ≡ 16 = omega arith in (rw z at (l .inv .4 .done), (shares-made (l .inv .3) z, l .inv .2))
 
 pub credit-lses-spec : {M : Type 1} → statement M
 credit-lses-spec =
@@ -56,7 +60,7 @@ credit-lses-spec =
     (λ c κs. tt)
     loop-holds
     (λ c κs. omega arith)
-    (λ c κs. share-asks (c .before .before .before .loop .inv .3) (omega arith) (c .before .obligation-of .ensures) (c .before .before .before .before .before .before .before .before .before .pre .1 .1 .0))
+    (λ c κs. share-asks (c .before .before .before .loop .inv .3) (omega arith) (lit< tt) (c .before .obligation-of .ensures) (c .before .before .before .before .before .before .before .before .before .pre .1 .1 .0))
     (λ c κs. omega (arith, c .before .before .before .before .before .loop .inv .1))
     (λ c. omega arith)
     (λ c. omega arith)

@@ -19,13 +19,13 @@ share-requires c κs =
 charge-requires : tie.Need-charge-requires
 charge-requires c κs =
     let s = c .before .before .before .before .before .pre in
-    let h = run-aside (run-aside (s .1 .1) (c .before .before .before .weigh .ensures .1)) (c .before .share .ensures .1) in
+    let h = run-aside (run-aside (s .1 .1) (c .before .before .before .weigh .ensures .1)) (c .before .share .ensures .1 .1) in
     (s .0, (s .1 .0, (given h (c .before .share .ensures .0), h .billed)))
 
 credit-requires : tie.Need-credit-requires
 credit-requires c κs =
     let s = c .before .before .before .before .before .before .before .pre in
-    let h = run-aside (run-aside (s .1 .1) (c .before .before .before .before .before .weigh .ensures .1)) (c .before .before .before .share .ensures .1) in
+    let h = run-aside (run-aside (s .1 .1) (c .before .before .before .before .before .weigh .ensures .1)) (c .before .before .before .share .ensures .1 .1) in
     let k = c .before .charge .ensures in
     (s .0, (s .1 .0, (given-aside (given h (c .before .before .before .share .ensures .0)) (k .1 .1) (omega arith) (omega arith), (row-aside (h .credit) (k .1 .1) (λ j l x y. omega arith), k .1 .0))))
 
@@ -35,12 +35,12 @@ returns c =
     let s = c .before .before .before .before .share .ensures in
     let k = c .before .before .charge .ensures in
     let d = c .credit .ensures in (
-      run-more (run-aside (run-aside (c .before .before .before .before .before .before .before .before .pre .1 .1) (g .1)) (s .1)) (k .1 .1) (k .0) (d .1) (d .0),
+      run-more (run-aside (run-aside (c .before .before .before .before .before .before .before .before .pre .1 .1) (g .1)) (s .1 .1)) (k .1 .1) (k .0) (d .1 .1) (d .0),
       aside-then
-          (aside-then {q = callsRow} {m = 544}
-          (aside-then {q = callsRow} {m = 544} (g .1) (s .1) (omega arith) (omega arith) (omega arith) (omega arith))
+          (aside-then {q = callsRow} {m = 576}
+          (aside-then {q = callsRow} {m = 576} (g .1) (s .1 .1) (omega arith) (omega arith) (omega arith) (omega arith))
           (k .1 .1) (omega arith) (omega arith) (omega arith) (omega arith))
-          (d .1) (omega arith) (omega arith) (omega arith) (omega arith),
+          (d .1 .1) (omega arith) (omega arith) (omega arith) (omega arith),
     )
 
 pub bill-event-spec : {M : Type 1} → statement M

@@ -12,7 +12,7 @@ use Rattle.passes.proofs.bill_events.Statement.{statement}
 use Rattle.passes.proofs.bill_events.Tie as tie
 
 abbrev Inv-loop : tie.InvT-loop
-Inv-loop year work₀ k held ev₀ work ev = (ev ≤ held) × (Run (facts year) k ev work × Aside callsRow 544 work₀ work)
+Inv-loop year work₀ k held ev₀ work ev = (ev ≤ held) × (Run (facts year) k ev work × Aside callsRow 576 work₀ work)
 
 abbrev μ-loop : tie.MeasureT-loop
 μ-loop year work₀ k held ev₀ work ev = held - ev

@@ -8,6 +8,7 @@ use Rattle.year.specs.Year.{area, committed}
 use Rattle.year.specs.Sound.{SoundRegistration}
 use Rattle.looks.specs.Looks.{facts}
 use Rattle.owed_laws.specs.Limits.{limits}
+use Rattle.table.specs.Places.{worthRow}
 use Rattle.rating.specs.Entering.{lentAt, worth-is, lent-le, lent-room, worth-room, lending-more, lending-aside}
 use Rattle.rating.proofs.lend.Statement.{statement}
 use Rattle.rating.proofs.lend.Tie as tie
@@ -40,7 +41,7 @@ add-at-requires-2 c κs =
     let s = c .before .before .before .before .before .before in
     let below = sound s .area in
     let d = c .before .add-at .ensures in
-    let kept = d .others (1032 + s .args .r .area) (λ z. omega (arith, below)) in
+    let kept = d .others (worthRow + s .args .r .area) (λ z. omega (arith, below)) in
     (omega (arith, below, d .long, s .pre .1 .1 .0), omega (arith, kept, worth-room (limits (s .pre .0 .sound)) (omega (arith, s .pre .1 .0 .0)) (s .pre .1 .1 .1) (s .args .r .area) below, lent-most (c .before .before .before .before), mul-le-mul (lent-most (c .before .before .before .before)) (own-most (c .before .before .before .before .before))))
 
 returns : tie.Need-returns

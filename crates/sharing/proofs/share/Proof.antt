@@ -8,7 +8,7 @@ use lib.Dec.{lit≤}
 use Rattle.looks.specs.Looks.{facts}
 use Rattle.owed_laws.specs.Limits.{limits}
 use Rattle.weighing.specs.declared.Entry.{Entry}
-use Rattle.sharing.specs.Sharing.{Sharing, sharing-first, sharing-none, sharing-more, sharing-all, u-asks, e-asks}
+use Rattle.sharing.specs.Sharing.{Sharing, sharing-first, sharing-none, sharing-more, sharing-all, sharing-divided, u-asks, e-asks}
 use Rattle.sharing.proofs.share.Statement.{statement}
 use Rattle.sharing.proofs.share.Tie as tie
 
@@ -45,7 +45,7 @@ loop-again c =
     (c .if1 .came)
 
 returns : tie.Need-returns Inv-loop μ-loop
-returns c = let v = c .before .loop .inv in (sharing-all v (omega (arith, v .upto)), v .aside)
+returns c = let v = c .before .loop .inv in let all : c .before .loop .i ≡ 64 = omega (arith, v .upto) in (sharing-all v all, (sharing-divided v all, v .aside))
 
 pub share-spec : {M : Type 1} → statement M
 share-spec =

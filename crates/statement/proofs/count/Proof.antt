@@ -4,10 +4,8 @@ use mathlib.Core.Bool.{cond}
 use mathlib.Core.Path.{_≡_, refl, _∙_}
 use mathlib.Core.Logic.{⊎-elim}
 use native.Mathlib.Omega.{arith}
-use Rattle.ids.specs.Ids.{holds, sumTo}
-use Rattle.ids.specs.Sums.{sum-step}
-use Rattle.statement.specs.Statement.{countTo}
-use Rattle.statement.specs.Lines.{count-most}
+use Rattle.ids.specs.Ids.{holds, countTo, sumTo}
+use Rattle.ids.specs.Sums.{sum-step, count-most}
 use Rattle.statement.proofs.count.Statement.{statement}
 use Rattle.statement.proofs.count.Tie as tie
 
@@ -18,14 +16,13 @@ abbrev μ-loop : tie.MeasureT-loop
 μ-loop marks n₀ i₀ n i = 16 - i
 
 loop-holds : tie.Need-loop-holds Inv-loop μ-loop
-unfolding countTo sumTo
+unfolding sumTo
 loop-holds c = (omega arith, refl)
 
 add-n : tie.Need-add-n Inv-loop μ-loop
 add-n c = omega (arith, count-most (c .before .before .loop .i) (holds (c .before .before .before .args .t1)))
 
 loop-again : tie.Need-loop-again Inv-loop μ-loop
-unfolding countTo
 loop-again c =
     let m = holds (c .before .before .before .args .t1) in
     let step = sum-step (c .before .before .loop .i) (λ i. cond (m i) 1 0) in

@@ -11,7 +11,7 @@ use Rattle.weighing.proofs.nets.Statement.{statement}
 use Rattle.weighing.proofs.nets.Tie as tie
 
 abbrev Inv-loop : tie.InvT-loop
-Inv-loop year work₀ ev s₀ work s = Netted (facts year) ev s work × Aside lackRow 128 work₀ work
+Inv-loop year work₀ ev s₀ work s = Netted (facts year) ev s work × Aside lackRow 160 work₀ work
 
 abbrev μ-loop : tie.MeasureT-loop
 μ-loop year work₀ ev s₀ work s = 16 - s

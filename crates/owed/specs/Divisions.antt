@@ -1,0 +1,34 @@
+-- How many divisions each allotment of the rules makes (document 02's C-13): as many as it has parties, none where its weights are all 0.
+use Prim.Native.Nat.{ℕ}
+use mathlib.Core.Bool.{Bool, _&&_}
+use lib.Dec.{eqb, ltb}
+use Rattle.ids.specs.Ids.{sumTo, countTo}
+use Rattle.allotment.specs.Divisions.{divisions}
+use Rattle.owed.specs.Facts.{Facts, registrations, lses}
+use Rattle.owed.specs.Owed.{ofSeller, lack, more, e}
+
+module _ (F : Facts) where
+  -- of seller s's amount by weights: its entries are the parties
+  abbrev pub entryOf : (ℕ → Bool) → ℕ → ℕ → Bool
+  entryOf listed s i = eqb (F .seller i) s && listed i
+
+  unfoldable pub divisionsOf : (ℕ → Bool) → (ℕ → ℕ) → ℕ → ℕ
+  divisionsOf listed weight s = divisions (countTo registrations (entryOf listed s)) (ofSeller F s weight)
+
+  -- of u and e of seller s's entries in event ev
+  abbrev pub uDivisions : ℕ → ℕ → ℕ
+  uDivisions ev = divisionsOf (F .listed ev) (lack F ev)
+
+  abbrev pub eDivisions : ℕ → ℕ → ℕ
+  eDivisions ev = divisionsOf (F .listed ev) (more F ev)
+
+  -- of event ev's credits: its entries are the parties
+  unfoldable pub creditDivisions : ℕ → ℕ
+  creditDivisions ev = divisions (countTo registrations (F .listed ev)) (sumTo registrations (e F ev))
+
+  -- of what the LSEs are credited: those that are known are the parties
+  abbrev pub knownLse : ℕ → Bool
+  knownLse j = ltb 0 (F .obligation j)
+
+  unfoldable pub lseDivisions : ℕ
+  lseDivisions = divisions (countTo lses knownLse) (sumTo lses (F .obligation))
