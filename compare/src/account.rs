@@ -10,6 +10,11 @@ use crate::year::Year;
 
 /// All amounts to date at this month.
 pub fn to_date(year: &Year, month: u8) -> Owed {
+    to_date_and_divisions(year, month).0
+}
+
+/// All amounts to date at this month, and the divisions that their allotments tell, together.
+pub fn to_date_and_divisions(year: &Year, month: u8) -> (Owed, usize) {
     let mut account = Account::new(year, month);
     for event in &year.events {
         account.add_event(event);
@@ -22,10 +27,8 @@ pub fn to_date(year: &Year, month: u8) -> Owed {
         let seller = usize::from(registration.seller);
         sellers[seller] = Some(account.sellers[seller]);
     }
-    Owed {
-        sellers,
-        lses: account.lse_credits(),
-    }
+    let lses = account.lse_credits();
+    (Owed { sellers, lses }, account.divisions)
 }
 
 /// An entry beside its registration: c committed, v reduction, q rate in force.
@@ -104,6 +107,8 @@ struct Account<'a> {
     sellers: [Amounts; SELLERS],
     /// What is left of each registration's cap.
     rests: [i64; REGISTRATIONS],
+    /// The divisions of the allotments so far.
+    divisions: usize,
 }
 
 impl<'a> Account<'a> {
@@ -115,6 +120,7 @@ impl<'a> Account<'a> {
             days: days(year.opening.leap, month),
             sellers: [Amounts::default(); SELLERS],
             rests: year.registrations.each_ref().map(rest),
+            divisions: 0,
         }
     }
 
@@ -145,6 +151,8 @@ impl<'a> Account<'a> {
             let most = e * l.q / 5 * self.days / 1_000;
             self.sellers[l.seller()].credit += shares.share(e).min(most);
         }
+        let allotments = shortfalls.iter().chain(&excesses).chain([&shares]);
+        self.divisions += allotments.map(Allotment::divisions).sum::<usize>();
     }
 
     /// An entry's charge to date; takes its daily charge off the rest of the cap.
@@ -179,7 +187,7 @@ impl<'a> Account<'a> {
     }
 
     /// Charges less excess credits, allotted to the LSEs by obligation.
-    fn lse_credits(&self) -> [Option<i64>; LSES] {
+    fn lse_credits(&mut self) -> [Option<i64>; LSES] {
         let amounts = self.sellers.iter();
         let left = amounts.map(|a| a.compliance + a.test - a.credit).sum();
         let obligations = self
@@ -187,6 +195,8 @@ impl<'a> Account<'a> {
             .lses
             .map(|lse| lse.map(|lse| lse.obligation.into()));
         let mut credits = Allotment::new(left, obligations.iter().flatten().sum());
-        obligations.map(|obligation| obligation.map(|weight| credits.share(weight)))
+        let lses = obligations.map(|obligation| obligation.map(|weight| credits.share(weight)));
+        self.divisions += credits.divisions();
+        lses
     }
 }

@@ -61,7 +61,9 @@ pub struct Allotment {
     amount: i64,
     whole: i64,
     sum: i64,
+    /// The last quotient: what the weights so far are allotted together.
     allotted: i64,
+    divisions: usize,
 }
 
 impl Allotment {
@@ -72,19 +74,30 @@ impl Allotment {
             whole,
             sum: 0,
             allotted: 0,
+            divisions: 0,
         }
     }
 
-    /// The share of the next weight.
+    /// The share of the next weight: one division, since the quotient to take off is the last one.
     pub fn share(&mut self, weight: i64) -> i64 {
-        // A weight of 0 leaves the sum as it is; past it the whole is not 0.
-        if weight == 0 {
+        if self.whole == 0 {
             return 0;
         }
         self.sum += weight;
         let before = self.allotted;
-        self.allotted = self.amount * self.sum / self.whole;
+        self.allotted = self.quotient();
         self.allotted - before
+    }
+
+    /// What the weights so far are allotted together. Only here is divided, so only here is counted.
+    fn quotient(&mut self) -> i64 {
+        self.divisions += 1;
+        self.amount * self.sum / self.whole
+    }
+
+    /// The divisions made so far: one for each share, none where the whole is 0.
+    pub fn divisions(&self) -> usize {
+        self.divisions
     }
 }
 
