@@ -2,6 +2,8 @@
 
 pub mod account;
 mod average;
+#[cfg(feature = "before")]
+pub mod before;
 mod bill;
 mod bits;
 mod book;

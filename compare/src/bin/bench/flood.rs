@@ -59,8 +59,9 @@ impl Flood {
         let rattle = Path::new(env!("CARGO_MANIFEST_DIR")).join("../target/bin/bill");
         let mut best = Times::slowest();
         for _ in 0..ROUNDS {
-            best.rust = best.rust.min(work.time(&rust, &bill)?);
-            best.rattle = best.rattle.min(work.time(&rattle, &bill)?);
+            for (program, best) in [&rust, &rattle].into_iter().zip(&mut best.sides) {
+                *best = best.min(work.time(program, &bill)?);
+            }
         }
         Ok(best)
     }

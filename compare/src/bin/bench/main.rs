@@ -1,13 +1,18 @@
 //! Times the proved engine (Rattle) and this implementation (Rust) on the same inputs. Prints the
-//! table of docs/DECISIONS.md, "Speed".
+//! table of docs/DECISIONS.md, "Speed". `bench --before`, with the feature `before`: closes and years
+//! of the earlier engine that is linked in and of the present one.
 
 mod flood;
 mod inputs;
 mod race;
+mod table;
 
 use std::hint::black_box;
 use std::io;
+use std::process::ExitCode;
 
+#[cfg(feature = "before")]
+use settlement::before;
 use settlement::cases::record::{encode, Numbers};
 use settlement::layout::{MOST_BYTES, MOST_NUMBERS};
 use settlement::{piermint, Billed, Read, Written, MOST_STATEMENTS};
@@ -15,6 +20,7 @@ use settlement::{piermint, Billed, Read, Written, MOST_STATEMENTS};
 use flood::FLOODS;
 use inputs::{records, Inputs};
 use race::{race, Times};
+use table::{row, Row};
 
 const OPENING: (u64, usize) = (1, 1);
 const REGISTRATIONS: (u64, usize) = (2, 64);
@@ -34,52 +40,55 @@ const ENTRY: &str = "0.8";
 const YEAR: &str = "1.2";
 const NO_GOAL: &str = "";
 
-fn main() -> io::Result<()> {
+type Bill = fn(&[u8], &mut [u64], &mut [u8]) -> Billed;
+
+fn main() -> io::Result<ExitCode> {
+    let arguments: Vec<String> = std::env::args().skip(1).collect();
+    let words: Vec<&str> = arguments.iter().map(String::as_str).collect();
+    match words.as_slice() {
+        [] => rust_and_rattle()?,
+        #[cfg(feature = "before")]
+        ["--before"] => before_and_now(),
+        _ => {
+            eprintln!("usage: bench [--before], the latter with the feature `before`");
+            return Ok(ExitCode::from(2));
+        }
+    }
+    Ok(ExitCode::SUCCESS)
+}
+
+fn rust_and_rattle() -> io::Result<()> {
     println!("| | goal | Rust | Rattle | ratio |");
     println!("|---|---|---|---|---|");
+    let print = |rows: &[Row]| rows.iter().for_each(Row::print_with_goal);
     let records = records();
-    for ((name, _), times) in records.iter().zip(read(&records)) {
-        row(&format!("reading {name}"), READ_OR_WRITE, times);
-    }
-    for ((name, _), times) in records.iter().zip(write(&records)) {
-        row(&format!("writing {name}"), READ_OR_WRITE, times);
-    }
+    print(&read(&records));
+    print(&write(&records));
     let inputs = Inputs::new();
-    take_records(&inputs);
-    close_months(&inputs);
-    let [year, cleared] = bill(inputs.full_years());
-    row("a full year, 136 records", YEAR, year);
-    row("a full year with 256 clearings", NO_GOAL, cleared);
+    let sides = [settlement::bill, piermint::bill];
+    print(&take_records(sides, &inputs));
+    print(&close_months(sides, &inputs));
+    print(&bill_years(sides, &inputs));
     for flood in FLOODS {
-        row(&flood.name(), NO_GOAL, flood.race()?);
+        print(&[row(flood.name(), NO_GOAL, flood.race()?)]);
     }
     Ok(())
 }
 
-fn row(name: &str, goal: &str, times: Times) {
-    let [rust, rattle] = [times.rust, times.rattle].map(duration);
-    println!(
-        "| {name} | {goal} | {rust} | {rattle} | {:.2} |",
-        times.ratio()
-    );
-}
-
-fn duration(nanoseconds: f64) -> String {
-    let (time, unit) = match nanoseconds {
-        ..1e3 => (nanoseconds, "ns"),
-        ..1e6 => (nanoseconds / 1e3, "µs"),
-        ..1e9 => (nanoseconds / 1e6, "ms"),
-        _ => (nanoseconds / 1e9, "s"),
-    };
-    match time {
-        ..100.0 => format!("{time:.1} {unit}"),
-        _ => format!("{time:.0} {unit}"),
-    }
+/// What a close and a year cost with an earlier engine and with the present one.
+#[cfg(feature = "before")]
+fn before_and_now() {
+    println!("| | before | now | ratio |");
+    println!("|---|---|---|---|");
+    let inputs = Inputs::new();
+    let sides = [before::bill, piermint::bill];
+    close_months(sides, &inputs).iter().for_each(Row::print);
+    bill_years(sides, &inputs).iter().for_each(Row::print);
 }
 
 /// Taking is timed as billing a file less billing it without the records in question.
-fn take_records(inputs: &Inputs) {
-    let [opening, registrations, lses, clearings, parties, events, tests] = bill([
+fn take_records(sides: [Bill; 2], inputs: &Inputs) -> [Row; 6] {
+    let sets = [
         inputs.files(&[OPENING]),
         inputs.files(&[OPENING, REGISTRATIONS]),
         inputs.files(&[OPENING, LSES]),
@@ -87,38 +96,51 @@ fn take_records(inputs: &Inputs) {
         inputs.files(&[OPENING, REGISTRATIONS, LSES]),
         inputs.files(&[OPENING, REGISTRATIONS, LSES, EVENTS]),
         inputs.files(&[OPENING, REGISTRATIONS, LSES, TESTS]),
-    ]);
+    ];
+    let [opening, registrations, lses, clearings, parties, events, tests] = bill(sides, sets);
     let registration = registrations.less(opening).per(REGISTRATIONS.1);
     let clearing = clearings.less(registrations).per(CLEARINGS.1);
     let event = events.less(parties).per(EVENTS.1);
     let test = tests.less(parties).per(TESTS.1);
-    row("a new book that takes an opening", NO_GOAL, opening);
-    row("taking a registration", TAKE, registration);
-    row("taking an LSE", TAKE, lses.less(opening).per(LSES.1));
-    row("taking a clearing", TAKE, clearing);
-    row("taking an event of 64 entries", TAKE_EVENT, event);
-    row("taking a test of 2 or 3 entries", NO_GOAL, test);
+    [
+        row("a new book that takes an opening", NO_GOAL, opening),
+        row("taking a registration", TAKE, registration),
+        row("taking an LSE", TAKE, lses.less(opening).per(LSES.1)),
+        row("taking a clearing", TAKE, clearing),
+        row("taking an event of 64 entries", TAKE_EVENT, event),
+        row("taking a test of 2 or 3 entries", NO_GOAL, test),
+    ]
 }
 
 /// Closing is timed as billing 15 closes less billing the file without them, a mean of the 15.
-fn close_months(inputs: &Inputs) {
+fn close_months(sides: [Bill; 2], inputs: &Inputs) -> [Row; 5] {
     let close = |events| {
         let open = [OPENING, REGISTRATIONS, LSES, (EVENTS.0, events)];
         let closed = [&open[..], &[CLOSES]].concat();
-        let [open, closed] = bill([inputs.files(&open), inputs.files(&closed)]);
+        let [open, closed] = bill(sides, [inputs.files(&open), inputs.files(&closed)]);
         closed.less(open).per(CLOSES.1)
     };
     let [none, one, half, all] = [0, 1, EVENTS.1 / 2, EVENTS.1].map(close);
-    row("closing with 16 events of 64 entries", CLOSE, all);
-    row("closing with 8", NO_GOAL, half);
-    row("closing with 1", NO_GOAL, one);
-    row("closing with none", CLOSE_NONE, none);
     let entry = all.less(none).per(64 * EVENTS.1);
-    row("each entry more in a close", ENTRY, entry);
+    [
+        row("closing with 16 events of 64 entries", CLOSE, all),
+        row("closing with 8", NO_GOAL, half),
+        row("closing with 1", NO_GOAL, one),
+        row("closing with none", CLOSE_NONE, none),
+        row("each entry more in a close", ENTRY, entry),
+    ]
+}
+
+fn bill_years(sides: [Bill; 2], inputs: &Inputs) -> [Row; 2] {
+    let [year, cleared] = bill(sides, inputs.full_years());
+    [
+        row("a full year, 136 records", YEAR, year),
+        row("a full year with 256 clearings", NO_GOAL, cleared),
+    ]
 }
 
 /// Reading each of the records, which are accepted.
-fn read(records: &[(&str, Numbers)]) -> Vec<Times> {
+fn read(records: &[(&str, Numbers)]) -> Vec<Row> {
     type Call = fn(&[u8], &mut [u64]) -> Read;
     let input = |(_, numbers): &(&str, Numbers)| {
         let record = encode(numbers);
@@ -132,11 +154,12 @@ fn read(records: &[(&str, Numbers)]) -> Vec<Times> {
     let inputs: Vec<_> = records.iter().map(input).collect();
     let mut lent = [0; MOST_NUMBERS];
     let call = |call: Call, record: &Vec<u8>| call(black_box(record), black_box(&mut lent));
-    race(&inputs, call, settlement::read, piermint::read)
+    let times = race(&inputs, call, [settlement::read, piermint::read]);
+    rows_of("reading", records, times)
 }
 
 /// Writing each of the records, which are accepted.
-fn write(records: &[(&str, Numbers)]) -> Vec<Times> {
+fn write(records: &[(&str, Numbers)]) -> Vec<Row> {
     type Call = fn(&[u64], &mut [u8]) -> Written;
     let input = |(_, numbers): &(&str, Numbers)| {
         let used = encode(numbers).len();
@@ -145,15 +168,22 @@ fn write(records: &[(&str, Numbers)]) -> Vec<Times> {
     let inputs: Vec<_> = records.iter().map(input).collect();
     let mut lent = [0; MOST_BYTES];
     let call = |call: Call, numbers: &Numbers| call(black_box(numbers), black_box(&mut lent));
-    race(&inputs, call, settlement::write, piermint::write)
+    let times = race(&inputs, call, [settlement::write, piermint::write]);
+    rows_of("writing", records, times)
+}
+
+/// A row for each of the records, by what is done with it.
+fn rows_of(doing: &str, records: &[(&str, Numbers)], times: Vec<Times>) -> Vec<Row> {
+    let rows = records.iter().zip(times);
+    rows.map(|((name, _), times)| row(format!("{doing} {name}"), READ_OR_WRITE, times))
+        .collect()
 }
 
 /// For each of the sets of files, whose records are all accepted, the mean time of billing one.
-fn bill<const N: usize>(sets: [Vec<Vec<u8>>; N]) -> [Times; N] {
-    type Call = fn(&[u8], &mut [u64], &mut [u8]) -> Billed;
+fn bill<const N: usize>(sides: [Bill; 2], sets: [Vec<Vec<u8>>; N]) -> [Times; N] {
     let mut numbers = [0; 512];
     let mut statements = [0; MOST_STATEMENTS];
-    let mut call = |call: Call, file: &&Vec<u8>| {
+    let mut call = |call: Bill, file: &&Vec<u8>| {
         let (numbers, statements) = (black_box(&mut numbers), black_box(&mut statements));
         let billed = call(black_box(file), numbers, statements);
         let is_refused = |number: &u64| *number != 0;
@@ -168,7 +198,7 @@ fn bill<const N: usize>(sets: [Vec<Vec<u8>>; N]) -> [Times; N] {
         (file, (billed, any_refused))
     };
     let inputs: Vec<_> = sets.iter().flatten().map(input).collect();
-    let mut times = race(&inputs, call, settlement::bill, piermint::bill).into_iter();
+    let mut times = race(&inputs, call, sides).into_iter();
     sets.each_ref().map(|set| {
         let of_set: Times = times.by_ref().take(set.len()).sum();
         of_set.per(set.len())

@@ -5,6 +5,7 @@
 //! fastest of the rounds counts: what else runs on the machine only adds time. Ratios within one run
 //! are what to look at; the times themselves depend on the machine.
 
+use std::array;
 use std::fmt::Debug;
 use std::hint::black_box;
 use std::iter::Sum;
@@ -13,48 +14,45 @@ use std::time::{Duration, Instant};
 const LAP: Duration = Duration::from_micros(500);
 const ROUNDS: usize = 60;
 
-/// Nanoseconds of each side.
-#[derive(Clone, Copy, Default)]
+/// Nanoseconds of each side, in the order in which they race.
+#[derive(Clone, Copy)]
 pub struct Times {
-    pub rust: f64,
-    pub rattle: f64,
+    pub sides: [f64; 2],
 }
 
 impl Times {
-    pub fn ratio(self) -> f64 {
-        self.rattle / self.rust
-    }
-
     /// Before anything is timed.
     pub fn slowest() -> Self {
         Times {
-            rust: f64::INFINITY,
-            rattle: f64::INFINITY,
+            sides: [f64::INFINITY; 2],
         }
+    }
+
+    /// The second side's time as a multiple of the first's.
+    pub fn ratio(self) -> f64 {
+        self.sides[1] / self.sides[0]
     }
 
     /// For each of so many.
     pub fn per(self, count: usize) -> Self {
         Times {
-            rust: each(self.rust, count),
-            rattle: each(self.rattle, count),
+            sides: self.sides.map(|time| each(time, count)),
         }
     }
 
     pub fn less(self, other: Times) -> Self {
         Times {
-            rust: self.rust - other.rust,
-            rattle: self.rattle - other.rattle,
+            sides: array::from_fn(|side| self.sides[side] - other.sides[side]),
         }
     }
 }
 
 impl Sum for Times {
     fn sum<I: Iterator<Item = Times>>(times: I) -> Self {
-        times.fold(Times::default(), |sum, times| Times {
-            rust: sum.rust + times.rust,
-            rattle: sum.rattle + times.rattle,
-        })
+        let sides = times.fold([0.0; 2], |sums, times| {
+            array::from_fn(|side| sums[side] + times.sides[side])
+        });
+        Times { sides }
     }
 }
 
@@ -68,20 +66,19 @@ fn each(time: f64, count: usize) -> f64 {
 pub fn race<I, F: Copy, A: Debug + PartialEq>(
     inputs: &[(I, A)],
     mut call: impl FnMut(F, &I) -> A,
-    rust: F,
-    rattle: F,
+    sides: [F; 2],
 ) -> Vec<Times> {
     let mut check = |side: F, (input, expected): &(I, A)| {
         assert_eq!(black_box(&call(side, input)), expected);
     };
-    let mut calls_of_a_lap =
-        |input| [rust, rattle].map(|side| calls_of_a_lap(|| check(side, input)));
+    let mut calls_of_a_lap = |input| sides.map(|side| calls_of_a_lap(|| check(side, input)));
     let laps: Vec<[usize; 2]> = inputs.iter().map(&mut calls_of_a_lap).collect();
     let mut best = vec![Times::slowest(); inputs.len()];
     for _ in 0..ROUNDS {
-        for ((input, lap), best) in inputs.iter().zip(&laps).zip(&mut best) {
-            best.rust = best.rust.min(time(|| check(rust, input), lap[0]));
-            best.rattle = best.rattle.min(time(|| check(rattle, input), lap[1]));
+        for ((input, laps), best) in inputs.iter().zip(&laps).zip(&mut best) {
+            for ((side, lap), best) in sides.into_iter().zip(laps).zip(&mut best.sides) {
+                *best = best.min(time(|| check(side, input), *lap));
+            }
         }
     }
     best
