@@ -17,8 +17,8 @@ ghost use Rattle.book.specs.Kept.{Suits};
 use cells::Cells;
 use heads::Head;
 use heads::RegistrationHead;
-use questions::number_of;
 use units::Nominated;
+use verdict::number_of;
 use year::Registration;
 
 // A call's answer: 0 or the number of the question that failed, the bytes consumed, and the bytes of the statement that

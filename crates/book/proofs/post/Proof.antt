@@ -26,7 +26,7 @@ use Rattle.book.proofs.post.Tie as tie
 use Rattle.book.proofs.take.Reads as take-reads
 use Rattle.heads.proofs.head_of.Reads as head-of-reads
 use Rattle.heads.proofs.spread.Reads as spread-reads
-use Rattle.questions.proofs.number_of.Reads as number-of-reads
+use Rattle.verdict.proofs.number_of.Reads as number-of-reads
 use Rattle.records.proofs.parse.Reads as parse-reads
 
 -- questions 1 to 5 pass, and the values are the record's numbers

@@ -1,0 +1,112 @@
+// The questions put to what calls registrations up: an event, a test.
+ghost use mathlib.Core.Path.{_≡_};
+ghost use mathlib.Core.Bool.{_&&_};
+ghost use Prim.Native.Nat.{ℕ, _+_, _≤_, max};
+ghost use lib.Dec.{leb};
+ghost use lib.ListN.{length};
+ghost use Rattle.ids.specs.Ids.{at};
+ghost use Rattle.layouts.specs.Questions.{firstFailed};
+ghost use Rattle.year.specs.Year.{product};
+ghost use Rattle.calendar.specs.Calendar.{callable, testable};
+ghost use Rattle.cells.specs.Layout.{listingAt, yearIn, Held};
+ghost use Rattle.heads.specs.Within.{TestWithin};
+ghost use Rattle.entries.specs.Entries.{everyListed};
+ghost use Rattle.questions.specs.Questions.{inTime, questions};
+use cells::Cells;
+use entries::Condition;
+use entries::entries_pass;
+use entries::every_listed;
+use entries::lists_uncalled;
+use heads::EventHead;
+use heads::Head;
+use heads::TestHead;
+use questions::has_parties;
+use questions::is_open;
+
+// The first month with which events of a month are no longer taken.
+fn event_end(month: u64) -> u64
+    requires { ⌜ month ≤ 12 ⌝ }
+    ensures { λ r. ⌜ r ≡ max 5 (month + 3) ⌝ }
+{
+    if month < 2 { 5 } else { month + 3 }
+}
+
+// May an event of the month be taken?
+fn in_time(closed: u64, month: u64) -> bool
+    requires { ⌜ closed ≤ 15 ⌝ }
+    requires { ⌜ month ≤ 12 ⌝ }
+    ensures { λ r. ⌜ r ≡ inTime closed month ⌝ }
+{
+    month <= closed + 1 && closed < event_end(month)
+}
+
+// Question 11 of an event.
+fn may_call(year: &Cells, e: EventHead, listing: &[u64]) -> bool
+    requires { ⌜ Held (now year) ⌝ }
+    requires { ⌜ e .month ≤ 12 ⌝ }
+    requires { ⌜ length (now listing) ≡ 144 ⌝ }
+    ensures { λ r. ⌜ r ≡ (let y = yearIn (now (year .entry)) in inTime (y .closed) (e .month) && everyListed (y .terms) (listingAt (at (now (listing .entry)))) (λ i. callable (product (y .terms) i) (e .month) (e .period))) ⌝ }
+{
+    in_time(cells::closed(year), e.month)
+        && every_listed(year, listing, Condition::Callable(e.month, e.period))
+}
+
+// Question 11 of a test.
+fn may_test(closed: u64, t: TestHead) -> bool
+    requires { ⌜ closed ≤ 15 ⌝ }
+    ensures { λ r. ⌜ r ≡ (leb (t .month) (closed + 1) && testable (t .product) (t .month)) ⌝ }
+{
+    t.month <= closed + 1 && calendar::testable(t.product, t.month)
+}
+
+// Of an event.
+pub fn event_number(year: &Cells, e: EventHead, listing: &[u64]) -> u64
+    requires { ⌜ Held (now year) ⌝ }
+    requires { ⌜ e .month ≤ 12 ⌝ }
+    requires { ⌜ length (now listing) ≡ 144 ⌝ }
+    ensures { λ n. ⌜ ((room : ℕ) → n ≡ firstFailed (questions inTime (yearIn (now (year .entry))) (record { head = Head.Event e; listing = listingAt (at (now (listing .entry))) }) room)) ⌝ }
+{
+    if !is_open(year) {
+        return 6;
+    }
+    if !has_parties(year) {
+        return 8;
+    }
+    if !entries_pass(year, listing, Condition::InArea(e.area)) {
+        return 10;
+    }
+    if !may_call(year, e, listing) {
+        return 11;
+    }
+    if cells::held(year) < 16 { 0 } else { 12 }
+}
+
+// Of a test.
+pub fn test_number(year: &Cells, t: TestHead, listing: &[u64]) -> u64
+    requires { ⌜ Held (now year) ⌝ }
+    requires { ⌜ TestWithin t ⌝ }
+    requires { ⌜ length (now listing) ≡ 144 ⌝ }
+    ensures { λ n. ⌜ ((room : ℕ) → n ≡ firstFailed (questions inTime (yearIn (now (year .entry))) (record { head = Head.Test t; listing = listingAt (at (now (listing .entry))) }) room)) ⌝ }
+{
+    if !is_open(year) {
+        return 6;
+    }
+    if !has_parties(year) {
+        return 8;
+    }
+    let group = Condition::InGroup(t.zone, t.product);
+    if !entries_pass(year, listing, group) {
+        return 10;
+    }
+    if !may_test(cells::closed(year), t) {
+        return 11;
+    }
+    if cells::test_taken(year, (3 * t.zone + t.product) as usize) {
+        return 13;
+    }
+    if lists_uncalled(year, listing, group) {
+        0
+    } else {
+        14
+    }
+}

@@ -1,0 +1,92 @@
+-- `questions::number_of` meets its contract, by kind. Assumes nothing.
+use borrow.Author.Needs.{needs}
+use mathlib.Core.Path.{sym}
+use Rattle.layouts.specs.Questions.{firstFailed}
+use Rattle.heads.specs.Within.{Within}
+use Rattle.questions.specs.Questions.{q6, q7, q8, q9, q10, q17, q11, q12, q13, q14, q15, q16, questions}
+use Rattle.verdict.proofs.number_of.Statement.{statement}
+use Rattle.verdict.proofs.number_of.Tie as tie
+use Rattle.cells.proofs.opened.Reads as opened-reads
+use Rattle.joining.proofs.clearing_number.Reads as clearing-number-reads
+use Rattle.verdict.proofs.close_number.Reads as close-number-reads
+use Rattle.calling.proofs.event_number.Reads as event-number-reads
+use Rattle.joining.proofs.lse_number.Reads as lse-number-reads
+use Rattle.joining.proofs.registration_number.Reads as registration-number-reads
+use Rattle.calling.proofs.test_number.Reads as test-number-reads
+
+registration-number-requires : tie.Need-registration-number-requires
+unfolding Within
+registration-number-requires c κs = rw (c .before .head .given .1) at (c .before .before .before .before .pre .1 .0)
+
+lse-number-requires : tie.Need-lse-number-requires
+unfolding Within
+lse-number-requires c κs = rw (c .before .head2 .given .1) at (c .before .before .before .before .pre .1 .0)
+
+event-number-requires : tie.Need-event-number-requires
+unfolding Within
+event-number-requires c κs =
+    let start = c .before .before .before .before in
+    (start .pre .0, (rw (c .before .head3 .given .1) at (start .pre .1 .0), start .pre .1 .1))
+
+test-number-requires : tie.Need-test-number-requires
+unfolding Within
+test-number-requires c κs =
+    let start = c .before .before .before .before in
+    (start .pre .0, (rw (c .before .head4 .given .1) at (start .pre .1 .0), start .pre .1 .1))
+
+clearing-number-requires : tie.Need-clearing-number-requires
+unfolding Within
+clearing-number-requires c κs = rw (c .before .head6 .given .1) at (c .before .before .before .before .pre .1 .0)
+
+returns : tie.Need-returns
+unfolding firstFailed questions q6 q7 q8 q9 q10 q17 q11 q12 q13 q14 q15 q16
+returns c = rw (c .before .before .enum-told .given .1, sym (c .before .opened .ensures), c .if1 .taken)
+
+returns-2 : tie.Need-returns-2
+unfolding firstFailed questions q6 q7 q8 q9 q10 q17 q11 q12 q13 q14 q15 q16
+returns-2 c = rw (c .before .before .enum-told .given .1, sym (c .before .opened .ensures), c .if1 .left)
+
+returns-3 : tie.Need-returns-3
+returns-3 c = rw (c .before .before .head .given .1) (c .registration-number .ensures _ _)
+
+returns-4 : tie.Need-returns-4
+returns-4 c = rw (c .before .before .head2 .given .1) (c .lse-number .ensures _ _)
+
+returns-5 : tie.Need-returns-5
+returns-5 c = rw (c .before .before .head3 .given .1) (c .event-number .ensures _)
+
+returns-6 : tie.Need-returns-6
+returns-6 c = rw (c .before .before .head4 .given .1) (c .test-number .ensures _)
+
+returns-7 : tie.Need-returns-7
+returns-7 c = rw (c .before .before .head5 .given .1) (c .close-number .ensures _)
+
+returns-8 : tie.Need-returns-8
+returns-8 c = rw (c .before .before .head6 .given .1) (c .clearing-number .ensures _ _)
+
+pub number-of-spec : {M : Type 1} → statement M
+number-of-spec =
+    tie.close
+    (tie.spec
+    (λ c. search needs)
+    (λ c κs. search needs)
+    (λ c. search needs)
+    registration-number-requires
+    (λ c. search needs)
+    lse-number-requires
+    (λ c. search needs)
+    event-number-requires
+    (λ c. search needs)
+    test-number-requires
+    (λ c. search needs)
+    (λ c κs. search needs)
+    (λ c. search needs)
+    clearing-number-requires
+    returns
+    returns-2
+    returns-3
+    returns-4
+    returns-5
+    returns-6
+    returns-7
+    returns-8)
