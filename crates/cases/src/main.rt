@@ -154,7 +154,7 @@ fn write_case(line: &[u8]) {
 fn write(numbers: &[u64], bytes: &mut [u8])
     requires { ⌜ length (now bytes) ≤ 4096 ⌝ }
 {
-    let answer = records::write(numbers, bytes);
+    let answer = writing::write(numbers, bytes);
     let used = scan::least(answer.used, bytes.len());
     print_call(answer.number, answer.used, &bytes[0..used]);
 }

@@ -63,7 +63,7 @@ pub fn pack(line: &[u8], cut: bool, out: &mut [u8], at: usize) -> Packed
     }
     let mut numbers = [0u64; NUMBERS];
     let n = scan::decimals(line, &mut numbers);
-    let answer = records::write(&numbers[..n], &mut out[at..]);
+    let answer = writing::write(&numbers[..n], &mut out[at..]);
     let used = answer.used;
     let next = at + used;
     Packed {

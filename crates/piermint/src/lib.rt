@@ -28,7 +28,7 @@ pub extern "C" fn piermint_read(
 pub extern "C" fn piermint_write(numbers: &[u64], bytes: &mut [u8], used: &mut usize) -> u64
     ensures { λ r. ⌜ Writes (now (numbers .entry)) (now (bytes .entry)) r (now (used .exit)) (now (bytes .exit)) ⌝ }
 {
-    let wrote = records::write(numbers, bytes);
+    let wrote = writing::write(numbers, bytes);
     *used = wrote.used;
     wrote.number
 }

@@ -1,4 +1,4 @@
+-- What the proofs of reading share.
 pub mod Turns
 pub mod Reading
 pub mod Answers
-pub mod Encoding

@@ -1,4 +1,4 @@
-// Records read by their layouts; writing them is in its own module.
+// Records read by their layouts; writing them is a crate of its own.
 use bits::Cursor;
 use bits::Field;
 ghost use mathlib.Core.Path.{_≡_};
@@ -27,10 +27,6 @@ use layouts::shapes::list_at;
 use layouts::shapes::shape_of;
 use layouts::shapes::size_of;
 use layouts::widths_of_parts;
-
-mod writing;
-
-pub use writing::write;
 
 // The bytes of the longest record, by its counts as written.
 pub const LONGEST: usize = 462;

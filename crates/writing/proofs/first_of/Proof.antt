@@ -3,8 +3,8 @@ use mathlib.Core.Path.{sym}
 use native.Mathlib.Omega.{arith}
 use lib.ListN.{List·getD-eq-default}
 use borrow.Author.Needs.{needs}
-use Rattle.records.proofs.writing.first_of.Statement.{statement}
-use Rattle.records.proofs.writing.first_of.Tie as tie
+use Rattle.writing.proofs.first_of.Statement.{statement}
+use Rattle.writing.proofs.first_of.Tie as tie
 
 returns : tie.Need-returns
 returns c = sym (List·getD-eq-default (c .before .args .numbers .now) 0 {n = 0} (omega arith))

@@ -10,10 +10,10 @@ use Rattle.layouts.specs.Layout.{head, lists, rulesTo, widths}
 use Rattle.layouts.specs.Questions.{isKind}
 use Rattle.layouts.specs.QuestionLaws.{kind-in}
 use Rattle.layouts.specs.PartLaws.{table-long}
-use Rattle.records.proofs.Encoding.{put-stated, part-room, part-long, part-narrow, part-valid, part-total, part-fits, part-next, part-written, lists-written}
+use Rattle.writing.proofs.Encoding.{put-stated, part-room, part-long, part-narrow, part-valid, part-total, part-fits, part-next, part-written, lists-written}
 use native.Mathlib.Omega.{arith}
-use Rattle.records.proofs.writing.put_lists.Statement.{statement}
-use Rattle.records.proofs.writing.put_lists.Tie as tie
+use Rattle.writing.proofs.put_lists.Statement.{statement}
+use Rattle.writing.proofs.put_lists.Tie as tie
 
 inside-at : (k i : ℕ) {n : ℕ} → n ≡ length (lists k) → i < n → i < length (lists k)
 inside-at k i e l = omega arith

@@ -12,12 +12,12 @@ use Rattle.layouts.specs.Layout.{Rule, head, rulesFor, widths, sizeOf}
 use Rattle.layouts.specs.Questions.{rulesBy, isKind, permitted, idsRise}
 use Rattle.layouts.specs.QuestionLaws.{kind-in}
 use Rattle.layouts.specs.Parts.{Stated}
 use Rattle.records.specs.Parsing.{Writable}
-use Rattle.records.proofs.Encoding.{stops-1, stops-3, stops-5, stops-16, stops-none, denies, grants, short-stops, head-stops, passes, by-kind, stated-by}
+use Rattle.writing.proofs.Encoding.{stops-1, stops-3, stops-5, stops-16, stops-none, denies, grants, short-stops, head-stops, passes, by-kind, stated-by}
 use borrow.Author.Needs.{needs}
 use native.Mathlib.Omega.{arith}
-use Rattle.records.proofs.writing.write.Statement.{statement}
-use Rattle.records.proofs.writing.write.Tie as tie
+use Rattle.writing.proofs.write.Statement.{statement}
+use Rattle.writing.proofs.write.Tie as tie
 
 -- what is known of the numbers as the tests go by
 kind-at : (c : tie.Else1) → isKind (c .before .before .first-of .result) ≡ true

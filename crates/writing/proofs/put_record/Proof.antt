@@ -11,12 +11,12 @@ use Rattle.layouts.specs.LayoutLaws.{sound-heads, narrow-sound}
 use Rattle.layouts.specs.Questions.{rulesBy, isKind}
 use Rattle.layouts.specs.QuestionLaws.{kind-in}
 use Rattle.layouts.specs.PartLaws.{table-long}
 use Rattle.records.specs.Parsing.{Writable}
-use Rattle.records.proofs.Encoding.{put-stated, head-long, head-valid, head-fits, all-written}
+use Rattle.writing.proofs.Encoding.{put-stated, head-long, head-valid, head-fits, all-written}
 use borrow.Author.Needs.{needs}
 use native.Mathlib.Omega.{arith}
-use Rattle.records.proofs.writing.put_record.Statement.{statement}
-use Rattle.records.proofs.writing.put_record.Tie as tie
+use Rattle.writing.proofs.put_record.Statement.{statement}
+use Rattle.writing.proofs.put_record.Tie as tie
 
 -- the head's fields, what is written of them, and of the lists too
 head-at : (c : tie.After-part-at) → c .part-at .result .end - c .part-at .result .start ≡ length (head (c .before .before .before .before .args .kind))

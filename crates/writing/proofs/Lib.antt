@@ -1,0 +1,2 @@
+-- What the proofs of writing share.
+pub mod Encoding
