@@ -3,12 +3,9 @@ use Prim.Native.Nat.{ℕ, _≤_}
 use mathlib.Core.Bool.{true}
 use mathlib.Core.List.{List}
 use mathlib.Core.Path.{_≡_}
-use lib.ListN.{length, take}
+use lib.ListN.{length}
 use Rattle.ids.specs.Ids.{at}
-use Rattle.writer.specs.declared.Writer.{Writer}
-use Rattle.bits.specs.Table.{total}
-use Rattle.writer.specs.Written.{joined, Wrote}
-use Rattle.layouts.specs.Layout.{head, widths, sizeOf}
+use Rattle.layouts.specs.Layout.{sizeOf}
 use Rattle.layouts.specs.Questions.{kindOf, rulesBy, isKind, permitted, idsRise}
 
 -- k is the kind of the bytes' record
@@ -23,10 +20,3 @@ pub record Writable (vs : List ℕ) (room : ℕ) : Type 0 where
   pub permits : permitted (rulesBy vs) vs ≡ true
   pub rise : idsRise vs ≡ true
   pub fits : sizeOf (rulesBy vs) ≤ room
-
--- a writer that has written the record's head has gone on to q, which has written all of it
-abbrev pub Lists : List ℕ → List ℕ → List ℕ → Writer → Writer → Type 0
-Lists vs one new w q =
-    let hs = head (at vs 0) in
-    (old : List ℕ) (p : Writer) → Wrote old one p w (total (widths hs)) (joined (widths hs) (take (length hs) vs))
-    → Wrote old new p q (total (widths (rulesBy vs))) (joined (widths (rulesBy vs)) vs)

@@ -25,7 +25,8 @@ use Rattle.layouts.specs.QuestionLaws.{head-refused, head-permitted, stated-bit
 use Rattle.layouts.specs.Parts.{Stated}
 use Rattle.layouts.specs.ListLaws.{rules-behind, widths-list, length-list, stated-list}
 use Rattle.records.specs.Calls.{writeNumber, writeBuffer, bytesBy, over, Writes}
-use Rattle.records.specs.Parsing.{Writable, Lists}
+use Rattle.records.specs.Parsing.{Writable}
+use Rattle.writing.specs.Lists.{Lists}
 use Rattle.records.specs.RoundTrip.{valid-by}
 
 module _ (vs : List ℕ) (room : ℕ) where

@@ -1,5 +1,4 @@
 // Records written by their layouts.
-use writer::Writer;
 ghost use mathlib.Core.Path.{_≡_};
 ghost use lib.ListN.{length};
 ghost use Rattle.bits.specs.Table.{total};
@@ -8,7 +7,8 @@ ghost use Rattle.ids.specs.Ids.{at};
 ghost use Rattle.layouts.specs.Layout.{head, widths, sizeOf};
 ghost use Rattle.layouts.specs.Questions.{rulesBy};
 ghost use Rattle.layouts.specs.Parts.{rules};
-ghost use Rattle.records.specs.Parsing.{Writable, Lists};
+ghost use Rattle.records.specs.Parsing.{Writable};
+ghost use Rattle.writing.specs.Lists.{Lists};
 ghost use Rattle.records.specs.Calls.{over, bytesBy, Writes};
 use checks::head_permitted;
 use checks::is_kind;
@@ -23,6 +23,7 @@ use layouts::shapes::list_at;
 use layouts::shapes::shape_of;
 use layouts::shapes::size_of;
 use layouts::widths_of_parts;
+use writer::Writer;
 
 pub struct WriteAnswer {
     pub number: u64,

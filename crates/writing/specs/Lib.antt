@@ -1,0 +1,2 @@
+-- What the steps of writing hand on.
+pub mod Lists
