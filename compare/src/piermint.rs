@@ -33,17 +33,6 @@ extern "C" {
         used: *mut usize,
         written: *mut usize,
     ) -> u64;
-
-    fn piermint_bill(
-        records: *const u8,
-        records_len: usize,
-        numbers: *mut u64,
-        numbers_len: usize,
-        statements: *mut u8,
-        statements_len: usize,
-        used: *mut usize,
-        written: *mut usize,
-    ) -> usize;
 }
 
 // SAFETY, of each call below: what piermint.h asks of pointers, Rust's slices and references have
@@ -126,20 +115,43 @@ impl Default for Book {
     }
 }
 
-/// Bills a record file from a new book.
-pub fn bill(records: &[u8], numbers: &mut [u64], statements: &mut [u8]) -> Billed {
-    let mut billed = Billed::default();
-    billed.records = unsafe {
-        piermint_bill(
-            records.as_ptr(),
-            records.len(),
-            numbers.as_mut_ptr(),
-            numbers.len(),
-            statements.as_mut_ptr(),
-            statements.len(),
-            &mut billed.used,
-            &mut billed.written,
-        )
+/// `bill` by an engine's function of this name.
+macro_rules! bill_by {
+    ($piermint_bill:ident) => {
+        extern "C" {
+            fn $piermint_bill(
+                records: *const u8,
+                records_len: usize,
+                numbers: *mut u64,
+                numbers_len: usize,
+                statements: *mut u8,
+                statements_len: usize,
+                used: *mut usize,
+                written: *mut usize,
+            ) -> usize;
+        }
+
+        /// Bills a record file from a new book.
+        pub fn bill(records: &[u8], numbers: &mut [u64], statements: &mut [u8]) -> Billed {
+            let mut billed = Billed::default();
+            billed.records = unsafe {
+                $piermint_bill(
+                    records.as_ptr(),
+                    records.len(),
+                    numbers.as_mut_ptr(),
+                    numbers.len(),
+                    statements.as_mut_ptr(),
+                    statements.len(),
+                    &mut billed.used,
+                    &mut billed.written,
+                )
+            };
+            billed
+        }
     };
-    billed
 }
+
+bill_by!(piermint_bill);
+
+#[cfg(feature = "before")]
+pub(crate) use bill_by;

@@ -1,6 +1,5 @@
 // The number of the first question from 6 on that fails, of a record of any kind.
 ghost use mathlib.Core.Path.{_≡_};
-ghost use Prim.Native.Nat.{ℕ};
 ghost use lib.ListN.{length};
 ghost use Rattle.ids.specs.Ids.{at};
 ghost use Rattle.layouts.specs.Questions.{firstFailed};
