@@ -12,7 +12,7 @@ use Rattle.ids.specs.Ids.{at, keyed}
 use Rattle.ids.specs.Tests.{and-false, cond-le}
 use Rattle.allotment.specs.declared.Allotment.{Allotment}
 use Rattle.allotment.specs.declared.Share.{Share}
-use Rattle.allotment.specs.Stepper.{Asks, Gives, Before, before-first, share-asks, share-value, share-next, share-skip, shares-made}
+use Rattle.allotment.specs.Stepper.{Asks, Gives, Before, before-first, share-asks, share-value, share-next, share-skip, divisions-made}
 use Rattle.owed.specs.Facts.{Facts}
 use Rattle.owed.specs.Divisions.{entryOf, divisionsOf}
 use Rattle.owed.specs.Owed.{ofSeller, shareOf}
@@ -93,7 +93,7 @@ module _ {F : Facts} {listed : ℕ → Bool} {weight amount : ℕ → ℕ} {p i 
   -- past the last registration, each seller's divisions
   pub abreast-all : i ≡ 64 → Row w (p + 64) 16 (divisionsOf F listed weight)
   unfolding divisionsOf ofSeller
-  abreast-all q = record { is = λ s l. shares-made (h .before s l) q }
+  abreast-all q = record { is = λ s l. divisions-made (h .before s l) q }
 
   -- a registration that is not listed, and has no weight
   pub abreast-none : listed i ≡ false → weight i ≡ 0 → Abreast F listed weight amount p (i + 1) w

@@ -19,7 +19,7 @@ pub record Carried (a W S d : ℕ) (s : Allotment) : Type 0 where
   pub quotient : s .quotient ≡ a * S / W
   pub divisions : s .divisions ≡ d
 
--- a share asks that the quotient is carried and that the weight is one of those that add up to the total
+-- a share asks that the quotient is carried, that the weight is one of those that add up to the total, and for room to count
 pub record Asks (s : Allotment) (weight : ℕ) : Type 0 where
   pub carried : s .quotient ≡ s .amount * s .passed / s .total
   pub within : s .passed + weight ≤ s .total
@@ -65,5 +65,5 @@ module _ {n : ℕ} {party : ℕ → Bool} {w : ℕ → ℕ} {a i : ℕ} {s : All
       record { carried = rw (sum-step i w, sum-step i (λ j. cond (party j) 1 0), p, e, add-zero (sumTo i w), add-zero (countTo i party)) (b .carried) }
 
   -- past the last: one division for each party, and none where all weights together are 0
-  pub shares-made : i ≡ n → s .divisions ≡ divisions (countTo n party) (sumTo n w)
-  shares-made q = rw q at (b .carried .divisions)
+  pub divisions-made : i ≡ n → s .divisions ≡ divisions (countTo n party) (sumTo n w)
+  divisions-made q = rw q at (b .carried .divisions)

@@ -7,7 +7,7 @@ use native.Mathlib.Omega.{arith}
 use lib.Dec.{lit<}
 use Rattle.allotment.specs.declared.Allotment.{Allotment}
 use Rattle.allotment.specs.declared.Share.{Share}
-use Rattle.allotment.specs.Stepper.{Carried, Asks, Gives, Before, before-first, share-asks, share-value, share-next, share-skip, shares-made}
+use Rattle.allotment.specs.Stepper.{Carried, Asks, Gives, Before, before-first, share-asks, share-value, share-next, share-skip, divisions-made}
 use Rattle.charging.specs.Charging.{Given, given-aside}
 use Rattle.ids.specs.Ids.{at, sumTo}
 use Rattle.ids.specs.Sums.{sum-step, sum-same, sum-bound}
@@ -101,4 +101,4 @@ module _ {F : Facts} {k ev i : ℕ} {w₀ w : List ℕ} {a : Allotment} (h : Cre
 
   pub crediting-divisions : i ≡ 64 → a .divisions ≡ creditDivisions F ev
   unfolding creditDivisions
-  crediting-divisions q = shares-made (h .before) q
+  crediting-divisions q = divisions-made (h .before) q

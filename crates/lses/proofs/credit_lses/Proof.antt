@@ -7,7 +7,7 @@ use lib.Dec.{lit<}
 use lib.ListN.{length}
 use borrow.Author.Tests.{lt-ltb}
 use Rattle.allotment.specs.Allot.{share, share-zero}
-use Rattle.allotment.specs.Stepper.{Before, before-first, share-asks, share-value, share-next, share-skip, shares-made}
+use Rattle.allotment.specs.Stepper.{Before, before-first, share-asks, share-value, share-next, share-skip, divisions-made}
 use Rattle.looks.specs.Looks.{facts}
 use Rattle.owed.specs.Divisions.{knownLse, lseDivisions}
 use Rattle.owed_laws.specs.Limits.{limits}
@@ -47,7 +47,7 @@ loop-again c =
 
 returns : tie.Need-returns Inv-loop μ-loop
 unfolding lseDivisions
-returns c = let l = c .before .loop in let z : l .j ≡ 16 = omega arith in (rw z at (l .inv .4 .done), (shares-made (l .inv .3) z, l .inv .2))
+returns c = let l = c .before .loop in let z : l .j ≡ 16 = omega arith in (rw z at (l .inv .4 .done), (divisions-made (l .inv .3) z, l .inv .2))
 
 pub credit-lses-spec : {M : Type 1} → statement M
 credit-lses-spec =
