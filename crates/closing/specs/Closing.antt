@@ -14,7 +14,7 @@ use Rattle.owed.specs.Owed.{amounts}
 use Rattle.owed.specs.Owed as owed
 use Rattle.looks.specs.Looks.{facts}
 use Rattle.table.specs.Columns.{columns-aside}
-use Rattle.table.specs.Places.{size, callsRow, calledRow, complianceRow, creditRow, testRow, lseRow}
+use Rattle.table.specs.Places.{size, callsRow, calledRow, complianceRow, creditRow, testRow, lseRow, passedPlaces}
 use Rattle.table.specs.Rows.{Aside, Row, none, mark, row-aside, row-within}
 use Rattle.rating.specs.Rating.{Rated}
 use Rattle.testing.specs.Entries.{Ready}
@@ -43,7 +43,7 @@ module _ (c : List ℕ) (k : ℕ) where
     pub test : Row w testRow 16 (owed.test F k)
     pub lse : Row w lseRow 16 none
 
-  pub evented : {w v : List ℕ} → Rated c w → Aside callsRow 576 w v → Row v calledRow 64 (λ i. mark (owed.called F i)) → Row v complianceRow 16 (owed.compliance F k) → Row v creditRow 16 (owed.credit F k) → Evented v
+  pub evented : {w v : List ℕ} → Rated c w → Aside callsRow passedPlaces w v → Row v calledRow 64 (λ i. mark (owed.called F i)) → Row v complianceRow 16 (owed.compliance F k) → Row v creditRow 16 (owed.credit F k) → Evented v
   evented h a called x z =
       record {
         ready = record { columns = columns-aside (h .columns) a (omega arith) (omega arith); called = called; place = row-aside (h .place) a (λ j l x y. omega arith) };

@@ -8,7 +8,7 @@ use Rattle.owed.specs.Facts.{Facts}
 use Rattle.owed.specs.Owed as owed
 use Rattle.sharing.specs.Sharing.{Shares}
 use Rattle.table.specs.Columns.{Columns, columns-aside}
-use Rattle.table.specs.Places.{callsRow, calledRow, spentRow, complianceRow, creditRow, lackRow}
+use Rattle.table.specs.Places.{callsRow, calledRow, spentRow, complianceRow, creditRow, lackRow, eventPlaces}
 use Rattle.table.specs.Rows.{Aside, Row, none, mark, row-aside, row-within}
 
 -- after m events
@@ -35,7 +35,7 @@ run-first {F} k {w} {v} h z a n c =
     fresh p n x y = row-aside (row-within p n z (omega arith) (omega arith)) a (λ j l o q. omega arith)
 
 -- an event's own rows are filled
-pub run-aside : {F : Facts} {k m : ℕ} {w v : List ℕ} → Run F k m w → Aside lackRow 352 w v → Run F k m v
+pub run-aside : {F : Facts} {k m : ℕ} {w v : List ℕ} → Run F k m w → Aside lackRow eventPlaces w v → Run F k m v
 run-aside h a =
     record {
       columns = columns-aside (h .columns) a (omega arith) (omega arith);

@@ -4,7 +4,7 @@ ghost use Rattle.cells.specs.Layout.{Held};
 ghost use Rattle.looks.specs.Looks.{facts};
 ghost use Rattle.owed.specs.Owed.{called, compliance, credit};
 ghost use Rattle.table.specs.Columns.{Columns};
-ghost use Rattle.table.specs.Places.{callsRow, calledRow, complianceRow, creditRow};
+ghost use Rattle.table.specs.Places.{callsRow, calledRow, complianceRow, creditRow, passedPlaces};
 ghost use Rattle.table.specs.Rows.{Aside, Row, none, mark};
 ghost use Rattle.passes.specs.Passes.{Run};
 use cells::Cells;
@@ -16,7 +16,7 @@ fn bill_event(year: &Cells, work: &mut Work, ev: usize, k: u64)
     requires { ⌜ (ev < 16) × (1 ≤ k) × (k ≤ 15) ⌝ }
     requires { ⌜ Run (facts (now year)) k ev (now work) ⌝ }
     ensures run { λ _. ⌜ Run (facts (now (year .entry))) k (ev + 1) (now (work .exit)) ⌝ }
-    ensures aside { λ _. ⌜ Aside callsRow 576 (now (work .entry)) (now (work .exit)) ⌝ }
+    ensures aside { λ _. ⌜ Aside callsRow passedPlaces (now (work .entry)) (now (work .exit)) ⌝ }
 {
     weighing::weigh(year, work, ev);
     sharing::share(year, work, ev);
@@ -33,7 +33,7 @@ pub fn bill_events(year: &Cells, work: &mut Work, k: u64)
     ensures compliance { λ _. ⌜ Row (now (work .exit)) complianceRow 16 (compliance (facts (now (year .entry))) k) ⌝ }
     ensures credit { λ _. ⌜ Row (now (work .exit)) creditRow 16 (credit (facts (now (year .entry))) k) ⌝ }
     ensures called { λ _. ⌜ Row (now (work .exit)) calledRow 64 (λ i. mark (called (facts (now (year .entry))) i)) ⌝ }
-    ensures aside { λ _. ⌜ Aside callsRow 576 (now (work .entry)) (now (work .exit)) ⌝ }
+    ensures aside { λ _. ⌜ Aside callsRow passedPlaces (now (work .entry)) (now (work .exit)) ⌝ }
 {
     counting::count(year, work);
     let held = cells::held(year);

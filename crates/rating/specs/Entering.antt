@@ -15,7 +15,7 @@ use Rattle.owed.specs.Owed.{lends}
 use Rattle.owed.specs.Owed as owed
 use Rattle.owed_laws.specs.Limits.{Limits}
 use Rattle.looks.specs.Looks.{facts}
-use Rattle.table.specs.Places.{size, sellerRow, productRow, committedRow, rateRow, capRow, callsRow, placeRow, areaRow, lentRow, worthRow}
+use Rattle.table.specs.Places.{size, sellerRow, productRow, committedRow, rateRow, capRow, callsRow, placeRow, areaRow, lentRow, worthRow, freshPlaces}
 use Rattle.table.specs.Rows.{Stored, Aside, Row, Grown, none, aside-none, aside-more, row-aside, row-kept, row-first, row-more, grown-first, grown-kept, grown-more, grown-most}
 
 -- registration i's cap by its own rate; what it lends: kilowatts, and what they are worth
@@ -49,7 +49,7 @@ pub record Begun (c : List ℕ) (i : ℕ) (w : List ℕ) : Type 0 where
   pub own : Row w rateRow i (owed.own (facts c))
   pub cap : Row w capRow i (ownCap (facts c))
   pub lending : Lending (facts c) i w
-  pub fresh : Row w callsRow 608 none
+  pub fresh : Row w callsRow freshPlaces none
 
 pub begun-first : (c : List ℕ) → Begun c 0 (replicate size 0)
 begun-first c =
@@ -62,7 +62,7 @@ begun-first c =
       own = row-first w rateRow (owed.own F);
       cap = row-first w capRow (ownCap F);
       lending = record { lent = grown-first (F .area) (lentAt F) (zeros lentRow 8); worth = grown-first (F .area) (worthAt F) (zeros worthRow 8) };
-      fresh = zeros callsRow 608;
+      fresh = zeros callsRow freshPlaces;
     }
 
 -- what is lent, at the own rate

@@ -12,7 +12,7 @@ use Rattle.owed.specs.Owed.{ofArea, areaRate}
 use Rattle.owed.specs.Owed as owed
 use Rattle.looks.specs.Looks.{facts}
 use Rattle.table.specs.Columns.{Columns}
-use Rattle.table.specs.Places.{size, sellerRow, productRow, committedRow, rateRow, capRow, callsRow, placeRow, areaRow, lentRow, worthRow, areaRateRow}
+use Rattle.table.specs.Places.{size, sellerRow, productRow, committedRow, rateRow, capRow, callsRow, placeRow, areaRow, lentRow, worthRow, areaRateRow, freshPlaces}
 use Rattle.table.specs.Rows.{Stored, Aside, Row, Renewed, none, aside-none, aside-more, row-aside, row-same, renewed-first, renewed-kept, renewed-more, renewed-none}
 use Rattle.rating.specs.Entering.{ownCap, lentAt, worthAt, Entered, Lending, Begun}
 
@@ -35,13 +35,13 @@ pub record Rating (c : List ℕ) (i : ℕ) (w : List ℕ) : Type 0 where
   pub rate : Renewed w rateRow 64 (owed.rate (facts c)) (owed.own (facts c)) i
   pub cap : Renewed w capRow 64 (owed.cap (facts c)) (ownCap (facts c)) i
   pub areas : Row w areaRateRow 8 (areaRate (facts c))
-  pub fresh : Row w callsRow 608 none
+  pub fresh : Row w callsRow freshPlaces none
 
 -- all registrations' terms, and nothing else that the passes read
 pub record Rated (c : List ℕ) (w : List ℕ) : Type 0 where
   pub columns : Columns (facts c) 64 w
   pub place : Row w placeRow 64 (placeIn c)
-  pub fresh : Row w callsRow 608 none
+  pub fresh : Row w callsRow freshPlaces none
 
 -- what is stored beside the terms leaves them as they are
 entered-aside : {c w v : List ℕ} {q m : ℕ} → Entered c 64 w → Aside q m w v → ((j : ℕ) → j < rateRow → Off q m j) → ((j : ℕ) → placeRow ≤ j → j < lentRow → Off q m j) → Entered c 64 v

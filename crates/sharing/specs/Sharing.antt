@@ -16,7 +16,7 @@ use Rattle.owed_laws.specs.Sellers.{ofSeller-le}
 use Rattle.owed_laws.specs.Bounds.{lack-le, more-le, shortfall-le, excess-le}
 use Rattle.owed_laws.specs.Unlisted.{u-unlisted, e-unlisted}
 use Rattle.table.specs.Columns.{Columns, columns-aside}
-use Rattle.table.specs.Places.{lackRow, moreRow, uRow, eRow, listedRow}
+use Rattle.table.specs.Places.{lackRow, moreRow, uRow, eRow, listedRow, eventPlaces}
 use Rattle.table.specs.Rows.{Stored, Aside, Row, Renewed, none, mark, aside-none, aside-more, aside-then, row-within, renewed-first, renewed-kept, renewed-aside, renewed-more, renewed-none}
 use Rattle.weighing.specs.declared.Entry.{Entry}
 use Rattle.weighing.specs.Weighing.{entryAt, Ready}
@@ -36,7 +36,7 @@ pub record Divided (F : Facts) (ev : ℕ) (w : List ℕ) : Type 0 where
 pub record Sharing (F : Facts) (ev i : ℕ) (w₀ w : List ℕ) : Type 0 where
   pub upto : i ≤ 64
   pub columns : Columns F 64 w
-  pub aside : Aside lackRow 352 w₀ w
+  pub aside : Aside lackRow eventPlaces w₀ w
   pub lack : Abreast F (F .listed ev) (owed.lack F ev) (owed.shortfall F ev) lackRow i w
   pub more : Abreast F (F .listed ev) (owed.more F ev) (owed.excess F ev) moreRow i w
   pub u : Renewed w uRow 64 (owed.u F ev) none i
@@ -117,7 +117,7 @@ module _ {F : Facts} {ev i : ℕ} {w₀ w : List ℕ} (h : Sharing F ev i w₀ w
         pub sharing-more : {m1 m2 v : List ℕ} → Stored (uRow + i) u m' m1 → Stored (eRow + i) e m1 m2 → Stored (listedRow + i) 1 m2 v → Sharing F ev (i + 1) w₀ v
         unfolding owed.u owed.e
         sharing-more s1 s2 s3 =
-            let stores : Aside lackRow 352 w _ = aside-more (aside-more (aside-more (aside-then u-aside e-aside (omega arith) (omega arith) (omega arith) (omega arith)) s1 (omega arith) (omega arith)) s2 (omega arith) (omega arith)) s3 (omega arith) (omega arith) in
+            let stores : Aside lackRow eventPlaces w _ = aside-more (aside-more (aside-more (aside-then u-aside e-aside (omega arith) (omega arith) (omega arith) (omega arith)) s1 (omega arith) (omega arith)) s2 (omega arith) (omega arith)) s3 (omega arith) (omega arith) in
             record {
               upto = omega arith;
               columns = columns-aside (h .columns) stores (omega arith) (omega arith);

@@ -3,7 +3,7 @@ ghost use Prim.Native.Nat.{_<_};
 ghost use Rattle.cells.specs.Layout.{Held};
 ghost use Rattle.looks.specs.Looks.{facts};
 ghost use Rattle.table.specs.Columns.{Columns};
-ghost use Rattle.table.specs.Places.{lackRow};
+ghost use Rattle.table.specs.Places.{lackRow, eventPlaces};
 ghost use Rattle.table.specs.Rows.{Aside};
 ghost use Rattle.weighing.specs.Weighing.{Ready};
 ghost use Rattle.sharing.specs.Sharing.{Shares, Divided};
@@ -20,7 +20,7 @@ pub fn share(year: &Cells, work: &mut Work, ev: usize)
     requires { ⌜ Ready (facts (now year)) ev (now work) ⌝ }
     ensures shares { λ _. ⌜ Shares (facts (now (year .entry))) ev (now (work .exit)) ⌝ }
     ensures divisions { λ _. ⌜ Divided (facts (now (year .entry))) ev (now (work .exit)) ⌝ }
-    ensures aside { λ _. ⌜ Aside lackRow 352 (now (work .entry)) (now (work .exit)) ⌝ }
+    ensures aside { λ _. ⌜ Aside lackRow eventPlaces (now (work .entry)) (now (work .exit)) ⌝ }
 {
     let mut i: usize = 0;
     while i < 64 {

@@ -1,5 +1,5 @@
 -- Where the rows of the working table stand: by registration 64 places, by seller and by LSE 16, by area 8.
-use Prim.Native.Nat.{ℕ}
+use Prim.Native.Nat.{ℕ, _-_}
 
 abbrev pub size : ℕ
 size = 1080
@@ -76,3 +76,16 @@ worthRow = 1064
 
 abbrev pub areaRateRow : ℕ
 areaRateRow = 1072
+
+-- how many places there are: of one event's two allotments, and of all its rows; of what the passes over events store, and of what holds 0 before them
+abbrev pub abreastPlaces : ℕ
+abreastPlaces = uRow - lackRow
+
+abbrev pub eventPlaces : ℕ
+eventPlaces = testRow - lackRow
+
+abbrev pub passedPlaces : ℕ
+passedPlaces = testRow - callsRow
+
+abbrev pub freshPlaces : ℕ
+freshPlaces = placeRow - callsRow

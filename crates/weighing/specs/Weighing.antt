@@ -14,7 +14,7 @@ use Rattle.owed_laws.specs.Limits.{Limits}
 use Rattle.owed_laws.specs.Sellers.{ofSeller-le, net-is, excess-is}
 use Rattle.owed_laws.specs.Bounds.{lack-le, more-le}
 use Rattle.table.specs.Columns.{Columns, columns-aside}
-use Rattle.table.specs.Places.{size, lackRow, moreRow, uRow}
+use Rattle.table.specs.Places.{size, lackRow, moreRow, uRow, abreastPlaces}
 use Rattle.weighing.specs.declared.Entry.{Entry}
 use Rattle.table.specs.Rows.{Stored, Aside, Row, Grown, none, aside-none, aside-of, aside-more, row-kept, row-same, row-within, row-first, row-more, grown-first, grown-kept, grown-none, grown-more, grown-most}
 
@@ -35,13 +35,13 @@ pub record Weighed (F : Facts) (ev : ℕ) (w : List ℕ) : Type 0 where
 pub record Weighing (F : Facts) (ev i : ℕ) (w₀ w : List ℕ) : Type 0 where
   pub upto : i ≤ 64
   pub columns : Columns F 64 w
-  pub aside : Aside lackRow 160 w₀ w
+  pub aside : Aside lackRow abreastPlaces w₀ w
   pub lack : Grown w lackRow 16 none (F .seller) (owed.lack F ev) i
   pub more : Grown w moreRow 16 none (F .seller) (owed.more F ev) i
   pub freshLack : Row w (lackRow + 32) 48 none
   pub freshMore : Row w (moreRow + 32) 48 none
 
-pub weighing-first : {F : Facts} (ev : ℕ) {w : List ℕ} → Columns F 64 w → Row w lackRow 160 none → Weighing F ev 0 w w
+pub weighing-first : {F : Facts} (ev : ℕ) {w : List ℕ} → Columns F 64 w → Row w lackRow abreastPlaces none → Weighing F ev 0 w w
 weighing-first {F} ev h r =
     record {
       upto = omega arith;

@@ -4,7 +4,7 @@ ghost use Prim.Native.Nat.{_<_};
 ghost use Rattle.cells.specs.Layout.{Held};
 ghost use Rattle.looks.specs.Looks.{facts};
 ghost use Rattle.table.specs.Columns.{Columns};
-ghost use Rattle.table.specs.Places.{lackRow};
+ghost use Rattle.table.specs.Places.{lackRow, abreastPlaces, eventPlaces};
 ghost use Rattle.table.specs.Rows.{Aside, Row, none};
 ghost use Rattle.weighing.specs.Weighing.{entryAt, Weighed, Netted, Ready};
 use cells::Cells;
@@ -44,9 +44,9 @@ fn sums(year: &Cells, work: &mut Work, ev: usize)
     requires { ⌜ Held (now year) ⌝ }
     requires { ⌜ ev < 16 ⌝ }
     requires { ⌜ Columns (facts (now year)) 64 (now work) ⌝ }
-    requires { ⌜ Row (now work) lackRow 160 none ⌝ }
+    requires { ⌜ Row (now work) lackRow abreastPlaces none ⌝ }
     ensures weighed { λ _. ⌜ Weighed (facts (now (year .entry))) ev (now (work .exit)) ⌝ }
-    ensures aside { λ _. ⌜ Aside lackRow 160 (now (work .entry)) (now (work .exit)) ⌝ }
+    ensures aside { λ _. ⌜ Aside lackRow abreastPlaces (now (work .entry)) (now (work .exit)) ⌝ }
 {
     let mut i: usize = 0;
     while i < 64 {
@@ -65,7 +65,7 @@ fn nets(year: &Cells, work: &mut Work, ev: usize)
     requires { ⌜ ev < 16 ⌝ }
     requires { ⌜ Weighed (facts (now year)) ev (now work) ⌝ }
     ensures netted { λ _. ⌜ Netted (facts (now (year .entry))) ev 16 (now (work .exit)) ⌝ }
-    ensures aside { λ _. ⌜ Aside lackRow 160 (now (work .entry)) (now (work .exit)) ⌝ }
+    ensures aside { λ _. ⌜ Aside lackRow abreastPlaces (now (work .entry)) (now (work .exit)) ⌝ }
 {
     let mut s: usize = 0;
     while s < 16 {
@@ -86,7 +86,7 @@ pub fn weigh(year: &Cells, work: &mut Work, ev: usize)
     requires { ⌜ ev < 16 ⌝ }
     requires { ⌜ Columns (facts (now year)) 64 (now work) ⌝ }
     ensures ready { λ _. ⌜ Ready (facts (now (year .entry))) ev (now (work .exit)) ⌝ }
-    ensures aside { λ _. ⌜ Aside lackRow 352 (now (work .entry)) (now (work .exit)) ⌝ }
+    ensures aside { λ _. ⌜ Aside lackRow eventPlaces (now (work .entry)) (now (work .exit)) ⌝ }
 {
     table::clear(work, table::LACK, table::EVENT);
     sums(year, work, ev);

@@ -1,4 +1,4 @@
--- `questions::event_number` meets its contract: each test answers the question that is next for an event. Assumes nothing.
+-- `calling::event_number` meets its contract: each test answers the question that is next for an event. Assumes nothing.
 use borrow.Author.Needs.{needs}
 use mathlib.Core.Path.{_≡_, sym}
 use mathlib.Core.Bool.{true}

@@ -1,4 +1,4 @@
--- `questions::may_call` meets its contract. Assumes nothing.
+-- `calling::may_call` meets its contract. Assumes nothing.
 use borrow.Author.Needs.{needs}
 use mathlib.Core.Path.{sym}
 use Rattle.year.specs.Year.{product}

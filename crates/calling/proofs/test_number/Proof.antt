@@ -1,4 +1,4 @@
--- `questions::test_number` meets its contract: each test answers the question that is next for a test. Assumes nothing.
+-- `calling::test_number` meets its contract: each test answers the question that is next for a test. Assumes nothing.
 use borrow.Author.Needs.{needs}
 use mathlib.Core.Path.{_≡_, sym, _∙_}
 use mathlib.Core.Bool.{true}

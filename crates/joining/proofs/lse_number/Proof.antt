@@ -1,4 +1,4 @@
--- `questions::lse_number` meets its contract. Assumes nothing.
+-- `joining::lse_number` meets its contract. Assumes nothing.
 use borrow.Author.Needs.{needs}
 use mathlib.Core.Bool.{Bool·not-not}
 use Rattle.layouts.specs.Questions.{firstFailed}

@@ -1,6 +1,6 @@
 -- `passes::bill_event` meets its contract: each pass finds what the one before it left. Assumes nothing.
 use native.Mathlib.Omega.{arith}
-use Rattle.table.specs.Places.{callsRow}
+use Rattle.table.specs.Places.{callsRow, passedPlaces}
 use Rattle.table.specs.Rows.{aside-then, row-aside}
 use Rattle.charging.specs.Charging.{given-aside}
 use Rattle.passes.specs.Passes.{run-aside, run-more, given}
@@ -37,8 +37,8 @@ returns c =
     let d = c .credit .ensures in (
       run-more (run-aside (run-aside (c .before .before .before .before .before .before .before .before .pre .1 .1) (g .1)) (s .1 .1)) (k .1 .1) (k .0) (d .1 .1) (d .0),
       aside-then
-          (aside-then {q = callsRow} {m = 576}
-          (aside-then {q = callsRow} {m = 576} (g .1) (s .1 .1) (omega arith) (omega arith) (omega arith) (omega arith))
+          (aside-then {q = callsRow} {m = passedPlaces}
+          (aside-then {q = callsRow} {m = passedPlaces} (g .1) (s .1 .1) (omega arith) (omega arith) (omega arith) (omega arith))
           (k .1 .1) (omega arith) (omega arith) (omega arith) (omega arith))
           (d .1 .1) (omega arith) (omega arith) (omega arith) (omega arith),
     )

@@ -5,14 +5,14 @@ use native.Mathlib.Omega.{arith}
 use Rattle.charging.specs.Charging.{billed-all}
 use Rattle.crediting.specs.Crediting.{credit-all}
 use Rattle.looks.specs.Looks.{facts}
-use Rattle.table.specs.Places.{callsRow}
+use Rattle.table.specs.Places.{callsRow, passedPlaces}
 use Rattle.table.specs.Rows.{Aside, aside-none, aside-then, row-within}
 use Rattle.passes.specs.Passes.{Run, run-first}
 use Rattle.passes.proofs.bill_events.Statement.{statement}
 use Rattle.passes.proofs.bill_events.Tie as tie
 
 abbrev Inv-loop : tie.InvT-loop
-Inv-loop year work₀ k held ev₀ work ev = (ev ≤ held) × (Run (facts year) k ev work × Aside callsRow 576 work₀ work)
+Inv-loop year work₀ k held ev₀ work ev = (ev ≤ held) × (Run (facts year) k ev work × Aside callsRow passedPlaces work₀ work)
 
 abbrev μ-loop : tie.MeasureT-loop
 μ-loop year work₀ k held ev₀ work ev = held - ev

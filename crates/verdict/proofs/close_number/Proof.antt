@@ -1,4 +1,4 @@
--- `questions::close_number` meets its contract: each test answers the question that is next for a close. Assumes nothing.
+-- `verdict::close_number` meets its contract: each test answers the question that is next for a close. Assumes nothing.
 use borrow.Author.Needs.{needs}
 use mathlib.Core.Path.{_≡_, sym}
 use mathlib.Core.Bool.{true}

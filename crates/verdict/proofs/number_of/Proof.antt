@@ -1,4 +1,4 @@
--- `questions::number_of` meets its contract, by kind. Assumes nothing.
+-- `verdict::number_of` meets its contract, by kind. Assumes nothing.
 use borrow.Author.Needs.{needs}
 use mathlib.Core.Path.{sym}
 use Rattle.layouts.specs.Questions.{firstFailed}

@@ -4,14 +4,14 @@ use mathlib.Core.Path.{_≡_, _∙_}
 use native.Mathlib.Omega.{arith}
 use Rattle.looks.specs.Looks.{facts}
 use Rattle.owed_laws.specs.Limits.{limits}
-use Rattle.table.specs.Places.{lackRow}
+use Rattle.table.specs.Places.{lackRow, abreastPlaces}
 use Rattle.table.specs.Rows.{Aside, aside-none, aside-more}
 use Rattle.weighing.specs.Weighing.{Netted, netted-first, netted-more, lack-most, more-most}
 use Rattle.weighing.proofs.nets.Statement.{statement}
 use Rattle.weighing.proofs.nets.Tie as tie
 
 abbrev Inv-loop : tie.InvT-loop
-Inv-loop year work₀ ev s₀ work s = Netted (facts year) ev s work × Aside lackRow 160 work₀ work
+Inv-loop year work₀ ev s₀ work s = Netted (facts year) ev s work × Aside lackRow abreastPlaces work₀ work
 
 abbrev μ-loop : tie.MeasureT-loop
 μ-loop year work₀ ev s₀ work s = 16 - s

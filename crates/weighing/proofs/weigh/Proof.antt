@@ -1,7 +1,7 @@
 -- `weighing::weigh` meets its contract: the event's rows are cleared, then filled. Assumes nothing.
 use native.Mathlib.Omega.{arith}
 use Rattle.table.specs.Columns.{columns-aside}
-use Rattle.table.specs.Places.{lackRow, uRow}
+use Rattle.table.specs.Places.{lackRow, uRow, abreastPlaces, eventPlaces}
 use Rattle.table.specs.Rows.{aside-then, row-aside, row-within}
 use Rattle.weighing.specs.Weighing.{netted-all}
 use Rattle.weighing.proofs.weigh.Statement.{statement}
@@ -14,7 +14,7 @@ sums-requires : tie.Need-sums-requires
 sums-requires c κs =
     let s = c .before .before .before .pre in
     let k = c .before .clear .ensures in
-    (s .0, (s .1 .0, (columns-aside (s .1 .1) (k .1) (omega arith) (omega arith), row-within lackRow 160 (k .0) (omega arith) (omega arith))))
+    (s .0, (s .1 .0, (columns-aside (s .1 .1) (k .1) (omega arith) (omega arith), row-within lackRow abreastPlaces (k .0) (omega arith) (omega arith))))
 
 nets-requires : tie.Need-nets-requires
 nets-requires c κs = let s = c .before .before .before .before .before .pre in (s .0, (s .1 .0, c .before .sums .ensures .0))
@@ -26,7 +26,7 @@ returns c =
     let a = c .nets .ensures in
     let z = row-within uRow 192 (k .0) (omega arith) (omega arith) in (
       netted-all (a .0) (row-aside (row-aside z (g .1) (λ j l x y. omega arith)) (a .1) (λ j l x y. omega arith)),
-      aside-then (aside-then {q = lackRow} {m = 352} (k .1) (g .1) (omega arith) (omega arith) (omega arith) (omega arith)) (a .1) (omega arith) (omega arith) (omega arith) (omega arith),
+      aside-then (aside-then {q = lackRow} {m = eventPlaces} (k .1) (g .1) (omega arith) (omega arith) (omega arith) (omega arith)) (a .1) (omega arith) (omega arith) (omega arith) (omega arith),
     )
 
 pub weigh-spec : {M : Type 1} → statement M
