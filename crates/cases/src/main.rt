@@ -1,8 +1,9 @@
-// Answers calls, one to a line that begins with the call's name: `take BYTES ROOM`, `read BYTES ROOM`, `write ROOM NUMBERS`.
-// Bytes are in hexadecimal, `-` where there are none. Records are taken from a new book on, and `new` begins another. A line with another name is passed over.
+// Answers calls, one to a line that begins with the call's name: `take BYTES ROOM`, `read BYTES ROOM`, `write ROOM NUMBERS`, `telemetry pair BITS BITS`, `telemetry direct BITS`.
+// Bytes are in hexadecimal, `-` where there are none, and so are the eight digits of a value's bits. Records are taken from a new book on, and `new` begins another. A line with another name is passed over.
 use cells::Cells;
 use libc::STDIN_FILENO;
 use libc::STDOUT_FILENO;
+use telemetry::Sample;
 ghost use Prim.Native.Nat.{_≤_};
 ghost use lib.ListN.{length};
 ghost use Rattle.cells.specs.Layout.{Held};
@@ -29,7 +30,7 @@ fn cases(input: i32, buffer: &mut [u8]) {
     }
 }
 
-// The call that a line names, by its first letter.
+// The call that a line names, by its first letter, and where that is a t by the name's length too.
 fn case(year: &mut Cells, line: &[u8])
     requires { ⌜ Held (now year) ⌝ }
     ensures { λ r. ⌜ Held (now (year .exit)) ⌝ }
@@ -47,7 +48,11 @@ fn case(year: &mut Cells, line: &[u8])
         return;
     }
     if name == b't' {
-        take_case(year, &line[space + 1..]);
+        if space == 4 {
+            take_case(year, &line[space + 1..]);
+        } else {
+            telemetry_case(&line[space + 1..]);
+        }
     } else if name == b'r' {
         read_case(&line[space + 1..]);
     } else if name == b'w' {
@@ -157,4 +162,40 @@ fn write(numbers: &[u64], bytes: &mut [u8])
     let answer = writing::write(numbers, bytes);
     let used = scan::least(answer.used, bytes.len());
     print_call(answer.number, answer.used, &bytes[0..used]);
+}
+
+// `telemetry`: a pair or a direct reduction, told apart by how many values there are.
+fn telemetry_case(line: &[u8]) {
+    let space = scan::find(line, 0, b' ');
+    if space == line.len() {
+        return;
+    }
+    let start = space + 1;
+    let end = scan::find(line, start, b' ');
+    let value = value_of(&line[start..end]);
+    if end == line.len() {
+        reduce(Sample::Direct(value));
+    } else {
+        reduce(Sample::Pair(value, value_of(&line[end + 1..])));
+    }
+}
+
+// The value whose bits a word spells.
+fn value_of(word: &[u8]) -> f32 {
+    let mut bytes = [0u8; 4];
+    scan::hex_bytes(word, &mut bytes);
+    let high = joined(bytes[0], bytes[1]);
+    let low = joined(bytes[2], bytes[3]);
+    telemetry::from_pattern(high << 16 | low)
+}
+
+// Two bytes in a row.
+fn joined(high: u8, low: u8) -> u32 {
+    (high as u32) << 8 | low as u32
+}
+
+fn reduce(sample: Sample) {
+    let mut kw: u64 = 0;
+    let number = telemetry::answer(sample, &mut kw);
+    print_numbers(&[number, kw], 2);
 }

@@ -5,6 +5,7 @@ use mathlib.Core.Logic.{inl, inr}
 use mathlib.Core.Path.{_≡_, refl, sym, _∙_}
 use native.Mathlib.Nat.{add-zero}
 use native.Mathlib.Omega.{arith}
+use borrow.Author.Tests.{ne-eqb}
 use lib.ListN.{length, length-set}
 use Rattle.ids.specs.Ids.{at}
 use Rattle.ids.specs.Sets.{same-set}
@@ -16,9 +17,10 @@ use Rattle.year.specs.Year.{seller, reduction}
 use Rattle.heads.specs.Record.{Record, withItem, recordOf}
 use Rattle.heads.specs.RecordLaws.{same-head, listing-keeps}
 use Rattle.heads.specs.Listed.{Permitted, item-as}
-use Rattle.history.specs.Runs.{replaced}
+use Rattle.reductions.specs.Reductions.{withReductions}
+use Rattle.reductions.specs.Replaced.{kept-head, kept-field, kept-other, kept-id}
+use Rattle.history.specs.Runs.{isOwn}
 use Rattle.history.specs.Same.{SameListing, listing-refl}
-use Rattle.history.specs.Replaced.{kept-head, kept-field, kept-other, kept-id}
 
 pub record Alike (T : Terms) (s : ℕ) (r q : Record) : Type 0 where
   pub heads : r .head ≡ q .head
@@ -39,15 +41,15 @@ module _ (T : Terms) (s : ℕ) (f : ℕ → ℕ) {vs : List ℕ} (p : Permitted 
   k = at vs 0
 
   abbrev new : List ℕ
-  new = replaced T s f vs
+  new = withReductions (isOwn T s) f vs
 
   -- an item and its variant keep them so
   alike-item : (i m : ℕ) → i < length (lists k) → m < itemsIn k vs i → (l n : Listing) → AlikeListing T s l n
       → AlikeListing T s (withItem (listAt k i .reductions) (itemIn k vs i m) l) (withItem (listAt k i .reductions) (λ g. at new (itemAt k vs i m + g)) n)
   alike-item i m b h l n a = elim (item-as p i m b h) [
     | inl e ↦
-        let kw : (seller T (at vs (itemAt k vs i m)) ≡ s → ⊥) → at new (itemAt k vs i m + at (listAt k i .reductions) 0) ≡ at vs (itemAt k vs i m + at (listAt k i .reductions) 0) = kept-other T s f vs (record { list = b; item = h; field = e .inside }) in
-        rw (e .keeps (itemIn k vs i m) l, e .keeps (λ g. at new (itemAt k vs i m + g)) n, add-zero, kept-id T s f vs b h)
+        let kw : (seller T (at vs (itemAt k vs i m)) ≡ s → ⊥) → at new (itemAt k vs i m + at (listAt k i .reductions) 0) ≡ at vs (itemAt k vs i m + at (listAt k i .reductions) 0) = λ o. kept-other (isOwn T s) f vs (record { list = b; item = h; field = e .inside }) (ne-eqb (seller T (at vs (itemAt k vs i m))) s o) in
+        rw (e .keeps (itemIn k vs i m) l, e .keeps (λ g. at new (itemAt k vs i m + g)) n, add-zero, kept-id (isOwn T s) f vs b h)
         (record {
           listed = rw (a .listed);
           deficits = a .deficits;
@@ -55,14 +57,15 @@ module _ (T : Terms) (s : ℕ) (f : ℕ → ℕ) {vs : List ℕ} (p : Permitted 
           reductions = λ j o. same-set 0 (l .reductions) (n .reductions) (at vs (itemAt k vs i m)) j (a .long) (a .reductions j o) (λ q. sym (kw (rw q o)));
         })
     | inr d ↦
-        let kw = kept-field T s f vs {i = i} {m = m} {g = 1} (record { list = b; item = h; field = d .inside }) (λ r c q. omega (arith, rw (d .none) at c)) in
-        rw (d .keeps (itemIn k vs i m) l, d .keeps (λ g. at new (itemAt k vs i m + g)) n, add-zero, kept-id T s f vs b h, kw)
+        let kw = kept-field (isOwn T s) f vs {i = i} {m = m} {g = 1} (record { list = b; item = h; field = d .inside }) (λ r c q. omega (arith, rw (d .none) at c)) in
+        rw (d .keeps (itemIn k vs i m) l, d .keeps (λ g. at new (itemAt k vs i m + g)) n, add-zero, kept-id (isOwn T s) f vs b h, kw)
         (record { listed = a .listed; deficits = rw (a .deficits); long = a .long; reductions = a .reductions })
   ]
 
   pub alike-replaced : Alike T s (recordOf vs) (recordOf new)
   unfolding reduction
   alike-replaced =
-      let first = kept-head T s f vs 0 (head-kind k (p .kind) .0) in
-      let a = listing-keeps (AlikeListing T s) vs new first (kept-head T s f vs) alike-item (record { listed = refl; deficits = refl; long = refl; reductions = λ i o. refl }) in
-      record { heads = sym (same-head vs new first (kept-head T s f vs)); listings = record { listed = a .listed; deficits = a .deficits; reductions = a .reductions } }
+      let heads = kept-head (isOwn T s) f vs in
+      let first = heads 0 (head-kind k (p .kind) .0) in
+      let a = listing-keeps (AlikeListing T s) vs new first heads alike-item (record { listed = refl; deficits = refl; long = refl; reductions = λ i o. refl }) in
+      record { heads = sym (same-head vs new first heads); listings = record { listed = a .listed; deficits = a .deficits; reductions = a .reductions } }

@@ -2,32 +2,31 @@
 use Prim.Native.Nat.{ℕ, _≤_}
 use mathlib.Core.Bool.{Bool, true, false, cond}
 use mathlib.Core.List.{List, [], _∷_, _++_}
-use mathlib.Core.Path.{_≡_, refl, sym, ap, _∙_}
+use mathlib.Core.Path.{_≡_, refl, sym, _∙_}
+use native.Mathlib.Nat.{le-refl}
 use lib.ListN.{length, drop}
 use lib.Seq.{drop-at}
 use Rattle.ids.specs.Ids.{at}
 use Rattle.ids.specs.Tables.{is-tabulate}
 use Rattle.layouts.specs.Layout.{sizeOf}
-use Rattle.reductions.specs.Reductions.{isReduction}
-use Rattle.layouts.specs.Questions.{numbersOf, rulesBy, consumed}
-use Rattle.layouts.specs.QuestionLaws.{rules-by}
+use Rattle.reductions.specs.Reductions.{isReduction, withReductions}
+use Rattle.reductions.specs.Replaced.{writes}
+use Rattle.layouts.specs.Questions.{numbersOf, rulesOf, consumed}
 use Rattle.records.specs.Calls.{bytesBy}
-use Rattle.records.specs.Accepted.{not-failed, numbers-count}
-use Rattle.records.specs.RoundTrip.{write-reads}
+use Rattle.records.specs.Accepted.{not-failed}
+use Rattle.records.specs.RoundTrip.{read-writes, write-reads}
 use Rattle.year.specs.declared.Terms.{Terms}
 use Rattle.year.specs.declared.Year.{Year}
 use Rattle.year.specs.Year.{newYear}
 use Rattle.heads.specs.Record.{Record}
 use Rattle.recorded.specs.Recorded.{termsIn}
-use Rattle.history.specs.Runs.{Call, recordFrom, isOwn, replaced, Varied, refused, accepted, Variant, done, next}
+use Rattle.history.specs.Runs.{Call, recordFrom, isOwn, Varied, refused, accepted, Variant, done, next}
 use Rattle.history.specs.Taking.{shown, step, answered, answers, accepts}
 use Rattle.history.specs.Admitted.{accepted-record}
-use Rattle.history.specs.Replaced.{writes}
-use Rattle.history.specs.Paired.{permitted-numbers}
 
 -- each number in its own place
-same-numbers : (T : Terms) (s : ℕ) (vs : List ℕ) → vs ≡ replaced T s (at vs) vs
-unfolding replaced
+same-numbers : (T : Terms) (s : ℕ) (vs : List ℕ) → vs ≡ withReductions (isOwn T s) (at vs) vs
+unfolding withReductions
 same-numbers T s vs = is-tabulate _ (length vs) 0 vs refl (λ j l. go j (isReduction (isOwn T s) vs j))
   where
     go : (j : ℕ) (b : Bool) → at vs j ≡ cond b (at vs j) (at vs j)
@@ -45,14 +44,14 @@ module _ (s : ℕ) (rs : List Record) (y : Year) (c : Call) where
 
   -- the record with the reductions f, written
   pub chosen : accepts y c ≡ true → (f : ℕ → ℕ) → ((j : ℕ) → f j ≤ 100000) → (buffer : List ℕ) → length buffer ≡ length (c .buffer)
-      → Varied s rs (shown y c) (record { bytes = bytesBy (replaced (termsIn rs) s f (numbersOf (c .bytes))) ++ drop (consumed (c .bytes)) (c .bytes); buffer = buffer })
+      → Varied s rs (shown y c) (record { bytes = bytesBy (withReductions (isOwn (termsIn rs) s) f (numbersOf (c .bytes))) ++ drop (consumed (c .bytes)) (c .bytes); buffer = buffer })
   chosen e f small buffer l =
-      let a = accepted-record y c e in
-      let r = rules-by (c .bytes) (a .kind) in
-      let ws = replaced (termsIn rs) s f (numbersOf (c .bytes)) in
+      let zero = not-failed (c .bytes) (accepted-record y c e) in
+      let room = sizeOf (rulesOf (c .bytes)) in
+      let ws = withReductions (isOwn (termsIn rs) s) f (numbersOf (c .bytes)) in
       let rest = drop (consumed (c .bytes)) (c .bytes) in
-      let ok = writes (termsIn rs) s f (numbersOf (c .bytes)) (permitted-numbers (c .bytes) a) small (numbers-count (c .bytes) ∙ ap length (sym r)) (a .rise) in
-      let back = write-reads ws (sizeOf (rulesBy ws)) ok rest in
+      let ok = writes (isOwn (termsIn rs) s) f (numbersOf (c .bytes)) small room (read-writes (c .bytes) zero room (le-refl room)) in
+      let back = write-reads ws room ok rest in
       accepted e (back .accepts) f (back .numbers) (drop-at (bytesBy ws) rest (consumed (bytesBy ws ++ rest)) (sym (back .uses))) l
 
 pub variant-itself : (s : ℕ) (H : List Call) → Variant s [] (answers newYear H) H

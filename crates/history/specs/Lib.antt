@@ -15,7 +15,6 @@ pub mod Telescope
 pub mod Balanced
 pub mod AtClose
 pub mod Answers
-pub mod Replaced
 pub mod Same
 pub mod Alike
 pub mod Blind

@@ -1,13 +1,12 @@
 -- Calls that take a record (document 01, 'The lists of demand 3'), and what is read off a list of calls that are answered.
 use Prim.Native.Nat.{ℕ}
-use mathlib.Core.Bool.{Bool, true, false, _&&_, cond}
+use mathlib.Core.Bool.{Bool, true, false, _&&_}
 use mathlib.Core.List.{List, [], _∷_, _++_}
 use mathlib.Core.Path.{_≡_}
 use lib.ListN.{length, drop}
 use lib.Dec.{eqb}
 use lib.IntN.{ℤ, pos, _+ℤ_}
-use Rattle.ids.specs.Ids.{at, tabulate}
-use Rattle.reductions.specs.Reductions.{isReduction}
+use Rattle.reductions.specs.Reductions.{withReductions}
 use Rattle.layouts.specs.Questions.{numbersOf, recordNumber, consumed}
 use Rattle.year.specs.declared.Terms.{Terms}
 use Rattle.year.specs.Year.{seller}
@@ -55,16 +54,12 @@ soFar f (x ∷ xs) = f x +ℤ soFar f xs
 abbrev pub isOwn : Terms → ℕ → ℕ → Bool
 isOwn T s i = eqb (seller T i) s
 
--- in those entries whose registration is seller s's each reduction, number j of the record, is f j; all else as it was
-unfoldable pub replaced : Terms → ℕ → (ℕ → ℕ) → List ℕ → List ℕ
-replaced T s f vs = tabulate (length vs) (λ j. cond (isReduction (isOwn T s) vs j) (f j) (at vs j))
-
--- a call of G for the call x of H, which comes after the accepted records rs: an accepted record has other reductions, such as questions 1 to 5 let pass (0 to 100,000);
+-- a call of G for the call x of H, which comes after the accepted records rs: an accepted record has other reductions, such as questions 1 to 5 let pass (0 to 100,000), in those entries whose registration is seller s's;
 -- the bytes after it, the other records and the buffers' lengths are as in H
 pub data Varied (s : ℕ) (rs : List Record) (x : Answered) (d : Call) : Type 0 where
   refused : isAccepted x ≡ false → d .bytes ≡ x .call .bytes → length (d .buffer) ≡ length (x .call .buffer) → Varied s rs x d
   accepted : isAccepted x ≡ true → recordNumber (d .bytes) ≡ 0
-      → (f : ℕ → ℕ) → numbersOf (d .bytes) ≡ replaced (termsIn rs) s f (numbersOf (x .call .bytes))
+      → (f : ℕ → ℕ) → numbersOf (d .bytes) ≡ withReductions (isOwn (termsIn rs) s) f (numbersOf (x .call .bytes))
       → drop (consumed (d .bytes)) (d .bytes) ≡ drop (consumed (x .call .bytes)) (x .call .bytes)
       → length (d .buffer) ≡ length (x .call .buffer) → Varied s rs x d
 

@@ -1,11 +1,15 @@
-// The engine for C: a record read, a record written, a record taken by a book, and a whole record file billed. Every input is answered.
+// The engine for C: a record read, a record written, a record taken by a book, a whole record file billed, and a reduction made from a sample. Every input is answered.
 ghost use mathlib.Core.Path.{_≡_};
 ghost use Rattle.records.specs.Calls.{Reads, Writes};
 ghost use Rattle.year.specs.Year.{newYear};
 ghost use Rattle.cells.specs.Layout.{yearIn, Held};
 ghost use Rattle.book.specs.Outcome.{Posts};
 ghost use Rattle.billing.specs.Billed.{Bills};
+ghost use Rattle.telemetry.specs.declared.Sample.the-variants.{Pair, Direct};
+ghost use Rattle.telemetry.specs.Reduction.{Answers};
+ghost use lib.Ieee.{binary32, ofBits};
 use cells::Cells;
+use telemetry::Sample;
 
 // A record's numbers into the front of a lent buffer; how many they are and the bytes of the record go out.
 #[no_mangle]
@@ -79,4 +83,22 @@ pub extern "C" fn piermint_bill(
     *used = totals.used;
     *written = totals.written;
     totals.answered
+}
+
+// The kW of an entry from expected and metered load, given by their bit patterns; where they are refused it is 0.
+#[no_mangle]
+pub extern "C" fn piermint_reduction(expected: u32, metered: u32, kw: &mut u64) -> u64
+    ensures { λ r. ⌜ Answers (Pair (ofBits binary32 expected) (ofBits binary32 metered)) r (now (kw .exit)) ⌝ }
+{
+    let expected = telemetry::from_pattern(expected);
+    let metered = telemetry::from_pattern(metered);
+    telemetry::answer(Sample::Pair(expected, metered), kw)
+}
+
+// The kW of an entry from a direct reduction, in the same way.
+#[no_mangle]
+pub extern "C" fn piermint_direct_reduction(reduction: u32, kw: &mut u64) -> u64
+    ensures { λ r. ⌜ Answers (Direct (ofBits binary32 reduction)) r (now (kw .exit)) ⌝ }
+{
+    telemetry::answer(Sample::Direct(telemetry::from_pattern(reduction)), kw)
 }

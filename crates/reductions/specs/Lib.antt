@@ -1,3 +1,4 @@
--- Which numbers of a record are reductions, and their laws.
+-- Which numbers of a record are reductions, the record with others, and their laws.
 pub mod Reductions
 pub mod ReductionLaws
+pub mod Replaced

@@ -1,0 +1,14 @@
+-- The cast drops the fraction, which is the eighths.
+use mathlib.Core.Path.{_∙_}
+use Rattle.telemetry.specs.Casts.{kw-castable, kw-cast}
+use Rattle.telemetry.proofs.whole_kw.Statement.{statement}
+use Rattle.telemetry.proofs.whole_kw.Tie as tie
+
+returns : tie.Need-returns
+returns c = c .truncating-f32-to-u64 .ensures ∙ kw-cast (c .before .args .x) (c .before .pre)
+
+truncating-f32-to-u64-requires : tie.Need-truncating-f32-to-u64-requires
+truncating-f32-to-u64-requires c κs = kw-castable (c .args .x) (c .pre)
+
+pub whole-kw-spec : {M : Type 1} → statement M
+whole-kw-spec = tie.close (tie.spec truncating-f32-to-u64-requires returns)

@@ -1,0 +1,33 @@
+-- Laws of what samples are answered: kW within an entry's limit, and every such kW from some sample.
+use Prim.Native.Nat.{ℕ, _*_, _≤_}
+use mathlib.Core.Bool.{Bool, true, false, cond}
+use mathlib.Core.Path.{_≡_, refl, sym, ap, _∙_}
+use native.Mathlib.Omega.{arith}
+use native.Mathlib.Nat.{mul-comm, mul-div-cancel}
+use lib.Dec.{leb, lit<}
+use lib.Ieee.{binary32, round}
+use borrow.Author.Tests.{leb-true, le-leb}
+use Rattle.telemetry.specs.Values.{each}
+use Rattle.telemetry.specs.Reduction.{allCount, kwIn, limited, reductionOf, kwOf}
+use Rattle.telemetry.specs.declared.Sample.{Sample}
+use Rattle.telemetry.specs.declared.Sample.the-variants.{Direct}
+use Rattle.telemetry.specs.declared.Reduced.the-variants.{Kw, NotCounted, TooMuch}
+
+pub kw-most : (s : Sample) → kwOf (reductionOf s) ≤ 100000
+unfolding reductionOf limited
+kw-most s = go (allCount s) (leb (kwIn s) 100000) refl
+  where
+    go : (a b : Bool) → leb (kwIn s) 100000 ≡ b → kwOf (cond a (cond b (Kw (kwIn s)) TooMuch) NotCounted) ≤ 100000
+    go true true e = leb-true (kwIn s) 100000 e
+    go true false e = omega arith
+    go false b e = omega arith
+
+-- the direct reduction of k kW
+abbrev pub direct : ℕ → Sample
+direct k = Direct (round binary32 false (k * 8) 8)
+
+pub direct-is : (k : ℕ) → k ≤ 100000 → reductionOf (direct k) ≡ Kw k
+unfolding reductionOf limited
+direct-is k h =
+    let p = each (k * 8) (omega arith) in
+    rw (p .0, p .1, mul-div-cancel k {n = 8} (lit< tt), le-leb k 100000 h)
