@@ -23,6 +23,7 @@ pub mod piermint;
 pub mod rates;
 pub mod records;
 pub mod statement;
+pub mod telemetry;
 mod year;
 
 pub use bill::{bill, bill_file, take_each, Billed, MOST_STATEMENTS};

@@ -1,8 +1,11 @@
 //! Calls and answers as lines of text, as the published vectors have them.
 
+use std::fmt::{self, Display, Formatter};
+
 use crate::book::Book;
 use crate::exact::widen;
 use crate::numbers::{self, Read, Written};
+use crate::telemetry::{reduction, Reduction, Sample};
 
 /// Fills lent buffers beforehand, to show what a call leaves untouched.
 const UNTOUCHED: u8 = 0xA5;
@@ -51,6 +54,14 @@ pub fn write(lines: &str) -> String {
     })
 }
 
+/// `pair BITS BITS` or `direct BITS` to `number kw`.
+pub fn telemetry(lines: &str) -> String {
+    answer_each(lines, |line| {
+        let Reduction { number, kw } = reduction(sample(line));
+        format!("{number} {kw}")
+    })
+}
+
 fn answer_each(lines: &str, answer: impl FnMut(&str) -> String) -> String {
     let answers: Vec<String> = lines.lines().map(answer).collect();
     answers.iter().map(|answer| format!("{answer}\n")).collect()
@@ -59,6 +70,35 @@ fn answer_each(lines: &str, answer: impl FnMut(&str) -> String) -> String {
 fn bytes_and_room(line: &str) -> (Vec<u8>, usize) {
     let (hex, room) = line.split_once(' ').expect("bytes and a room");
     (from_hex(hex), room.parse().expect("a room"))
+}
+
+fn sample(line: &str) -> Sample {
+    let words: Vec<&str> = line.split_whitespace().collect();
+    match words.as_slice() {
+        ["pair", expected, metered] => Sample::Pair {
+            expected: from_bits(expected),
+            metered: from_bits(metered),
+        },
+        ["direct", reduction] => Sample::Direct(from_bits(reduction)),
+        _ => panic!("no sample: {line}"),
+    }
+}
+
+fn from_bits(hex: &str) -> f32 {
+    f32::from_bits(u32::from_str_radix(hex, 16).expect("32 bits in hexadecimal"))
+}
+
+impl Display for Sample {
+    /// A sample as its line.
+    fn fmt(&self, f: &mut Formatter) -> fmt::Result {
+        match self {
+            Sample::Pair { expected, metered } => {
+                let [expected, metered] = [expected, metered].map(|load| load.to_bits());
+                write!(f, "pair {expected:08x} {metered:08x}")
+            }
+            Sample::Direct(reduction) => write!(f, "direct {:08x}", reduction.to_bits()),
+        }
+    }
 }
 
 /// Numbers with a blank between them.

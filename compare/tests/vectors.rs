@@ -5,8 +5,8 @@ use std::{env, fs};
 
 use settlement::{bill_file, lines};
 
-/// The requests that are in, in order; each has a folder of vectors beside the base's.
-const REQUESTS: [&str; 2] = ["C-11", "C-12"];
+/// The requests that are in, in order; one that brings vectors has a folder beside the base's.
+const REQUESTS: [&str; 4] = ["C-11", "C-12", "C-13", "C-14"];
 
 /// The vectors of the base or of a request.
 struct Set {
@@ -58,7 +58,12 @@ fn vectors() -> Option<PathBuf> {
 #[test]
 fn bills() {
     for set in sets() {
-        let files = fs::read_dir(set.folder.join("bill")).expect("the bills");
+        let folder = set.folder.join("bill");
+        // A request may bring none; the base brings some.
+        if set.name != "base" && !folder.is_dir() {
+            continue;
+        }
+        let files = fs::read_dir(folder).expect("the bills");
         let mut bills: Vec<PathBuf> = files.map(|file| file.expect("a file").path()).collect();
         bills.retain(|path| path.extension().is_some_and(|extension| extension == "bin"));
         assert!(!bills.is_empty());
@@ -71,12 +76,12 @@ fn bills() {
     }
 }
 
-fn compare(name: &str, answer: fn(&str) -> String) {
+/// Compares the answers to calls of a sort, which the set `since` brings; another set may.
+fn compare(name: &str, since: &str, answer: fn(&str) -> String) {
     for set in sets() {
         let path = set.folder.join("lines").join(name);
         let calls = path.with_extension("in");
-        // A request brings calls of the sorts that it changes; the base brings all.
-        if set.name != "base" && !calls.is_file() {
+        if set.name != since && !calls.is_file() {
             continue;
         }
         let calls = fs::read_to_string(calls).expect("the calls");
@@ -92,15 +97,20 @@ fn compare(name: &str, answer: fn(&str) -> String) {
 
 #[test]
 fn take() {
-    compare("take", lines::take);
+    compare("take", "base", lines::take);
 }
 
 #[test]
 fn read() {
-    compare("read", lines::read);
+    compare("read", "base", lines::read);
 }
 
 #[test]
 fn write() {
-    compare("write", lines::write);
+    compare("write", "base", lines::write);
+}
+
+#[test]
+fn telemetry() {
+    compare("telemetry", "C-14", lines::telemetry);
 }

@@ -1,4 +1,4 @@
-//! Answers lines of calls from standard input: `lines take`, `lines read` or `lines write`.
+//! Answers lines of calls from standard input: `lines take|read|write|telemetry`.
 
 use std::io;
 
@@ -8,7 +8,8 @@ fn main() -> io::Result<()> {
         Some("take") => settlement::lines::take(&lines),
         Some("read") => settlement::lines::read(&lines),
         Some("write") => settlement::lines::write(&lines),
-        _ => return Err(io::Error::other("lines take|read|write")),
+        Some("telemetry") => settlement::lines::telemetry(&lines),
+        _ => return Err(io::Error::other("lines take|read|write|telemetry")),
     };
     print!("{answers}");
     Ok(())

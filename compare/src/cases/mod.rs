@@ -1,4 +1,4 @@
-//! Record files and calls from a seed: plausible years, and damaged variants of them.
+//! Record files, calls and samples from a seed: plausible years, and damaged variants of them.
 
 mod clearings;
 pub mod damage;
@@ -6,6 +6,7 @@ mod parties;
 pub mod plan;
 pub mod random;
 pub mod record;
+pub mod samples;
 
 use crate::layout::MOST_NUMBERS;
 use crate::statement::MOST_BYTES;

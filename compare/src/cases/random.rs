@@ -52,6 +52,11 @@ impl Random {
         self.next().to_le_bytes()[0]
     }
 
+    /// Any pattern of 32 bits.
+    pub fn bits(&mut self) -> u32 {
+        narrow(self.next() >> 32)
+    }
+
     pub fn pick<T: Copy>(&mut self, choices: &[T]) -> T {
         choices[self.below(choices.len())]
     }
