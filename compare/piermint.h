@@ -15,6 +15,9 @@
  *
  * A number is 0 where a record is accepted, and 1 to 17 where it is refused: the first question
  * that fails (the README's table of numbers). 17 is a fifth clearing of one registration.
+ *
+ * A sample of telemetry is answered with 0, with 18 if a value of it does not count, or else with 19
+ * if its reduction is more than 100,000 kW once the eighths are dropped.
  */
 #ifndef PIERMINT_H
 #define PIERMINT_H
@@ -75,6 +78,17 @@ uint64_t piermint_post(uint64_t *cells, const uint8_t *bytes, size_t bytes_lengt
 size_t piermint_bill(const uint8_t *records, size_t records_length, uint64_t *numbers,
                      size_t numbers_length, uint8_t *statements, size_t statements_length,
                      size_t *used, size_t *written);
+
+/*
+ * Answers a pair of loads in kW, each as the bits of an IEEE 754 binary32, whatever they are. A load
+ * counts if it is a whole number of eighths, at least 0 and below 131,072; minus zero is zero. *kw is
+ * expected less metered, or 0 where metered is larger, with the eighths dropped; refused it is 0. It
+ * may be the place of an entry's reduction among the numbers that piermint_write is given next.
+ */
+uint64_t piermint_reduction(uint32_t expected, uint32_t metered, uint64_t *kw);
+
+/* Answers a direct reduction, which counts as a load does. *kw is it with the eighths dropped. */
+uint64_t piermint_direct_reduction(uint32_t reduction, uint64_t *kw);
 
 #ifdef __cplusplus
 }

@@ -3,6 +3,7 @@
 use crate::bill::Billed;
 use crate::book::Taken;
 use crate::numbers::{Read, Written};
+use crate::telemetry::{Reduction, Sample};
 
 extern "C" {
     fn piermint_read(
@@ -33,6 +34,10 @@ extern "C" {
         used: *mut usize,
         written: *mut usize,
     ) -> u64;
+
+    fn piermint_reduction(expected: u32, metered: u32, kw: *mut u64) -> u64;
+
+    fn piermint_direct_reduction(reduction: u32, kw: *mut u64) -> u64;
 }
 
 // SAFETY, of each call below: what piermint.h asks of pointers, Rust's slices and references have
@@ -69,6 +74,21 @@ pub fn write(numbers: &[u64], bytes: &mut [u8]) -> Written {
         )
     };
     written
+}
+
+/// Answers a sample.
+pub fn reduction(sample: Sample) -> Reduction {
+    // No kW of an answer, so that a call which left it would be seen.
+    let mut kw = u64::MAX;
+    let number = match sample {
+        Sample::Pair { expected, metered } => unsafe {
+            piermint_reduction(expected.to_bits(), metered.to_bits(), &mut kw)
+        },
+        Sample::Direct(reduction) => unsafe {
+            piermint_direct_reduction(reduction.to_bits(), &mut kw)
+        },
+    };
+    Reduction { number, kw }
 }
 
 /// The cells of a book's year.

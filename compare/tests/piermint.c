@@ -1,5 +1,5 @@
 /*
- * Calls the static library on document 01's Year A, and on its edges:
+ * Calls the static library on document 01's Year A, on its edges, and on samples of telemetry:
  *
  *     cc -std=c99 -Icompare compare/tests/piermint.c target/staticlib/libpiermint.a -o target/piermint
  *     target/piermint examples/year-a.bin
@@ -57,6 +57,61 @@ static void reads_and_writes(void)
     expect(piermint_read(opening, 0, numbers, PIERMINT_NUMBERS, &count, &used) == 1, "no byte: 1");
     expect(piermint_write(expected, 3, bytes, sizeof bytes, &used) == 3 && used == 0, "a number short: 3");
     expect(piermint_write(expected, 4, bytes, 4, &used) == 16 && used == 0, "no room for bytes: 16");
+}
+
+/* Samples as the bits of binary32, and what they are answered with. */
+static void answers_samples(void)
+{
+    static const struct {
+        uint32_t reduction;
+        uint64_t number, kw;
+    } direct[] = {
+        {0x00000000, 0, 0}, {0x80000000, 0, 0},       /* zero and minus zero */
+        {0x3E000000, 0, 0}, {0x3D800000, 18, 0},      /* an eighth and a sixteenth */
+        {0x3F800000, 0, 1}, {0xBF800000, 18, 0},      /* 1 and -1 */
+        {0x47C35070, 0, 100000}, {0x47C35080, 19, 0}, /* 100,000.875 and 100,001 */
+        {0x47FFFFF0, 19, 0}, {0x48000000, 18, 0},     /* 131,071.875 and 131,072 */
+        {0x00000001, 18, 0}, {0x80000001, 18, 0},     /* the smallest subnormals */
+        {0x7F800000, 18, 0}, {0xFF800000, 18, 0},     /* infinities */
+        {0x7FC00000, 18, 0}, {0x7F800001, 18, 0},     /* a quiet and a signalling NaN */
+    };
+    static const struct {
+        uint32_t expected, metered;
+        uint64_t number, kw;
+    } pairs[] = {
+        {0x41180000, 0x3F400000, 0, 8},      /* 9.5 less 0.75 */
+        {0x3F400000, 0x41180000, 0, 0},      /* 0.75 less 9.5 */
+        {0x3F400000, 0x48000000, 18, 0},     /* 0.75 less 131,072 */
+        {0x3D800000, 0x41180000, 18, 0},     /* a sixteenth less 9.5 */
+        {0x47FFFFF0, 0x46F2BE00, 0, 100000}, /* 131,071.875 less 31,071 */
+        {0x47FFFFF0, 0x46F2BDC0, 19, 0},     /* 131,071.875 less 31,070.875 */
+        {0x48000000, 0x48000000, 18, 0},     /* 131,072 twice */
+        {0x80000000, 0x80000000, 0, 0},      /* minus zero twice */
+    };
+    for (size_t i = 0; i < sizeof direct / sizeof direct[0]; i++) {
+        uint64_t kw = 99;
+        expect(piermint_direct_reduction(direct[i].reduction, &kw) == direct[i].number, "a direct reduction");
+        expect(kw == direct[i].kw, "its kW");
+    }
+    for (size_t i = 0; i < sizeof pairs / sizeof pairs[0]; i++) {
+        uint64_t kw = 99;
+        expect(piermint_reduction(pairs[i].expected, pairs[i].metered, &kw) == pairs[i].number, "a pair of loads");
+        expect(kw == pairs[i].kw, "its kW");
+    }
+}
+
+/* Year A's test, 5 1 0 1 0 2 0 600 1 2100, its two reductions right from samples: the record at byte 27. */
+static void writes_samples(const uint8_t *year)
+{
+    uint64_t test[] = {5, 1, 0, 1, 0, 2, 0, 99, 1, 99};
+    uint8_t bytes[9];
+    size_t used = 99;
+
+    expect(piermint_reduction(0x44AF1000, 0x44481000, &test[7]) == 0, "1,400.5 less 800.25 kW");
+    expect(piermint_direct_reduction(0x45034E00, &test[9]) == 0, "2,100.875 kW");
+    expect(test[6] == 0 && test[8] == 1, "each writes its own number alone");
+    expect(piermint_write(test, 10, bytes, sizeof bytes, &used) == 0 && used == 9, "the test is written");
+    expect(memcmp(bytes, year + 27, used) == 0, "as with 600 and 2,100 kW typed");
 }
 
 /* The statement of Year A's close 1: S 0 0 147600 0, S 1 0 0 0, L 0 110700, L 1 36900. */
@@ -152,8 +207,10 @@ int main(int argc, char **argv)
     fclose(file);
 
     reads_and_writes();
+    answers_samples();
+    writes_samples(year);
     bills(year, length);
     takes_each(year, length);
-    printf("%s\n", failures == 0 ? "the static library answers as document 01 says" : "the static library differs");
+    printf("%s\n", failures == 0 ? "the static library answers as the documents say" : "the static library differs");
     return failures != 0;
 }

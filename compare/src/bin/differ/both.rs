@@ -4,13 +4,14 @@ use std::fmt::{self, Debug, Display, Formatter};
 
 use settlement::exact::narrow;
 use settlement::lines::to_hex;
-use settlement::{piermint, statement, Billed, Taken, MOST_STATEMENTS};
+use settlement::telemetry::{self, Reduction, Sample};
+use settlement::{piermint, statement, Billed, Taken, Written, MOST_STATEMENTS};
 
 /// Nothing, or what differs, to be printed.
 pub type Compared<T = ()> = Result<T, String>;
 
-/// The numbers: 0, and 1 to 17.
-const NUMBERS: usize = 18;
+/// The numbers: 0, of a record's refusal 1 to 17, and of a sample's 18 and 19.
+const NUMBERS: usize = 20;
 
 /// The kinds that four bits give, also those that are no record's.
 const KINDS: usize = 16;
@@ -43,6 +44,9 @@ pub struct Both {
     of_bills: Seen,
     reads: Seen,
     writes: Seen,
+    samples: Seen,
+    /// Records whose reductions were made from samples.
+    made: u64,
 }
 
 impl Both {
@@ -95,6 +99,27 @@ impl Both {
         Ok(())
     }
 
+    /// Answers a sample.
+    pub fn sample(&mut self, sample: Sample) -> Compared<Reduction> {
+        let reduction = reduction(sample)?;
+        self.samples.add(reduction.number);
+        Ok(reduction)
+    }
+
+    /// Writes a record made from samples with the engine; it must be this one.
+    pub fn write_made(&mut self, numbers: &[u64], record: &[u8]) -> Compared {
+        let used = record.len();
+        let mut bytes = vec![0; used];
+        let written = piermint::write(numbers, &mut bytes);
+        same(
+            (Written { number: 0, used }, record),
+            (written, &bytes),
+            || format!("write of a record made from samples: {numbers:?}"),
+        )?;
+        self.made += 1;
+        Ok(())
+    }
+
     /// How many records were billed with ample buffers.
     pub fn records(&self) -> u64 {
         self.by_kind.iter().map(Seen::all).sum()
@@ -135,6 +160,15 @@ fn take(
     Ok(taken)
 }
 
+/// Answers a sample with both.
+pub fn reduction(sample: Sample) -> Compared<Reduction> {
+    same(
+        telemetry::reduction(sample),
+        piermint::reduction(sample),
+        || format!("sample: {sample}"),
+    )
+}
+
 fn same<T: Debug + PartialEq>(rust: T, rattle: T, call: impl Fn() -> String) -> Compared<T> {
     if rust == rattle {
         Ok(rust)
@@ -157,10 +191,13 @@ fn lend<T: From<u8>, R>(room: usize, call: impl FnOnce(&mut [T]) -> R) -> (R, Ve
 impl Display for Both {
     fn fmt(&self, f: &mut Formatter) -> fmt::Result {
         let [files, bills, records] = [self.files, self.bills, self.records()];
-        let [reads, writes] = [self.reads.all(), self.writes.all()];
+        let [reads, writes, samples] =
+            [self.reads, self.writes, self.samples].map(|seen| seen.all());
+        let made = self.made;
         writeln!(f, "{files} files of {records} records, ample buffers")?;
         writeln!(f, "{bills} bills with other buffers")?;
-        writeln!(f, "{reads} reads, {writes} writes\n")?;
+        writeln!(f, "{reads} reads, {writes} writes")?;
+        writeln!(f, "{samples} samples, {made} records made from samples\n")?;
         self.print_kinds(f)?;
         self.print_numbers(f)
     }
@@ -180,12 +217,13 @@ impl Both {
     }
 
     fn print_numbers(&self, f: &mut Formatter) -> fmt::Result {
-        print_line(f, "number", ["records", "other bills", "reads", "writes"])?;
+        let heads = ["records", "other bills", "reads", "writes", "samples"];
+        print_line(f, "number", heads)?;
         for number in 0..NUMBERS {
             let records = self.by_kind.iter().map(|seen| seen.0[number]).sum();
-            let [bills, reads, writes] =
-                [self.of_bills, self.reads, self.writes].map(|seen| seen.0[number]);
-            print_line(f, number, [records, bills, reads, writes])?;
+            let others = [self.of_bills, self.reads, self.writes, self.samples];
+            let [bills, reads, writes, samples] = others.map(|seen| seen.0[number]);
+            print_line(f, number, [records, bills, reads, writes, samples])?;
         }
         Ok(())
     }

@@ -36,7 +36,7 @@ pub fn compare_file(both: &mut Both, file: &[u8]) -> Compared {
 }
 
 /// Where each record of a file starts, and its length; 0 for one without bounds.
-fn records_of(file: &[u8]) -> Vec<(usize, usize)> {
+pub fn records_of(file: &[u8]) -> Vec<(usize, usize)> {
     let mut records = Vec::new();
     let mut start = 0;
     take_each(file, |taken, _| {
