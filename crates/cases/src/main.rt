@@ -50,7 +50,7 @@ fn case(year: &mut Cells, line: &[u8])
     if name == b't' {
         if space == 4 {
             take_case(year, &line[space + 1..]);
-        } else {
+        } else if space == 9 {
             telemetry_case(&line[space + 1..]);
         }
     } else if name == b'r' {

@@ -1,7 +1,7 @@
 -- The test of Year A made from samples, computed over the definitions: 1,000.5 kW expected and 400.375 metered, which is 600.125, and 2,100.875 direct give its bytes.
 use Prim.Native.Nat.{ℕ}
 use mathlib.Core.Bool.{cond}
-use mathlib.Core.List.{List, [], _∷_}
+use mathlib.Core.List.{[], _∷_}
 use mathlib.Core.Path.{_≡_, refl}
 use lib.Dec.{eqb}
 use lib.Ieee.{binary32, ofBits}

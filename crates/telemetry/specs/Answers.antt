@@ -1,9 +1,9 @@
 -- Laws of what samples are answered: kW within an entry's limit, and every such kW from some sample.
 use Prim.Native.Nat.{ℕ, _*_, _≤_}
 use mathlib.Core.Bool.{Bool, true, false, cond}
-use mathlib.Core.Path.{_≡_, refl, sym, ap, _∙_}
+use mathlib.Core.Path.{_≡_, refl}
 use native.Mathlib.Omega.{arith}
-use native.Mathlib.Nat.{mul-comm, mul-div-cancel}
+use native.Mathlib.Nat.{mul-div-cancel}
 use lib.Dec.{leb, lit<}
 use lib.Ieee.{binary32, round}
 use borrow.Author.Tests.{leb-true, le-leb}

@@ -12,7 +12,7 @@ use lib.Ieee.Nearest.{div-same}
 use borrow.Author.Tests.{ltb-true, eqb-true}
 use Rattle.ids.specs.Tests.{and-parts}
 use Rattle.telemetry.specs.Eighths.{counts, eighthsOf}
-use Rattle.telemetry.specs.Values.{nought, eight, bound, Is, times8, eighth, of-counts, to-counts, eighths-is}
+use Rattle.telemetry.specs.Values.{nought, eight, bound, Is, times8, eighth, of-counts, to-counts}
 use Rattle.telemetry.specs.Compared.{lt-of, le-of, eq-of, is-of-eq}
 
 -- the cast is defined from 0 up to the bound, and its result is below the bound

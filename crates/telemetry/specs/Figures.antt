@@ -1,8 +1,8 @@
 -- What samples are answered, worked by hand, each value by its bit pattern and computed over the definitions.
 use Prim.Native.Nat.{ℕ}
-use mathlib.Core.List.{List, [], _∷_, map}
+use mathlib.Core.List.{[], _∷_, map}
 use mathlib.Core.Path.{_≡_, refl}
-use lib.Ieee.{Float, binary32, ofBits}
+use lib.Ieee.{binary32, ofBits}
 use Rattle.telemetry.specs.Eighths.{counts, eighthsOf}
 use Rattle.telemetry.specs.Reduction.{limited, reductionOf, numberOf, kwOf}
 use Rattle.telemetry.specs.declared.Sample.{Sample}

@@ -45,4 +45,4 @@ kwOf TooMuch = 0
 -- what a call on a sample answers: its number and its kW
 pub record Answers (s : Sample) (number kw : ℕ) : Type 0 where
   pub numbers : number ≡ numberOf (reductionOf s)
-  pub kws : kw ≡ kwOf (reductionOf s)
+  pub kilowatts : kw ≡ kwOf (reductionOf s)

@@ -26,7 +26,7 @@ pub enum Reduced {
     TooMuch,
 }
 
-// What a sample is answered. A direct reduction is one with nothing metered, so that the one exact subtraction serves both.
+// Answers a sample. A direct reduction is one with nothing metered, so that the one exact subtraction serves both.
 pub fn reduction(sample: Sample) -> Reduced
     ensures { λ r. ⌜ r ≡ reductionOf sample ⌝ }
 {
@@ -39,7 +39,7 @@ pub fn reduction(sample: Sample) -> Reduced
     }
 }
 
-// What loads are answered: first whether both count, then their difference.
+// Answers loads: first whether both count, then their difference.
 fn of_loads(l: Loads) -> Reduced
     ensures { λ r. ⌜ r ≡ reductionOf (Pair (l .expected) (l .metered)) ⌝ }
 {

@@ -9,7 +9,7 @@ returns : tie.Need-returns
 returns c =
     record {
       numbers = c .number-of .ensures ∙ ap numberOf (c .before .before .reduction .ensures);
-      kws = c .before .kw-of .ensures ∙ ap kwOf (c .before .before .reduction .ensures);
+      kilowatts = c .before .kw-of .ensures ∙ ap kwOf (c .before .before .reduction .ensures);
     }
 
 pub answer-spec : {M : Type 1} → statement M

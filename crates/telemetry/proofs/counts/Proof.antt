@@ -1,10 +1,10 @@
 -- A value passes the three tests exactly where it counts.
-use mathlib.Core.Path.{_≡_, sym, ap, _∙_, subst}
+use mathlib.Core.Path.{ap, _∙_}
 use Prim.Native.Nat.{ℕ, _^_, _<_, _≤_}
 use native.Mathlib.Omega.{arith}
 use lib.Dec.{le→leb}
 use lib.IntN.{pos}
-use lib.Ieee.{binary32, ofBits, mul, div, ofInt, lt, le, eq, inFloat, toUnsigned}
+use lib.Ieee.{binary32, ofBits, mul, div, ofInt, lt, le, eq, inFloat}
 use Rattle.telemetry.specs.Values.{nought, eight, bound}
 use Rattle.telemetry.specs.Casts.{castable, cut-lt, passes-low, passes-high, told, fails}
 use Rattle.telemetry.proofs.counts.Statement.{statement}

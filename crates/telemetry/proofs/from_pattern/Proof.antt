@@ -1,7 +1,7 @@
 -- One comparison tells the patterns of a NaN, and each of these is read as `nan`.
 use borrow.Author.Needs.{needs}
-use mathlib.Core.Path.{_≡_, refl, sym, ap, _∙_, subst}
-use mathlib.Core.Bool.{Bool, true, false, not}
+use mathlib.Core.Path.{_≡_, refl, sym, _∙_, subst}
+use mathlib.Core.Bool.{Bool, not}
 use Prim.Native.Nat.{ℕ, _%_, _<_, _≤_}
 use lib.Dec.{T, ltb, lt→ltb, ltb→lt, not-T}
 use native.Mathlib.Nat.{not-le-of-lt}
