@@ -184,21 +184,6 @@ fn write(numbers: &[u64]) -> Vec<u8> {
     buffer[..written.used].to_vec()
 }
 
-/// The bill of Year A's parties, of a record and of so many closes.
-fn bill(record: &[u64], closes: u64) -> String {
-    let parties: [&[u64]; 5] = [
-        &[1, 0, 9_500, 10_800],
-        &[2, 0, 0, 1, 1, 0, 1_000, 10_000],
-        &[2, 1, 1, 1, 1, 0, 2_000, 15_000],
-        &[3, 0, 3_000],
-        &[3, 1, 1_000],
-    ];
-    let mut records: Vec<Numbers> = parties.map(<[u64]>::to_vec).to_vec();
-    records.push(record.to_vec());
-    records.extend((1..=closes).map(|month| vec![6, month]));
-    String::from_utf8(bill_file(&file(&records))).expect("text")
-}
-
 #[test]
 fn year_a_by_samples() {
     // 1,400.5 − 800.25 = 600.25, and a switch tells 2,100.875.
@@ -209,13 +194,9 @@ fn year_a_by_samples() {
     assert_eq!(test, [5, 1, 0, 1, 0, 2, 0, 600, 1, 2_100]);
     let bytes = [0x52, 0x08, 0x01, 0x00, 0x02, 0x58, 0x04, 0x10, 0x68];
     assert_eq!(write(&test), bytes);
-    let text = "M 1\nS 0 0 147600 0\nS 1 0 0 0\nL 0 110700\nL 1 36900\n";
-    assert_eq!(bill(&test, 1), text);
 
     let event = [4, 1, 1, 1, 0, 2, 0, first, 1, second];
     assert_eq!(write(&event), write(&[4, 1, 1, 1, 0, 2, 0, 600, 1, 2_100]));
-    let text = "M 5\nS 0 313650 0 0\nS 1 0 0 45900\nL 0 200812\nL 1 66938\n";
-    assert!(bill(&event, 5).ends_with(text));
 }
 
 /// The record with each reduction made from a sample, one that is answered with its kW.

@@ -37,7 +37,7 @@ module _ {A B c a b : ℕ} (o : Over A B c a b) where
   pub le-over : b ≤ a → B ≤ A
   le-over h = omega (arith, o .left, o .right, mul-le-mul-right c h)
 
-  pub lt-over : ltb A B ≡ ltb a b
+  lt-over : ltb A B ≡ ltb a b
   lt-over = elim (decLt a b) [
     | yes h ↦ lt-ltb A B (omega (arith, o .left, o .right, mul-lt-mul-of-pos-right h (o .some))) ∙ sym (lt-ltb a b h)
     | no h ↦ le-ltb A B (le-over (omega arith)) ∙ sym (le-ltb a b (omega arith))
