@@ -14,7 +14,7 @@ use Rattle.history.specs.Runs.{Call}
 use Rattle.history.specs.Taking.{answers}
 use Rattle.telemetry.specs.declared.Sample.{Sample}
 use Rattle.telemetry.specs.Reduction.{reductionOf, kwOf, Answers}
-use Rattle.telemetry.specs.Answers.{kw-most, direct, direct-is}
+use Rattle.telemetry.specs.Limits.{kw-most, direct, direct-is}
 
 -- whatever the registration
 abbrev any : ℕ → Bool

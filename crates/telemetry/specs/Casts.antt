@@ -11,7 +11,7 @@ use lib.Ieee.Fits.{down-pos}
 use lib.Ieee.Nearest.{div-same}
 use borrow.Author.Tests.{ltb-true, eqb-true}
 use Rattle.ids.specs.Tests.{and-parts}
-use Rattle.telemetry.specs.Eighths.{counts, eighthsOf}
+use Rattle.telemetry.specs.Eighths.{edge, counts, eighthsOf}
 use Rattle.telemetry.specs.Values.{nought, eight, bound, Is, times8, eighth, of-counts, to-counts}
 use Rattle.telemetry.specs.Compared.{lt-of, le-of, eq-of, is-of-eq}
 
@@ -45,14 +45,14 @@ below (fin false m e) t u =
 pub castable : (y : Float) → le nought y ≡ true → lt y bound ≡ true → T (lt (fin true 1 (pos 0)) y) × T (lt y (fin false 1 (pos 64)))
 castable y t u = (above y t u, below y t u)
 
-pub cut-lt : (y : Float) → le nought y ≡ true → lt y bound ≡ true → toUnsigned 64 y < 1048576
+pub cut-lt : (y : Float) → le nought y ≡ true → lt y bound ≡ true → toUnsigned 64 y < edge
 unfolding le lt toUnsigned
 cut-lt nan t u = absurd (true≢false (sym t))
 cut-lt (inf true) t u = absurd (true≢false (sym t))
 cut-lt (inf false) t u = absurd (true≢false (sym u))
 cut-lt (fin true m e) t u = lit< tt
 cut-lt (fin false m e) t u =
-    let h : m * up e / down e < 1048576 = div-lt-iff-lt-mul (down-pos e) .1 (subst (λ (z : ℕ). z < 1048576 * down e) (mul-one (m * up e)) (ltb-true (m * up e * 1) (1 * 2 ^ 20 * down e) u)) in
+    let h : m * up e / down e < edge = div-lt-iff-lt-mul (down-pos e) .1 (subst (λ (z : ℕ). z < edge * down e) (mul-one (m * up e)) (ltb-true (m * up e * 1) (1 * 2 ^ 20 * down e) u)) in
     omega arith
 
 -- of n eighths it drops these
@@ -77,7 +77,7 @@ module _ (x : Float) (t : counts x ≡ true) where
   is : Is x (eighthsOf x)
   is = of-counts x t .0
 
-  N : eighthsOf x < 1048576
+  N : eighthsOf x < edge
   N = of-counts x t .1
 
   pub kw-castable : T (lt (fin true 1 (pos 0)) x) × T (lt x (fin false 1 (pos 64)))

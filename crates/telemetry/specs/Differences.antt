@@ -8,11 +8,11 @@ use lib.Dec.{ltb}
 use lib.Ieee.{Float, nan, inf, fin, binary32, up, down, round, neg, sum, add, sub, lt}
 use borrow.Author.Tests.{le-ltb}
 use Rattle.ids.specs.Tests.{and-parts}
-use Rattle.telemetry.specs.Eighths.{counts, eighthsOf, Less}
+use Rattle.telemetry.specs.Eighths.{edge, counts, eighthsOf, Less}
 use Rattle.telemetry.specs.Values.{Is, rounded, of-counts, to-counts, eighths-is}
 use Rattle.telemetry.specs.Compared.{Over, over, none, le-over, lt-eighths}
 
-module _ {A B c a b : ℕ} (o : Over A B c a b) (N : a < 1048576) where
+module _ {A B c a b : ℕ} (o : Over A B c a b) (N : a < edge) where
   difference : b ≤ a → (A - B) * 8 ≡ (a - b) * c
   difference h =
       let l : (a - b) * c + b * c ≡ a * c = sym (add-mul (a - b) b c) ∙ ap (λ (x : ℕ). x * c) (let k : a - b + b ≡ a = omega arith in k) in
@@ -31,7 +31,7 @@ module _ {A B c a b : ℕ} (o : Over A B c a b) (N : a < 1048576) where
       (ap (λ (w : ℕ). (A + w) * 8) y ∙ ap (λ (w : ℕ). w * 8) (add-zero A) ∙ o .left ∙ ap (λ (w : ℕ). w * c) (let k : a ≡ a - b = omega arith in k))
       (λ u. omega (arith, z u))
 
-sub-is : (x y : Float) (a b : ℕ) → Is x a → Is y b → b ≤ a → a < 1048576 → Is (sub binary32 x y) (a - b)
+sub-is : (x y : Float) (a b : ℕ) → Is x a → Is y b → b ≤ a → a < edge → Is (sub binary32 x y) (a - b)
 unfolding sub add neg sum
 sub-is nan y a b p q h N = absurd p
 sub-is (inf s) y a b p q h N = absurd p

@@ -13,9 +13,9 @@ use lib.Ieee.Exact.{HasValue, round-exact}
 use lib.Ieee.Fits.{down-pos, up-pos}
 use borrow.Author.Tests.{eqb-true, ltb-true, eq-eqb, lt-ltb}
 use Rattle.ids.specs.Tests.{and-parts}
-use Rattle.telemetry.specs.Eighths.{counts, eighthsOf}
+use Rattle.telemetry.specs.Eighths.{edge, counts, eighthsOf}
 
--- the floats that the code has as 0.0, 8.0 and 1048576.0, which is 8 × 131,072
+-- the floats that the code has as 0.0, 8.0 and 1048576.0, which is `edge`
 abbrev pub nought : Float
 nought = fin false 0 (pos 0)
 
@@ -53,7 +53,7 @@ like : (s : Bool) (n k : ℕ) → (s ≡ true → n ≡ 0) → (n ≡ 0 → k �
 like true n k z f g = f (z refl)
 like false n k z f g = absurd (true≢false (sym g))
 
-pub times8 : (x : Float) (n : ℕ) → Is x n → n < 1048576 → Is (mul binary32 x eight) (n * 8)
+pub times8 : (x : Float) (n : ℕ) → Is x n → n < edge → Is (mul binary32 x eight) (n * 8)
 unfolding mul
 times8 nan n p N = absurd p
 times8 (inf s) n p N = absurd p
@@ -62,7 +62,7 @@ times8 (fin s m e) n p N =
     (ap (λ (z : ℕ). z * 8) (p .0) ∙ mul-right-comm n (down e) 8 ∙ ap (λ (z : ℕ). n * 8 * z) (sym (mul-one (down e))))
     (like s n (n * 8) (p .1) (λ z. ap (λ (k : ℕ). k * 8) z))
 
-over8 : (x : Float) (n : ℕ) → Is x (n * 8) → n < 1048576 → Is (div binary32 x eight) n
+over8 : (x : Float) (n : ℕ) → Is x (n * 8) → n < edge → Is (div binary32 x eight) n
 unfolding div
 over8 nan n p N = absurd p
 over8 (inf s) n p N = absurd p
@@ -71,7 +71,7 @@ over8 (fin s m e) n p N =
     (ap (λ (z : ℕ). z * 8) (mul-one (m * up e)) ∙ p .0 ∙ mul-assoc n 8 (down e))
     (like s (n * 8) n (p .1) (λ z. omega arith))
 
-pub eighth : (n : ℕ) → n < 1048576 → Is (div binary32 (ofInt binary32 (pos n)) eight) n
+pub eighth : (n : ℕ) → n < edge → Is (div binary32 (ofInt binary32 (pos n)) eight) n
 unfolding ofInt
 eighth n N = over8 (round binary32 false n 1) n (rounded false n 1 (n * 8) (lit< tt) (omega arith) (sym (mul-one (n * 8))) (λ g. absurd (true≢false (sym g)))) N
 
@@ -91,17 +91,17 @@ plus-of true m u n d U h z =
 plus-of false m u n d U h z = refl
 
 -- a value that counts is as many eighths as it is said to be, below the bound
-pub of-counts : (x : Float) → counts x ≡ true → Is x (eighthsOf x) × (eighthsOf x < 1048576)
+pub of-counts : (x : Float) → counts x ≡ true → Is x (eighthsOf x) × (eighthsOf x < edge)
 unfolding counts eighthsOf
 of-counts nan t = absurd (true≢false (sym t))
 of-counts (inf s) t = absurd (true≢false (sym t))
 of-counts (fin s m e) t =
     let a = m * up e * 8 in
     let n = a / down e in
-    let whole = and-parts (eqb (a % down e) 0) (plus s m && ltb n 1048576) t in
-    let rest = and-parts (plus s m) (ltb n 1048576) (whole .1) in
+    let whole = and-parts (eqb (a % down e) 0) (plus s m && ltb n edge) t in
+    let rest = and-parts (plus s m) (ltb n edge) (whole .1) in
     let h : a ≡ n * down e = sym (sym (add-zero (n * down e)) ∙ ap (λ (r : ℕ). n * down e + r) (sym (eqb-true (a % down e) 0 (whole .0))) ∙ div-add-mod' a (down e)) in
-    ((h, plus-zero s m (up e) n (down e) h (down-pos e) (rest .0)), ltb-true n 1048576 (rest .1))
+    ((h, plus-zero s m (up e) n (down e) h (down-pos e) (rest .0)), ltb-true n edge (rest .1))
 
 -- and so the other way round
 pub eighths-is : (x : Float) (n : ℕ) → Is x n → eighthsOf x ≡ n
@@ -110,7 +110,7 @@ eighths-is nan n p = absurd p
 eighths-is (inf s) n p = absurd p
 eighths-is (fin s m e) n p = ap (λ (a : ℕ). a / down e) (p .0) ∙ mul-div-cancel n (down-pos e)
 
-pub to-counts : (x : Float) (n : ℕ) → Is x n → n < 1048576 → counts x ≡ true
+pub to-counts : (x : Float) (n : ℕ) → Is x n → n < edge → counts x ≡ true
 unfolding counts
 to-counts nan n p N = absurd p
 to-counts (inf s) n p N = absurd p
@@ -118,10 +118,10 @@ to-counts (fin s m e) n p N =
     let a = m * up e * 8 in
     let q : a / down e ≡ n = ap (λ (z : ℕ). z / down e) (p .0) ∙ mul-div-cancel n (down-pos e) in
     let r : a % down e ≡ 0 = ap (λ (z : ℕ). z % down e) (p .0) ∙ mul-mod-left n (down e) in
-    rw (eq-eqb (a % down e) 0 r, plus-of s m (up e) n (down e) (up-pos e) (p .0) (p .1)) (lt-ltb (a / down e) 1048576 (omega (arith, q, N)))
+    rw (eq-eqb (a % down e) 0 r, plus-of s m (up e) n (down e) (up-pos e) (p .0) (p .1)) (lt-ltb (a / down e) edge (omega (arith, q, N)))
 
 -- each number of eighths below the bound is that of a value that counts
-pub each : (n : ℕ) → n < 1048576 → (counts (round binary32 false n 8) ≡ true) × (eighthsOf (round binary32 false n 8) ≡ n)
+pub each : (n : ℕ) → n < edge → (counts (round binary32 false n 8) ≡ true) × (eighthsOf (round binary32 false n 8) ≡ n)
 each n N =
     let p : Is (round binary32 false n 8) n = rounded false n 8 n (lit< tt) (omega arith) refl (λ g. absurd (true≢false (sym g))) in
     (to-counts (round binary32 false n 8) n p N, eighths-is (round binary32 false n 8) n p)

@@ -52,7 +52,7 @@ fn of_loads(l: Loads) -> Reduced
 }
 
 // Whether a value counts. n is x * 8 with its fraction dropped, and x is n eighths exactly where n / 8 is x again.
-// A NaN, an infinity, a negative value and 131,072 or more fail one of the first two tests.
+// A NaN, an infinity, a negative value and 131,072 or more, 1,048,576 eighths, fail one of the first two tests.
 fn counts(x: f32) -> bool
     ensures { λ r. ⌜ r ≡ counts x ⌝ }
 {

@@ -5,6 +5,7 @@ use native.Mathlib.Omega.{arith}
 use lib.Dec.{le→leb}
 use lib.IntN.{pos}
 use lib.Ieee.{binary32, ofBits, mul, div, ofInt, lt, le, eq, inFloat}
+use Rattle.telemetry.specs.Eighths.{edge}
 use Rattle.telemetry.specs.Values.{nought, eight, bound}
 use Rattle.telemetry.specs.Casts.{castable, cut-lt, passes-low, passes-high, told, fails}
 use Rattle.telemetry.proofs.counts.Statement.{statement}
@@ -34,7 +35,7 @@ unfolding ofBits inFloat
 int-to-float-result c =
     let n = c .before .truncating-f32-to-u64 .result in
     let y = mul binary32 (c .before .before .before .before .args .x) eight in
-    let small : n < 1048576 = rw (c .before .truncating-f32-to-u64 .ensures) (cut-lt y (c .before .before .before .if1 .taken) (c .before .before .if2 .taken)) in
+    let small : n < edge = rw (c .before .truncating-f32-to-u64 .ensures) (cut-lt y (c .before .before .before .if1 .taken) (c .before .before .if2 .taken)) in
     le→leb n (2 ^ 24) (let l : n ≤ 2 ^ 24 = omega (arith, small) in l)
 
 pub counts-spec : {M : Type 1} → statement M
