@@ -19,6 +19,6 @@ isReduction picked vs j =
     let k = at vs 0 in
     anyTo (length (lists k)) (λ i. anyTo (itemsIn k vs i) (λ m. picked (at vs (itemAt k vs i m)) && reducesIn k vs i m j))
 
--- the numbers of a record with f j for each such reduction, number j; all else as it was
+-- the numbers of a record with f j for each reduction, number j, of an item whose id is one of those picked; all else as it was
 unfoldable pub withReductions : (ℕ → Bool) → (ℕ → ℕ) → List ℕ → List ℕ
 withReductions picked f vs = tabulate (length vs) (λ j. cond (isReduction picked vs j) (f j) (at vs j))

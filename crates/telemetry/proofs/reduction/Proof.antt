@@ -16,7 +16,10 @@ unfolding reductionOf counts eighthsOf ofBits
 with-none x = rw (and-true, sub-zero)
 
 returns : tie.Need-returns
-returns c = c .of-loads .ensures ∙ sym (ap reductionOf (c .before .before .sample .given .1))
+returns c =
+    let values = c .before .before .sample .given .0 in
+    let loads : c .of-loads .result ≡ reductionOf (Pair (values .0) (values .1 .0)) = c .of-loads .ensures in
+    loads ∙ sym (ap reductionOf (c .before .before .sample .given .1))
 
 returns-2 : tie.Need-returns-2
 returns-2 c =

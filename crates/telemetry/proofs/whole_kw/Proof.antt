@@ -1,11 +1,15 @@
 -- The cast drops the fraction, which is the eighths.
-use mathlib.Core.Path.{_∙_}
+use mathlib.Core.Path.{_≡_, _∙_}
+use lib.Ieee.{toUnsigned}
 use Rattle.telemetry.specs.Casts.{kw-castable, kw-cast}
 use Rattle.telemetry.proofs.whole_kw.Statement.{statement}
 use Rattle.telemetry.proofs.whole_kw.Tie as tie
 
 returns : tie.Need-returns
-returns c = c .truncating-f32-to-u64 .ensures ∙ kw-cast (c .before .args .x) (c .before .pre)
+returns c =
+    let x = c .before .args .x in
+    let cut : c .truncating-f32-to-u64 .result ≡ toUnsigned 64 x = c .truncating-f32-to-u64 .ensures in
+    cut ∙ kw-cast x (c .before .pre)
 
 truncating-f32-to-u64-requires : tie.Need-truncating-f32-to-u64-requires
 truncating-f32-to-u64-requires c κs = kw-castable (c .args .x) (c .pre)
