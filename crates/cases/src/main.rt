@@ -1,5 +1,6 @@
 // Answers calls, one to a line that begins with the call's name: `take BYTES ROOM`, `read BYTES ROOM`, `write ROOM NUMBERS`, `telemetry pair BITS BITS`, `telemetry direct BITS`.
 // Bytes are in hexadecimal, `-` where there are none, and so are the eight digits of a value's bits. Records are taken from a new book on, and `new` begins another. A line with another name is passed over.
+use bits::Cursor;
 use cells::Cells;
 use libc::STDIN_FILENO;
 use libc::STDOUT_FILENO;
@@ -184,14 +185,8 @@ fn telemetry_case(line: &[u8]) {
 fn value_of(word: &[u8]) -> f32 {
     let mut bytes = [0u8; 4];
     scan::hex_bytes(word, &mut bytes);
-    let high = joined(bytes[0], bytes[1]);
-    let low = joined(bytes[2], bytes[3]);
-    telemetry::from_pattern(high << 16 | low)
-}
-
-// Two bytes in a row.
-fn joined(high: u8, low: u8) -> u32 {
-    (high as u32) << 8 | low as u32
+    let pattern = Cursor::first().take(&bytes, 32);
+    telemetry::from_pattern(pattern.value as u32)
 }
 
 fn reduce(sample: Sample) {

@@ -14,7 +14,7 @@ use Rattle.history.specs.Runs.{Call}
 use Rattle.history.specs.Taking.{answers}
 use Rattle.telemetry.specs.declared.Sample.{Sample}
 use Rattle.telemetry.specs.Reduction.{reductionOf, kwOf, Answers}
-use Rattle.telemetry.specs.Limits.{kw-most, direct, direct-is}
+use Rattle.telemetry.specs.Limits.{kw-most, sampleOf, sample-of}
 
 -- whatever the registration
 abbrev any : ℕ → Bool
@@ -67,5 +67,5 @@ as-typed samples kw vs given = same (made samples vs) (typed kw vs) (tabulate-sa
 pub made-written : (samples : ℕ → Sample) (vs : List ℕ) (room : ℕ) → writeNumber vs room ≡ 0 → writeNumber (made samples vs) room ≡ 0
 made-written samples vs = writes any (λ j. kwOf (reductionOf (samples j))) vs (λ j. kw-most (samples j))
 
-pub samples-give : (kw : ℕ → ℕ) (vs : List ℕ) → ((j : ℕ) → kw j ≤ 100000) → Give (λ j. direct (kw j)) kw vs
-samples-give kw vs small j r = let e = direct-is (kw j) (small j) in record { numbers = rw e; kilowatts = rw e }
+pub samples-give : (kw : ℕ → ℕ) (vs : List ℕ) → ((j : ℕ) → kw j ≤ 100000) → Give (λ j. sampleOf (kw j)) kw vs
+samples-give kw vs small j r = let e = sample-of (kw j) (small j) in record { numbers = rw e; kilowatts = rw e }

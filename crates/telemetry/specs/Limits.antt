@@ -23,11 +23,11 @@ kw-most s = go (allCount s) (leb (kwIn s) 100000) refl
     go false b e = omega arith
 
 -- the direct reduction of k kW
-abbrev pub direct : ℕ → Sample
-direct k = Direct (round binary32 false (k * 8) 8)
+abbrev pub sampleOf : ℕ → Sample
+sampleOf k = Direct (round binary32 false (k * 8) 8)
 
-pub direct-is : (k : ℕ) → k ≤ 100000 → reductionOf (direct k) ≡ Kw k
+pub sample-of : (k : ℕ) → k ≤ 100000 → reductionOf (sampleOf k) ≡ Kw k
 unfolding reductionOf limited
-direct-is k h =
+sample-of k h =
     let p = each (k * 8) (omega arith) in
     rw (p .0, p .1, mul-div-cancel k {n = 8} (lit< tt), le-leb k 100000 h)

@@ -8,18 +8,19 @@ use Rattle.telemetry.specs.Reduction.{limited, reductionOf}
 use Rattle.telemetry.proofs.of_loads.Statement.{statement}
 use Rattle.telemetry.proofs.of_loads.Tie as tie
 
--- both loads count where the difference is taken
-told : {r b : Bool} → r ≡ b → r ≡ true → b ≡ true
-told e t = sym e ∙ t
+-- a test's result tells what it was asked
+tells : {r b v : Bool} → r ≡ b → r ≡ v → b ≡ v
+tells e t = sym e ∙ t
 
+-- both loads count where the difference is taken
 less-requires : tie.Need-less-requires
-less-requires c κs = search (needs, told)
+less-requires c κs = search (needs, tells)
 
 expected : (c : tie.Then1) → counts (c .before .before .args .l .expected) ≡ true
-expected c = sym (c .before .counts .ensures) ∙ c .if1 .taken
+expected c = tells (c .before .counts .ensures) (c .if1 .taken)
 
 metered : (c : tie.Then2) → counts (c .before .before .before .before .args .l .metered) ≡ true
-metered c = sym (c .before .counts2 .ensures) ∙ c .if2 .taken
+metered c = tells (c .before .counts2 .ensures) (c .if2 .taken)
 
 returns : tie.Need-returns
 unfolding reductionOf
@@ -31,13 +32,13 @@ returns c =
 returns-2 : tie.Need-returns-2
 unfolding reductionOf
 returns-2 c =
-    let no : counts (c .before .before .before .before .args .l .metered) ≡ false = sym (c .before .counts2 .ensures) ∙ c .if2 .left in
+    let no : counts (c .before .before .before .before .args .l .metered) ≡ false = tells (c .before .counts2 .ensures) (c .if2 .left) in
     rw (expected (c .before .before), no)
 
 returns-3 : tie.Need-returns-3
 unfolding reductionOf
 returns-3 c =
-    let no : counts (c .before .before .args .l .expected) ≡ false = sym (c .before .counts .ensures) ∙ c .if1 .left in
+    let no : counts (c .before .before .args .l .expected) ≡ false = tells (c .before .counts .ensures) (c .if1 .left) in
     rw no
 
 pub of-loads-spec : {M : Type 1} → statement M
