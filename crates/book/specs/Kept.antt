@@ -15,9 +15,9 @@ use Rattle.year.specs.declared.Year.{Year}
 use Rattle.year.specs.Year.{clearingsOf, pastTest, testPlace, listed, known, zone, product, size}
 use Rattle.year.specs.Sound.{SoundRegistration, SoundListing, SoundEvent, SoundTest, SoundTerms, Factors, Sound}
 use Rattle.year.specs.Limits.{clearings-sound, size-is}
-use Rattle.year.specs.Kept.{sound-opening, sound-registration, sound-lse, sound-clearing, sound-event, sound-test, sound-close}
+use Rattle.year.specs.Kept.{sound-opening, sound-registration, sound-lse, sound-clearing, sound-event, sound-test, sound-retest, sound-close}
 use Rattle.heads.specs.declared.Head.{Head}
-use Rattle.heads.specs.declared.Head.the-variants.{Opening, Registration, Lse, Event, Test, Close, Clearing}
+use Rattle.heads.specs.declared.Head.the-variants.{Opening, Registration, Lse, Event, Test, Close, Clearing, Retest}
 use Rattle.heads.specs.Record.{Record, recordOf}
 use Rattle.heads.specs.RecordLaws.{record-row}
 use Rattle.heads.specs.Listed.{sound-listed}
@@ -27,7 +27,7 @@ use Rattle.owed_laws.specs.Totals.{sound-amounts}
 use Rattle.entries.specs.Entries.{inGroup, everyListed}
 use Rattle.recorded.specs.After.{registrationOf, eventOf, testOf, yearBy, yearWith}
 use Rattle.questions.specs.Questions.{inTime, q7, questions}
-use Rattle.questions.specs.Admitted.{Admitted, admitted, not-started, event-held, test-group, test-free, clearings-few, not-finished, next-month}
+use Rattle.questions.specs.Admitted.{Admitted, admitted, not-started, event-held, test-group, test-free, retest-started, clearings-few, not-finished, next-month}
 use Rattle.book.specs.Outcome.{recordIn, postNumber, yearAfter}
 use Rattle.book.specs.Numbers.{all-passed}
 use Rattle.book.specs.Made.{within, permits}
@@ -42,6 +42,7 @@ Suits y l (Test t) =
     (testPlace (t .zone) (t .product) < 24) × (getD (y .tests) (testPlace (t .zone) (t .product)) pastTest .taken ≡ false) × SoundTest (y .terms) (testPlace (t .zone) (t .product)) (testOf t l)
 Suits y l (Close c) = (y .closed < 15) × (c .month ≡ y .closed + 1)
 Suits y l (Clearing c) = ClearingWithin c × (clearingsOf y (c .registration) .count < 4)
+Suits y l (Retest t) = (y .started ≡ true) × SoundListing l
 
 -- the listed registrations of a test are of its place
 own-place : {T : Terms} → SoundTerms T → (l : Listing) (z p : ℕ) → everyListed T l (inGroup T z p) ≡ true
@@ -65,6 +66,7 @@ module _ {y : Year} (s : Sound y) where
       (omega (arith, w .zone, w .product), test-free a, record { listing = sl; own = own-place (s .terms) l (t .zone) (t .product) (test-group a); untaken = λ q. absurd (let z : _≡_ {A = ℕ} 0 1 = cc in omega arith) })
   suits sl (Close c) w a = (not-finished a, next-month a)
   suits sl (Clearing c) w a = (w, clearings-few a)
+  suits sl (Retest t) w a = (retest-started a s, sl)
 
   pub sound-by : (l : Listing) (h : Head) → Suits y l h → Sound (yearBy y l h)
   unfolding Suits yearBy
@@ -76,6 +78,7 @@ module _ {y : Year} (s : Sound y) where
   sound-by l (Close c) t = sound-close s (t .0) (sound-amounts (limits s) (c .month))
   sound-by l (Clearing c) t =
       sound-clearing s (c .registration) (t .1) (clearings-sound s (c .registration)) (t .0 .price) (t .0 .some) (t .0 .kw)
+  sound-by l (Retest t) u = sound-retest s (u .0) (u .1)
 
   pub sound-after : (bytes : List ℕ) (room : ℕ) → Sound (yearAfter y bytes room)
   unfolding yearAfter

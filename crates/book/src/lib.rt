@@ -104,12 +104,16 @@ fn take(year: &mut Cells, head: Head, listing: &[u64], buffer: &mut [u8]) -> usi
             0
         }
         Head::Test(t) => {
-            steps::test(year, (3 * t.zone + t.product) as usize, t.month, listing);
+            entering::test(year, (3 * t.zone + t.product) as usize, t.month, listing);
             0
         }
         Head::Close(c) => close(year, c.month, buffer),
         Head::Clearing(c) => {
             steps::clear(year, c.registration as usize, c.price, c.kw);
+            0
+        }
+        Head::Retest(_) => {
+            entering::retest(year, listing);
             0
         }
     }

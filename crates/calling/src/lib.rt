@@ -2,26 +2,25 @@
 ghost use mathlib.Core.Path.{_≡_};
 ghost use mathlib.Core.Bool.{_&&_};
 ghost use Prim.Native.Nat.{ℕ, _+_, _≤_, max};
-ghost use lib.Dec.{leb};
 ghost use lib.ListN.{length};
 ghost use Rattle.ids.specs.Ids.{at};
 ghost use Rattle.layouts.specs.Questions.{firstFailed};
 ghost use Rattle.year.specs.Year.{product};
-ghost use Rattle.calendar.specs.Calendar.{callable, testable};
+ghost use Rattle.calendar.specs.Calendar.{callable};
 ghost use Rattle.cells.specs.Layout.{listingAt, yearIn, Held};
-ghost use Rattle.heads.specs.Within.{TestWithin};
+ghost use Rattle.heads.specs.Within.{GroupWithin};
 ghost use Rattle.entries.specs.Entries.{everyListed};
 ghost use Rattle.questions.specs.Questions.{inTime, questions};
 use cells::Cells;
 use entries::Condition;
 use entries::entries_pass;
 use entries::every_listed;
-use entries::lists_uncalled;
+use entries::lists_exactly;
 use heads::EventHead;
 use heads::Head;
 use heads::TestHead;
-use questions::has_parties;
-use questions::is_open;
+use questions::may_test;
+use questions::open_number;
 
 // The first month with which events of a month are no longer taken.
 fn event_end(month: u64) -> u64
@@ -51,14 +50,6 @@ fn may_call(year: &Cells, e: EventHead, listing: &[u64]) -> bool
         && every_listed(year, listing, Condition::Callable(e.month, e.period))
 }
 
-// Question 11 of a test.
-fn may_test(closed: u64, t: TestHead) -> bool
-    requires { ⌜ closed ≤ 15 ⌝ }
-    ensures { λ r. ⌜ r ≡ (leb (t .month) (closed + 1) && testable (t .product) (t .month)) ⌝ }
-{
-    t.month <= closed + 1 && calendar::testable(t.product, t.month)
-}
-
 // Of an event.
 pub fn event_number(year: &Cells, e: EventHead, listing: &[u64]) -> u64
     requires { ⌜ Held (now year) ⌝ }
@@ -66,11 +57,9 @@ pub fn event_number(year: &Cells, e: EventHead, listing: &[u64]) -> u64
     requires { ⌜ length (now listing) ≡ 144 ⌝ }
     ensures { λ n. ⌜ ((room : ℕ) → n ≡ firstFailed (questions inTime (yearIn (now (year .entry))) (record { head = Head.Event e; listing = listingAt (at (now (listing .entry))) }) room)) ⌝ }
 {
-    if !is_open(year) {
-        return 6;
-    }
-    if !has_parties(year) {
-        return 8;
+    let first = open_number(year);
+    if first != 0 {
+        return first;
     }
     if !entries_pass(year, listing, Condition::InArea(e.area)) {
         return 10;
@@ -84,27 +73,24 @@ pub fn event_number(year: &Cells, e: EventHead, listing: &[u64]) -> u64
 // Of a test.
 pub fn test_number(year: &Cells, t: TestHead, listing: &[u64]) -> u64
     requires { ⌜ Held (now year) ⌝ }
-    requires { ⌜ TestWithin t ⌝ }
+    requires { ⌜ GroupWithin (t .zone) (t .product) ⌝ }
     requires { ⌜ length (now listing) ≡ 144 ⌝ }
     ensures { λ n. ⌜ ((room : ℕ) → n ≡ firstFailed (questions inTime (yearIn (now (year .entry))) (record { head = Head.Test t; listing = listingAt (at (now (listing .entry))) }) room)) ⌝ }
 {
-    if !is_open(year) {
-        return 6;
+    let first = open_number(year);
+    if first != 0 {
+        return first;
     }
-    if !has_parties(year) {
-        return 8;
-    }
-    let group = Condition::InGroup(t.zone, t.product);
-    if !entries_pass(year, listing, group) {
+    if !entries_pass(year, listing, Condition::InGroup(t.zone, t.product)) {
         return 10;
     }
-    if !may_test(cells::closed(year), t) {
+    if !may_test(year, t.product, t.month) {
         return 11;
     }
     if cells::test_taken(year, (3 * t.zone + t.product) as usize) {
         return 13;
     }
-    if lists_uncalled(year, listing, group) {
+    if lists_exactly(year, listing, Condition::Uncalled(t.zone, t.product)) {
         0
     } else {
         14

@@ -1,4 +1,4 @@
--- Where the year stands in its cells: four marks and the terms, then tables, one row an element. The entries of all tests are one table by registration.
+-- Where the year stands in its cells: four marks and the terms, then tables, one row an element. The entries of all tests are one table by registration, and those of all retests another.
 use Prim.Native.Nat.{ℕ, _+_, _*_}
 use mathlib.Core.Path.{_≡_}
 use mathlib.Core.Bool.{Bool, not, _&&_, cond}
@@ -11,6 +11,7 @@ use Rattle.year.specs.declared.Clearings.{Clearings}
 use Rattle.year.specs.declared.Listing.{Listing}
 use Rattle.year.specs.declared.Event.{Event}
 use Rattle.year.specs.declared.Test.{Test}
+use Rattle.year.specs.declared.Retest.{Retest}
 use Rattle.year.specs.declared.Terms.{Terms}
 use Rattle.year.specs.declared.Amounts.{Amounts}
 use Rattle.year.specs.declared.Year.{Year}
@@ -73,12 +74,19 @@ cellBilled c =
 unfoldable pub cellClearings : List ℕ → List Clearings
 cellClearings c = rows clearingsAt 3 64 3447 c
 
+-- the entries of all retests: 64 marks, then 64 reductions
+abbrev pub retestAt : (ℕ → ℕ) → ℕ → Retest
+retestAt g i = record { taken = flag (g i); reduction = g (64 + i) }
+
+unfoldable pub cellRetests : List ℕ → List Retest
+cellRetests c = tabulate 64 (retestAt (from 3639 c))
+
 -- the year in the cells
 abbrev pub yearIn : List ℕ → Year
 yearIn c =
-    record { opened = flag (at c 3); started = flag (at c 1); closed = at c 0; terms = cellTerms c; clearings = cellClearings c; events = cellEvents c; held = at c 2; tests = cellTests c; billed = cellBilled c }
+    record { opened = flag (at c 3); started = flag (at c 1); closed = at c 0; terms = cellTerms c; clearings = cellClearings c; events = cellEvents c; held = at c 2; tests = cellTests c; retests = cellRetests c; billed = cellBilled c }
 
--- what is asked and kept of the cells: there are 3639, and their year is sound
+-- what is asked and kept of the cells: there are 3767, and their year is sound
 pub record Held (c : List ℕ) : Type 0 where
-  pub long : length c ≡ 3639
+  pub long : length c ≡ 3767
   pub sound : Sound (yearIn c)

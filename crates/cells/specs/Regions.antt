@@ -5,16 +5,19 @@ use mathlib.Core.Bool.{false, cond}
 use mathlib.Core.List.{List}
 use native.Mathlib.Omega.{arith}
 use lib.Dec.{lit<, lit≤}
-use lib.ListN.{getD, replicate}
+use lib.ListN.{length, getD, replicate}
 use Rattle.ids.specs.Ids.{at, tabulate}
 use Rattle.ids.specs.Tables.{tabulate-same, getD-tabulate}
 use Rattle.year.specs.declared.Registration.{Registration}
 use Rattle.year.specs.declared.Clearings.{Clearings}
 use Rattle.year.specs.declared.Event.{Event}
 use Rattle.year.specs.declared.Test.{Test}
-use Rattle.year.specs.Year.{newYear, noEvent, noTest, pastEvent, listed, zone, product}
+use Rattle.year.specs.declared.Retest.{Retest}
+use Rattle.year.specs.declared.Year.{Year}
+use Rattle.year.specs.Year.{newYear, noEvent, noTest, noRetest, pastEvent, listed, reduction, deficit, zone, product}
+use Rattle.year.specs.Sound.{Sound}
 use Rattle.cells.specs.Rows.{Same, same-in, from, View, numbers-kept, same-row, rows-kept, row-at, table-of}
-use Rattle.cells.specs.Layout.{flag, registrationAt, clearingsAt, listingAt, eventAt, cellRegistrations, cellObligations, cellTerms, cellEvents, placeIn, entryAt, testAt, cellTests, cellBilled, cellClearings, yearIn}
+use Rattle.cells.specs.Layout.{flag, registrationAt, clearingsAt, listingAt, eventAt, cellRegistrations, cellObligations, cellTerms, cellEvents, placeIn, entryAt, testAt, cellTests, cellBilled, cellClearings, retestAt, cellRetests, yearIn, Held}
 
 pub registration-view : View 7 registrationAt
 registration-view g h e =
@@ -30,6 +33,20 @@ listing-view g h e =
       tabulate-same 64 {f = λ i. g (64 + i)} {g = λ i. h (64 + i)} (λ i l. e (64 + i) (omega arith)),
       tabulate-same 16 {f = λ i. g (128 + i)} {g = λ i. h (128 + i)} (λ i l. e (128 + i) (omega arith)),
     )
+
+-- what a listing's row says
+module _ (row : List ℕ) where
+  pub row-listed : {i : ℕ} → i < 64 → listed (listingAt (at row)) i ≡ flag (at row i)
+  unfolding listed
+  row-listed {i} l = getD-tabulate (λ j. flag (at row j)) 64 i false l
+
+  pub row-reduction : {i : ℕ} → i < 64 → reduction (listingAt (at row)) i ≡ at row (64 + i)
+  unfolding reduction
+  row-reduction {i} l = getD-tabulate (λ j. at row (64 + j)) 64 i 0 l
+
+  pub row-deficit : {s : ℕ} → s < 16 → deficit (listingAt (at row)) s ≡ at row (128 + s)
+  unfolding deficit
+  row-deficit {s} l = getD-tabulate (λ j. at row (128 + j)) 16 s 0 l
 
 pub event-view : View 147 eventAt
 event-view g h e =
@@ -69,6 +86,10 @@ module _ (c : List ℕ) where
   pub test-in : {k : ℕ} (d : Test) → k < 24 → getD (cellTests c) k d ≡ testAt (placeIn c) (from 3255 c) k (from (2823 + 18 * k) c)
   unfolding cellTests
   test-in {k} d l = getD-tabulate (λ k. testAt (placeIn c) (from 3255 c) k (from (2823 + 18 * k) c)) 24 k d l
+
+  pub retest-in : {i : ℕ} (d : Retest) → i < 64 → getD (cellRetests c) i d ≡ retestAt (from 3639 c) i
+  unfolding cellRetests
+  retest-in {i} d l = getD-tabulate (retestAt (from 3639 c)) 64 i d l
 
   pub clearings-in : {i : ℕ} (d : Clearings) → i < 64 → getD (cellClearings c) i d ≡ clearingsAt (from (3447 + 3 * i) c)
   unfolding cellClearings
@@ -125,9 +146,14 @@ module _ {c d : List ℕ} where
   unfolding cellClearings
   clearings-kept s = rows-kept clearings-view 64 3447 s
 
+  pub retests-kept : Same 3639 128 c d → cellRetests d ≡ cellRetests c
+  unfolding cellRetests
+  retests-kept s =
+      tabulate-same 64 {f = retestAt (from 3639 d)} {g = retestAt (from 3639 c)} (λ i l. cc (s .cell i (omega arith), s .cell (64 + i) (omega arith)))
+
 -- where all cells are 0 there is a new year
 pub new-year : (c : List ℕ) → ((k : ℕ) → at c k ≡ 0) → yearIn c ≡ newYear
-unfolding cellRegistrations cellObligations cellEvents cellTests cellBilled cellClearings
+unfolding cellRegistrations cellObligations cellEvents cellTests cellBilled cellClearings cellRetests
 new-year c z =
     cc (
       z 0,
@@ -142,6 +168,7 @@ new-year c z =
       table-of {f = λ i. clearingsAt (from (3447 + 3 * i) c)} 64 (λ i l. clearings-view (from (3447 + 3 * i) c) (λ k. 0) (λ k l. z (3447 + 3 * i + k))),
       table-of {f = λ i. eventAt (from (471 + 147 * i) c)} 16 (λ i l. event-view (from (471 + 147 * i) c) (λ k. 0) (λ k l. z (471 + 147 * i + k)) ∙ no-event),
       table-of {f = λ k. testAt (placeIn c) (from 3255 c) k (from (2823 + 18 * k) c)} 24 (λ k l. no-test k),
+      table-of {f = retestAt (from 3639 c)} {x = noRetest} 64 (λ i l. cc (z (3639 + i), z (3639 + (64 + i)))),
       zeros 16 3383,
       zeros 16 3399,
       zeros 16 3415,
@@ -165,3 +192,7 @@ new-year c z =
           table-of {A = ℕ} {f = λ i. cond (entryAt (placeIn c) (from 3255 c) k i) (from 3255 c (64 + i)) 0} {x = 0} 64 (λ i l. rw (z (3255 + i))),
           table-of {f = λ j. from (2823 + 18 * k) c (2 + j)} 16 (λ j l. z (2823 + 18 * k + (2 + j))),
         )
+
+-- a step on cells that hold a sound year
+pub stepped : {c d : List ℕ} {y : Year} → Held c → length d ≡ length c → yearIn d ≡ y → Sound y → (yearIn d ≡ y) × Held d
+stepped k l e s = (e, record { long = l ∙ k .long; sound = rw e s })

@@ -2,15 +2,16 @@
 ghost use mathlib.Core.Path.{_≡_};
 ghost use Prim.Native.Nat.{_+_, _≤_, _<_};
 ghost use lib.ListN.{length, getD};
-ghost use Rattle.year.specs.Year.{newYear, pastEvent, pastTest, clearingsOf, registration, obligation, listed};
+ghost use Rattle.year.specs.Year.{newYear, pastEvent, pastTest, clearingsOf, retestOf, registration, obligation, listed, reduction};
 ghost use Rattle.cells.specs.Rows.{Laid};
 ghost use Rattle.cells.specs.Layout.{yearIn, Held};
 use units::Nominated;
 use year::Clearings;
 use year::Registration;
+use year::Retest;
 
 // Where a year's parts stand (specs/Layout.antt): marks, the terms, then tables, one row an element.
-pub type Cells = [u64; 3639];
+pub type Cells = [u64; 3767];
 
 pub const CLOSED: usize = 0;
 
@@ -41,6 +42,9 @@ pub const BILLED: usize = 3383;
 
 pub const CLEARINGS: usize = 3447;
 
+// The entries of all retests, as those of the tests.
+pub const RETESTED: usize = 3639;
+
 // A row's length: of a registration, of what its clearings come to, of an event (area, month and period, then its
 // listing), of a test (taken and month, then its deficits).
 pub const REGISTRATION: usize = 7;
@@ -67,8 +71,8 @@ pub const TEST_DEFICITS: usize = 2;
 
 // Lays a row into the cells: the only loop that writes them.
 pub fn lay(year: &mut Cells, place: usize, row: &[u64])
-    requires { ⌜ length (now year) ≡ 3639 ⌝ }
-    requires { ⌜ place + length (now row) ≤ 3639 ⌝ }
+    requires { ⌜ length (now year) ≡ 3767 ⌝ }
+    requires { ⌜ place + length (now row) ≤ 3767 ⌝ }
     ensures { λ r. ⌜ Laid place (now (row .entry)) (now (year .entry)) (now (year .exit)) ⌝ }
 {
     let mut i: usize = 0;
@@ -83,7 +87,7 @@ pub fn new_year() -> Cells
     ensures equals { λ r. ⌜ yearIn r ≡ newYear ⌝ }
     ensures held { λ r. ⌜ Held r ⌝ }
 {
-    [0u64; 3639]
+    [0u64; 3767]
 }
 
 pub fn opened(year: &Cells) -> bool
@@ -167,4 +171,47 @@ pub fn test_taken(year: &Cells, place: usize) -> bool
 {
     let p = TESTS + TEST * place;
     year[p + 0] != 0
+}
+
+// The month of a place's test, 0 where it has none.
+pub fn test_month(year: &Cells, place: usize) -> u64
+    requires { ⌜ place < 24 ⌝ }
+    ensures { λ r. ⌜ r ≡ getD (yearIn (now (year .entry)) .tests) place pastTest .month ⌝ }
+{
+    let p = TESTS + TEST * place;
+    year[p + 1]
+}
+
+// Does the test of a place list a registration?
+pub fn tested_in(year: &Cells, place: u64, i: usize) -> bool
+    requires { ⌜ Held (now year) ⌝ }
+    requires { ⌜ i < 64 ⌝ }
+    ensures { λ r. ⌜ r ≡ listed (getD (yearIn (now (year .entry)) .tests) place pastTest .listing) i ⌝ }
+{
+    let r = registration_at(year, i);
+    year[TESTED + i] != 0 && 3 * r.zone + r.product == place
+}
+
+// With which reduction, 0 where it does not.
+pub fn first_in(year: &Cells, place: u64, i: usize) -> u64
+    requires { ⌜ Held (now year) ⌝ }
+    requires { ⌜ i < 64 ⌝ }
+    ensures { λ r. ⌜ r ≡ reduction (getD (yearIn (now (year .entry)) .tests) place pastTest .listing) i ⌝ }
+{
+    if tested_in(year, place, i) {
+        year[TESTED + (64 + i)]
+    } else {
+        0
+    }
+}
+
+// A registration's retest.
+pub fn retest_at(year: &Cells, i: usize) -> Retest
+    requires { ⌜ i < 64 ⌝ }
+    ensures { λ r. ⌜ r ≡ retestOf (yearIn (now (year .entry))) i ⌝ }
+{
+    Retest {
+        taken: year[RETESTED + i] != 0,
+        reduction: year[RETESTED + (64 + i)],
+    }
 }

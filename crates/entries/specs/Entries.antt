@@ -1,4 +1,4 @@
--- What questions 10, 11 and 14 ask of a record's entries and deficits.
+-- What questions 10, 11, 14 and 21 ask of a record's entries and deficits.
 use Prim.Native.Nat.{ℕ}
 use mathlib.Core.Bool.{Bool, not, _&&_, _||_, Bool·beq}
 use lib.Dec.{eqb}

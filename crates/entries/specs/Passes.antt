@@ -14,18 +14,7 @@ use Rattle.ids.specs.Tables.{getD-tabulate, is-tabulate}
 use Rattle.year.specs.declared.Listing.{Listing}
 use Rattle.year.specs.declared.Terms.{Terms}
 use Rattle.year.specs.Year.{listed, deficit, seller, size}
-use Rattle.cells.specs.Layout.{flag, listingAt}
 use Rattle.entries.specs.Entries.{deficitsListed}
-
--- the row's marks and deficits
-module _ (row : List ℕ) where
-  pub row-listed : {i : ℕ} → i < 64 → listed (listingAt (at row)) i ≡ flag (at row i)
-  unfolding listed
-  row-listed {i} l = getD-tabulate (λ j. flag (at row j)) 64 i false l
-
-  pub row-deficit : {s : ℕ} → s < 16 → deficit (listingAt (at row)) s ≡ at row (128 + s)
-  unfolding deficit
-  row-deficit {s} l = getD-tabulate (λ j. at row (128 + j)) 16 s 0 l
 
 -- each seller is marked that has an entry among the first i registrations
 pub record Marked (T : Terms) (l : Listing) (marks : List Bool) (i : ℕ) : Type 0 where

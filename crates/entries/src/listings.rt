@@ -5,35 +5,32 @@ ghost use Prim.Native.Nat.{_<_};
 ghost use lib.Dec.{eqb};
 ghost use lib.ListN.{length};
 ghost use Rattle.ids.specs.Ids.{at, anyTo, tabulate};
-ghost use Rattle.year.specs.Year.{registration, listed, seller, size};
-ghost use Rattle.owed.specs.Facts.{factsOf};
-ghost use Rattle.owed.specs.Owed.{called};
+ghost use Rattle.year.specs.Year.{listed, seller, size};
 ghost use Rattle.cells.specs.Layout.{listingAt, yearIn, Held};
 ghost use Rattle.entries.specs.Entries.{everyListed, deficitsListed, listsExactly};
 ghost use Rattle.entries.specs.Meets.{fulfils};
 use crate::Condition;
-use crate::registrations::is_called;
-use crate::registrations::meets;
+use crate::conditions::meets;
 use cells::Cells;
 
 // Does a registration meet the condition, if it is listed?
 fn passes(year: &Cells, listing: &[u64], condition: Condition, i: usize) -> bool
+    requires { ⌜ Held (now year) ⌝ }
     requires { ⌜ length (now listing) ≡ 144 ⌝ }
     requires { ⌜ i < 64 ⌝ }
-    ensures { λ r. ⌜ r ≡ (not (listed (listingAt (at (now (listing .entry)))) i) || fulfils condition (registration (yearIn (now (year .entry)) .terms) i)) ⌝ }
+    ensures { λ r. ⌜ r ≡ (not (listed (listingAt (at (now (listing .entry)))) i) || fulfils (yearIn (now (year .entry))) condition i) ⌝ }
 {
     if listing[i] == 0 {
         return true;
     }
-    let r = cells::registration_at(year, i);
-    meets(r, condition)
+    meets(year, i, condition)
 }
 
 // Does every listed registration meet the condition?
 pub fn every_listed(year: &Cells, listing: &[u64], condition: Condition) -> bool
     requires { ⌜ Held (now year) ⌝ }
     requires { ⌜ length (now listing) ≡ 144 ⌝ }
-    ensures { λ r. ⌜ r ≡ (let T = yearIn (now (year .entry)) .terms in everyListed T (listingAt (at (now (listing .entry)))) (λ i. fulfils condition (registration T i))) ⌝ }
+    ensures { λ r. ⌜ r ≡ (let y = yearIn (now (year .entry)) in everyListed (y .terms) (listingAt (at (now (listing .entry)))) (fulfils y condition)) ⌝ }
 {
     let mut i: usize = 0;
     while i < 64 {
@@ -85,31 +82,21 @@ fn deficits_listed(year: &Cells, listing: &[u64]) -> bool
 pub fn entries_pass(year: &Cells, listing: &[u64], condition: Condition) -> bool
     requires { ⌜ Held (now year) ⌝ }
     requires { ⌜ length (now listing) ≡ 144 ⌝ }
-    ensures { λ r. ⌜ r ≡ (let T = yearIn (now (year .entry)) .terms in let l = listingAt (at (now (listing .entry))) in everyListed T l (λ i. fulfils condition (registration T i)) && deficitsListed T l) ⌝ }
+    ensures { λ r. ⌜ r ≡ (let y = yearIn (now (year .entry)) in let l = listingAt (at (now (listing .entry))) in everyListed (y .terms) l (fulfils y condition) && deficitsListed (y .terms) l) ⌝ }
 {
     every_listed(year, listing, condition) && deficits_listed(year, listing)
 }
 
-// Does a registration meet the condition, and does no accepted event list it?
-fn meets_uncalled(year: &Cells, condition: Condition, i: usize) -> bool
-    requires { ⌜ Held (now year) ⌝ }
-    requires { ⌜ i < 64 ⌝ }
-    ensures { λ r. ⌜ r ≡ (let y = yearIn (now (year .entry)) in fulfils condition (registration (y .terms) i) && not (called (factsOf y) i)) ⌝ }
-{
-    let r = cells::registration_at(year, i);
-    meets(r, condition) && !is_called(year, i)
-}
-
-// Are exactly those listed that meet the condition and that no accepted event lists?
-pub fn lists_uncalled(year: &Cells, listing: &[u64], condition: Condition) -> bool
+// Are exactly those listed that meet the condition?
+pub fn lists_exactly(year: &Cells, listing: &[u64], condition: Condition) -> bool
     requires { ⌜ Held (now year) ⌝ }
     requires { ⌜ length (now listing) ≡ 144 ⌝ }
-    ensures { λ r. ⌜ r ≡ (let y = yearIn (now (year .entry)) in listsExactly (y .terms) (listingAt (at (now (listing .entry)))) (λ i. fulfils condition (registration (y .terms) i) && not (called (factsOf y) i))) ⌝ }
+    ensures { λ r. ⌜ r ≡ (let y = yearIn (now (year .entry)) in listsExactly (y .terms) (listingAt (at (now (listing .entry)))) (fulfils y condition)) ⌝ }
 {
     let mut i: usize = 0;
     while i < 64 {
         let listed = listing[i] != 0;
-        if listed != meets_uncalled(year, condition, i) {
+        if listed != meets(year, i, condition) {
             return false;
         }
         i += 1;

@@ -1,31 +1,58 @@
-// Is there a registration or an LSE at all, and what is asked of one registration.
+// What is asked of the registrations and LSEs at large.
 ghost use mathlib.Core.Path.{_≡_};
 ghost use lib.Dec.{ltb};
 ghost use Prim.Native.Nat.{_<_};
-ghost use Rattle.ids.specs.Ids.{anyTo};
-ghost use Rattle.year.specs.Year.{known, obligation, size, lses};
-ghost use Rattle.owed.specs.Facts.{factsOf};
-ghost use Rattle.owed.specs.Owed.{called};
+ghost use Rattle.ids.specs.Ids.{sumTo, anyTo, only};
+ghost use Rattle.year.specs.Year.{committed, obligation, lses};
 ghost use Rattle.cells.specs.Layout.{yearIn, Held};
 ghost use Rattle.entries.specs.Meets.{fulfils};
 use crate::Condition;
+use crate::conditions::meets;
 use cells::Cells;
-use year::Registration;
+use units::Nominated;
 
-// Is there a registration?
-pub fn any_registration(year: &Cells) -> bool
+// Is there a registration that meets the condition?
+pub fn any_meets(year: &Cells, condition: Condition) -> bool
     requires { ⌜ Held (now year) ⌝ }
-    ensures { λ r. ⌜ r ≡ (let T = yearIn (now (year .entry)) .terms in anyTo (size T) (known T)) ⌝ }
+    ensures { λ r. ⌜ r ≡ anyTo 64 (fulfils (yearIn (now (year .entry))) condition) ⌝ }
 {
     let mut i: usize = 0;
     while i < 64 {
-        let r = cells::registration_at(year, i);
-        if r.known {
+        if meets(year, i, condition) {
             return true;
         }
         i += 1;
     }
     false
+}
+
+// What a registration commits, if it meets the condition.
+fn committed_by(year: &Cells, i: usize, condition: Condition) -> u64
+    requires { ⌜ Held (now year) ⌝ }
+    requires { ⌜ i < 64 ⌝ }
+    ensures { λ r. ⌜ r ≡ (let y = yearIn (now (year .entry)) in only (fulfils y condition) (committed (y .terms)) i) ⌝ }
+{
+    let r = cells::registration_at(year, i);
+    let committed = r.committed;
+    if meets(year, i, condition) {
+        committed.0
+    } else {
+        0
+    }
+}
+
+// What the registrations that meet the condition commit.
+pub fn committed_kw(year: &Cells, condition: Condition) -> Nominated
+    requires { ⌜ Held (now year) ⌝ }
+    ensures { λ r. ⌜ r .0 ≡ (let y = yearIn (now (year .entry)) in sumTo 64 (only (fulfils y condition) (committed (y .terms)))) ⌝ }
+{
+    let mut sum: u64 = 0;
+    let mut i: usize = 0;
+    while i < 64 {
+        sum += committed_by(year, i, condition);
+        i += 1;
+    }
+    Nominated::sum(sum)
 }
 
 // Is there an LSE?
@@ -39,34 +66,6 @@ pub fn any_lse(year: &Cells) -> bool
             return true;
         }
         j += 1;
-    }
-    false
-}
-
-// Does a registration meet the condition?
-pub fn meets(r: Registration, condition: Condition) -> bool
-    ensures { λ b. ⌜ b ≡ fulfils condition r ⌝ }
-{
-    match condition {
-        Condition::InArea(area) => r.known && r.area == area,
-        Condition::InGroup(zone, product) => r.known && (r.zone == zone && r.product == product),
-        Condition::Callable(month, period) => calendar::callable(r.product, month, period),
-    }
-}
-
-// Does an accepted event list the registration?
-pub fn is_called(year: &Cells, i: usize) -> bool
-    requires { ⌜ Held (now year) ⌝ }
-    requires { ⌜ i < 64 ⌝ }
-    ensures { λ r. ⌜ r ≡ called (factsOf (yearIn (now (year .entry)))) i ⌝ }
-{
-    let n = cells::held(year);
-    let mut e: usize = 0;
-    while e < n {
-        if cells::listed_in(year, e, i) {
-            return true;
-        }
-        e += 1;
     }
     false
 }

@@ -1,4 +1,4 @@
--- A record with names (document 01, 'Record layouts'): its head by kind, and what it lists.
+-- A record with names (document 01, 'Record layouts'; document 02, C-11 and C-15): its head by kind, and what it lists.
 use Prim.Native.Nat.{ℕ, zero, suc}
 use mathlib.Core.Bool.{Bool, true, false, cond}
 use mathlib.Core.List.{List, [], _∷_}
@@ -16,8 +16,9 @@ use Rattle.heads.specs.declared.EventHead.{EventHead}
 use Rattle.heads.specs.declared.TestHead.{TestHead}
 use Rattle.heads.specs.declared.CloseHead.{CloseHead}
 use Rattle.heads.specs.declared.ClearingHead.{ClearingHead}
+use Rattle.heads.specs.declared.RetestHead.{RetestHead}
 use Rattle.heads.specs.declared.Head.{Head}
-use Rattle.heads.specs.declared.Head.the-variants.{Opening, Registration, Lse, Event, Test, Close, Clearing}
+use Rattle.heads.specs.declared.Head.the-variants.{Opening, Registration, Lse, Event, Test, Close, Clearing, Retest}
 
 -- entries by registration and deficits by seller; nothing for the kinds without lists
 pub record Record : Type 0 where
@@ -35,7 +36,8 @@ headOf vs =
     (cond (eqb (v 0) 5) (Test (record { zone = v 1; product = v 2; month = v 3 }))
     (cond (eqb (v 0) 6) (Close (record { month = v 1 }))
     (cond (eqb (v 0) 7) (Clearing (record { registration = v 1; price = v 2; kw = v 3 }))
-    (Close (record { month = 0 }))))))))
+    (cond (eqb (v 0) 9) (Retest (record { seller = v 1; zone = v 2; product = v 3; month = v 4 }))
+    (Close (record { month = 0 })))))))))
 
 -- a listing with one item more, its id first: an entry where it has reductions, of which the first is kept, else a deficit
 unfoldable pub withItem : List ℕ → (ℕ → ℕ) → Listing → Listing
@@ -60,40 +62,47 @@ recordOf vs = record { head = headOf vs; listing = listingIn vs }
 
 -- by its kind
 module _ {A : Type 0} where
-  abbrev byKind : (OpeningHead → A) → (RegistrationHead → A) → (LseHead → A) → (EventHead → A) → (TestHead → A) → (CloseHead → A) → (ClearingHead → A) → Head → A
-  byKind o r l e t c p (Opening h) = o h
-  byKind o r l e t c p (Registration h) = r h
-  byKind o r l e t c p (Lse h) = l h
-  byKind o r l e t c p (Event h) = e h
-  byKind o r l e t c p (Test h) = t h
-  byKind o r l e t c p (Close h) = c h
-  byKind o r l e t c p (Clearing h) = p h
+  abbrev byKind : (OpeningHead → A) → (RegistrationHead → A) → (LseHead → A) → (EventHead → A) → (TestHead → A) → (CloseHead → A) → (ClearingHead → A) → (RetestHead → A) → Head → A
+  byKind o r l e t c p a (Opening h) = o h
+  byKind o r l e t c p a (Registration h) = r h
+  byKind o r l e t c p a (Lse h) = l h
+  byKind o r l e t c p a (Event h) = e h
+  byKind o r l e t c p a (Test h) = t h
+  byKind o r l e t c p a (Close h) = c h
+  byKind o r l e t c p a (Clearing h) = p h
+  byKind o r l e t c p a (Retest h) = a h
 
   -- f of the head of one kind, and for the others what g says
   abbrev pub forOpening : (OpeningHead → A) → (Head → A) → Head → A
-  forOpening f g h = byKind f (λ _. g h) (λ _. g h) (λ _. g h) (λ _. g h) (λ _. g h) (λ _. g h) h
+  forOpening f g h = byKind f (λ _. g h) (λ _. g h) (λ _. g h) (λ _. g h) (λ _. g h) (λ _. g h) (λ _. g h) h
 
   abbrev pub forRegistration : (RegistrationHead → A) → (Head → A) → Head → A
-  forRegistration f g h = byKind (λ _. g h) f (λ _. g h) (λ _. g h) (λ _. g h) (λ _. g h) (λ _. g h) h
+  forRegistration f g h = byKind (λ _. g h) f (λ _. g h) (λ _. g h) (λ _. g h) (λ _. g h) (λ _. g h) (λ _. g h) h
 
   abbrev pub forLse : (LseHead → A) → (Head → A) → Head → A
-  forLse f g h = byKind (λ _. g h) (λ _. g h) f (λ _. g h) (λ _. g h) (λ _. g h) (λ _. g h) h
+  forLse f g h = byKind (λ _. g h) (λ _. g h) f (λ _. g h) (λ _. g h) (λ _. g h) (λ _. g h) (λ _. g h) h
 
   abbrev pub forEvent : (EventHead → A) → (Head → A) → Head → A
-  forEvent f g h = byKind (λ _. g h) (λ _. g h) (λ _. g h) f (λ _. g h) (λ _. g h) (λ _. g h) h
+  forEvent f g h = byKind (λ _. g h) (λ _. g h) (λ _. g h) f (λ _. g h) (λ _. g h) (λ _. g h) (λ _. g h) h
 
   abbrev pub forTest : (TestHead → A) → (Head → A) → Head → A
-  forTest f g h = byKind (λ _. g h) (λ _. g h) (λ _. g h) (λ _. g h) f (λ _. g h) (λ _. g h) h
+  forTest f g h = byKind (λ _. g h) (λ _. g h) (λ _. g h) (λ _. g h) f (λ _. g h) (λ _. g h) (λ _. g h) h
 
   abbrev pub forClose : (CloseHead → A) → (Head → A) → Head → A
-  forClose f g h = byKind (λ _. g h) (λ _. g h) (λ _. g h) (λ _. g h) (λ _. g h) f (λ _. g h) h
+  forClose f g h = byKind (λ _. g h) (λ _. g h) (λ _. g h) (λ _. g h) (λ _. g h) f (λ _. g h) (λ _. g h) h
 
   abbrev pub forClearing : (ClearingHead → A) → (Head → A) → Head → A
-  forClearing f g h = byKind (λ _. g h) (λ _. g h) (λ _. g h) (λ _. g h) (λ _. g h) (λ _. g h) f h
+  forClearing f g h = byKind (λ _. g h) (λ _. g h) (λ _. g h) (λ _. g h) (λ _. g h) (λ _. g h) f (λ _. g h) h
 
--- is it a close, and the month that it names, 0 where it names none
+  abbrev pub forRetest : (RetestHead → A) → (Head → A) → Head → A
+  forRetest f g h = byKind (λ _. g h) (λ _. g h) (λ _. g h) (λ _. g h) (λ _. g h) (λ _. g h) (λ _. g h) f h
+
+-- is it a close, and is it a retest of seller s; the month that it names, 0 where it names none
 abbrev pub isClose : Head → Bool
 isClose = forClose (λ c. true) (λ h. false)
 
+abbrev pub isRetestOf : ℕ → Head → Bool
+isRetestOf s = forRetest (λ t. eqb (t .seller) s) (λ h. false)
+
 abbrev pub monthOf : Head → ℕ
-monthOf = forEvent (λ e. e .month) (forTest (λ t. t .month) (forClose (λ c. c .month) (λ h. 0)))
+monthOf = forEvent (λ e. e .month) (forTest (λ t. t .month) (forClose (λ c. c .month) (forRetest (λ t. t .month) (λ h. 0))))

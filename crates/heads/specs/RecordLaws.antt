@@ -2,11 +2,12 @@
 use Prim.Native.Nat.{ℕ, zero, suc, _+_, _≤_, _<_}
 use mathlib.Core.Bool.{Bool, true, false, cond}
 use mathlib.Core.List.{List}
-use mathlib.Core.Path.{_≡_, refl, fun-ext}
+use mathlib.Core.Logic.{_⊎_, inl, inr}
+use mathlib.Core.Path.{_≡_, refl, sym, fun-ext, _∙_}
 use native.Mathlib.Nat.{le-refl}
 use native.Mathlib.Numerals.{add-one}
 use native.Mathlib.Omega.{arith}
-use borrow.Author.Tests.{eqb-true}
+use borrow.Author.Tests.{eqb-true, eqb-false}
 use lib.Dec.{eqb}
 use lib.ListN.{length}
 use Rattle.ids.specs.Ids.{at}
@@ -15,8 +16,10 @@ use Rattle.layouts.specs.Questions.{row}
 use Rattle.layouts.specs.QuestionLaws.{at-row, counts-same, fields-same}
 use Rattle.year.specs.declared.Listing.{Listing}
 use Rattle.year.specs.Year.{noListing}
+use Rattle.heads.specs.declared.RetestHead.{RetestHead}
 use Rattle.heads.specs.declared.Head.{Head}
-use Rattle.heads.specs.Record.{headOf, withItem, withItems, listingTo, listingIn, recordOf}
+use Rattle.heads.specs.declared.Head.the-variants as head
+use Rattle.heads.specs.Record.{headOf, withItem, withItems, listingTo, listingIn, recordOf, forRetest, isRetestOf}
 
 -- a choice of heads that are the same
 either : (b : Bool) {x y z w : Head} → (b ≡ true → x ≡ y) → (b ≡ false → z ≡ w) → cond b x z ≡ cond b y w
@@ -40,7 +43,8 @@ module _ (vs ws : List ℕ) (first : at ws 0 ≡ at vs 0) (same : (j : ℕ) → 
       (λ _. either (eqb k 5) (λ y. let e = eqb-true k 5 y in rw (number 5 1 e (omega arith), number 5 2 e (omega arith), number 5 3 e (omega arith)))
       (λ _. either (eqb k 6) (λ y. rw (number 6 1 (eqb-true k 6 y) (omega arith)))
       (λ _. either (eqb k 7) (λ y. let e = eqb-true k 7 y in rw (number 7 1 e (omega arith), number 7 2 e (omega arith), number 7 3 e (omega arith)))
-      (λ _. refl))))))))
+      (λ _. either (eqb k 9) (λ y. let e = eqb-true k 9 y in rw (number 9 1 e (omega arith), number 9 2 e (omega arith), number 9 3 e (omega arith), number 9 4 e (omega arith)))
+      (λ _. refl)))))))))
 
 -- one item more, and one list more, as a loop says it
 pub items-more : (k : ℕ) (vs : List ℕ) (i : ℕ) (l : Listing) (n : ℕ) → withItems k vs i l (n + 1) ≡ withItem (listAt k i .reductions) (itemIn k vs i n) (withItems k vs i l n)
@@ -81,3 +85,28 @@ record-row vs =
       listing-keeps (λ l n. n ≡ l) vs (row vs) (same 0) (λ j l. same j)
           (λ i m l h a b e. rw (e, fun-ext (λ f. same (itemAt (at vs 0) vs i m + f)))) refl,
     )
+
+-- a head is a retest's, or nothing that is said of retests is said of it
+pub retest-or-not : (h : Head) → ((t : RetestHead) × (h ≡ head.Retest t)) ⊎ ((f : RetestHead → Bool) (g : Head → Bool) → forRetest f g h ≡ g h)
+retest-or-not (head.Opening o) = inr (λ f g. refl)
+retest-or-not (head.Registration r) = inr (λ f g. refl)
+retest-or-not (head.Lse j) = inr (λ f g. refl)
+retest-or-not (head.Event e) = inr (λ f g. refl)
+retest-or-not (head.Test t) = inr (λ f g. refl)
+retest-or-not (head.Close c) = inr (λ f g. refl)
+retest-or-not (head.Clearing c) = inr (λ f g. refl)
+retest-or-not (head.Retest t) = inl (t, refl)
+
+pub is-retest : (s : ℕ) (h : Head) → isRetestOf s h ≡ true → (t : RetestHead) × (h ≡ head.Retest t) × (t .seller ≡ s)
+is-retest s h e = elim (retest-or-not h) [
+  | inl r ↦ (r .0, r .1, eqb-true (r .0 .seller) s (rw (r .1) at e))
+  | inr o ↦ absurd (let z : _≡_ {A = ℕ} 0 1 = cc (e, o (λ t. eqb (t .seller) s) (λ h. false)) in omega arith)
+]
+
+-- what is said alike of the retests of sellers other than s is said alike of what is no retest of s's
+pub other-retests : {f f' : RetestHead → Bool} (g : Head → Bool) (s : ℕ) (h : Head) → isRetestOf s h ≡ false → ((t : RetestHead) → (t .seller ≡ s → ⊥) → f t ≡ f' t)
+    → forRetest f g h ≡ forRetest f' g h
+other-retests {f} {f'} g s h e same = elim (retest-or-not h) [
+  | inl r ↦ rw (r .1) (same (r .0) (eqb-false (r .0 .seller) s (rw (r .1) at e)))
+  | inr o ↦ o f g ∙ sym (o f' g)
+]

@@ -1,12 +1,11 @@
 -- What question 3 says of a head: its fields within their limits, as far as the year and the code rest on them.
-use Prim.Native.Nat.{_≤_, _<_}
+use Prim.Native.Nat.{ℕ, _≤_, _<_}
 use Rattle.year.specs.Sound.{Factors}
 use Rattle.heads.specs.declared.RegistrationHead.{RegistrationHead}
 use Rattle.heads.specs.declared.LseHead.{LseHead}
-use Rattle.heads.specs.declared.TestHead.{TestHead}
 use Rattle.heads.specs.declared.ClearingHead.{ClearingHead}
 use Rattle.heads.specs.declared.Head.{Head}
-use Rattle.heads.specs.declared.Head.the-variants.{Opening, Registration, Lse, Event, Test, Close, Clearing}
+use Rattle.heads.specs.declared.Head.the-variants.{Opening, Registration, Lse, Event, Test, Close, Clearing, Retest}
 
 pub record RegistrationWithin (r : RegistrationHead) : Type 0 where
   pub id : r .id < 64
@@ -22,9 +21,10 @@ pub record LseWithin (j : LseHead) : Type 0 where
   pub id : j .id < 16
   pub obligation : j .obligation ≤ 1000000
 
-pub record TestWithin (t : TestHead) : Type 0 where
-  pub zone : t .zone < 8
-  pub product : t .product < 3
+-- a zone and a product
+pub record GroupWithin (z p : ℕ) : Type 0 where
+  pub zone : z < 8
+  pub product : p < 3
 
 pub record ClearingWithin (c : ClearingHead) : Type 0 where
   pub registration : c .registration < 64
@@ -37,6 +37,7 @@ Within (Opening o) = Factors (o .leap) (o .factor) (o .requirement)
 Within (Registration r) = RegistrationWithin r
 Within (Lse j) = LseWithin j
 Within (Event e) = e .month ≤ 12
-Within (Test t) = TestWithin t
+Within (Test t) = GroupWithin (t .zone) (t .product)
 Within (Close c) = c .month ≤ 15
 Within (Clearing c) = ClearingWithin c
+Within (Retest t) = GroupWithin (t .zone) (t .product)

@@ -51,6 +51,13 @@ pub struct ClearingHead {
     pub kw: u64,
 }
 
+pub struct RetestHead {
+    pub seller: u64,
+    pub zone: u64,
+    pub product: u64,
+    pub month: u64,
+}
+
 pub enum Head {
     Opening(OpeningHead),
     Registration(RegistrationHead),
@@ -59,6 +66,7 @@ pub enum Head {
     Test(TestHead),
     Close(CloseHead),
     Clearing(ClearingHead),
+    Retest(RetestHead),
 }
 
 // The head of a record with these numbers.
@@ -113,6 +121,14 @@ pub fn head_of(values: &[u64]) -> Head
             registration: values[1],
             price: values[2],
             kw: values[3],
+        });
+    }
+    if kind == 9 {
+        return Head::Retest(RetestHead {
+            seller: values[1],
+            zone: values[2],
+            product: values[3],
+            month: values[4],
         });
     }
     Head::Close(CloseHead { month: 0 }) // no kind

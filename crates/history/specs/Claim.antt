@@ -62,7 +62,7 @@ pub record Demand3 (answers : List Call → List Answered) (H : List Call) : Typ
   pub closed :
       (before : List Answered) (x : Answered) (after : List Answered) → answers H ≡ before ++ x ∷ after
       → isClosing x ≡ true → AtClose before x
-  -- replacing one seller's reductions changes neither which records are accepted nor any other seller's charge lines
+  -- replacing one seller's reductions changes neither which records are accepted, but for that seller's retests, nor any other seller's charge lines
   pub independent :
       (s : ℕ) (G : List Call) → Variant s [] (answers H) G
-      → (acceptances (answers G) ≡ acceptances (answers H)) × ((r : ℕ) → (r ≡ s → ⊥) → chargeLines r (answers G) ≡ chargeLines r (answers H))
+      → (acceptances s (answers G) ≡ acceptances s (answers H)) × ((r : ℕ) → (r ≡ s → ⊥) → chargeLines r (answers G) ≡ chargeLines r (answers H))

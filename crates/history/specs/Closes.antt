@@ -31,7 +31,7 @@ use Rattle.history.specs.Admitted.{accepted-admitted}
 use Rattle.history.specs.Columns.{Column, party, column, lineIn}
 use Rattle.history.specs.ReadColumns.{reads}
 use Rattle.history.specs.Kept.{never}
-use Rattle.history.specs.Does.{Does, terms, event, test, close, does}
+use Rattle.history.specs.Does.{Does, terms, event, test, close, retest, does}
 
 -- a close is what passes for one
 is-close : {h : Head} → Does h → isClose h ≡ true → (c : CloseHead) × (h ≡ Close c)
@@ -39,6 +39,7 @@ is-close (terms x) e = never (x .other) e
 is-close (event v q) e = never refl (rw q at e)
 is-close (test t q) e = never refl (rw q at e)
 is-close (close c q) e = (c, q)
+is-close (retest t q) e = never refl (rw q at e)
 
 -- anything else leaves what is billed and the count of closes
 other-by : {h : Head} → Does h → isClose h ≡ false → (y : Year) (l : Listing) → (yearBy y l h .billed ≡ y .billed) × (yearBy y l h .closed ≡ y .closed)
@@ -47,6 +48,7 @@ other-by (terms x) e y l = rw (x .is y l) (refl, refl)
 other-by (event v q) e y l = rw q (refl, refl)
 other-by (test t q) e y l = rw q (refl, refl)
 other-by (close c q) e y l = never (rw q at e) refl
+other-by (retest t q) e y l = rw q (refl, refl)
 
 module _ (y : Year) (c : Call) where
   abbrev record-of : Record

@@ -20,6 +20,7 @@ use Rattle.heads.specs.declared.OpeningHead.{OpeningHead}
 use Rattle.heads.specs.declared.EventHead.{EventHead}
 use Rattle.heads.specs.declared.TestHead.{TestHead}
 use Rattle.heads.specs.declared.CloseHead.{CloseHead}
+use Rattle.heads.specs.declared.RetestHead.{RetestHead}
 use Rattle.heads.specs.declared.Head.{Head}
 use Rattle.heads.specs.declared.Head.the-variants as head
 use Rattle.heads.specs.Record.{isClose}
@@ -41,12 +42,13 @@ pub record Sets (h : Head) : Type 0 where
   pub fresh : {y : Year} {l : Listing} {room : ℕ} → (y .started ≡ true → y .opened ≡ true) → Admitted inTime y (record { head = h; listing = l }) room → y .started ≡ false
   pub other : isClose h ≡ false
 
--- the others add an event, a test or a close
+-- the others add an event, a test, a close or a retest
 pub data Does (h : Head) : Type 0 where
   terms : Sets h → Does h
   event : (e : EventHead) → h ≡ head.Event e → Does h
   test : (t : TestHead) → h ≡ head.Test t → Does h
   close : (c : CloseHead) → h ≡ head.Close c → Does h
+  retest : (t : RetestHead) → h ≡ head.Retest t → Does h
 
 every-known : (T : Terms) (l : Listing) (p : ℕ → Bool) → ((i : ℕ) → p i ≡ true → known T i ≡ true) → everyListed T l p ≡ true → Knows T l
 unfolding everyListed
@@ -155,3 +157,4 @@ does (head.Clearing c) =
       fresh = λ b a. not-started refl a;
       other = refl;
     })
+does (head.Retest t) = retest t refl

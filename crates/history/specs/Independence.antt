@@ -1,6 +1,6 @@
--- Replacing one seller's reductions changes neither which records are accepted nor another seller's charge lines: two runs whose years are the same for all sellers but that one.
+-- Replacing one seller's reductions changes neither which records are accepted, but for that seller's retests, nor another seller's charge lines: two runs whose years are the same for all sellers but that one.
 use Prim.Native.Nat.{ℕ}
-use mathlib.Core.Bool.{Bool, true, false, cond}
+use mathlib.Core.Bool.{Bool, true, false, _&&_, _||_, cond, and-false, or-true}
 use mathlib.Core.List.{List, [], _∷_}
 use mathlib.Core.Path.{_≡_, refl, ap, sym, _∙_}
 use native.Mathlib.Omega.{arith}
@@ -10,15 +10,16 @@ use Rattle.ids.specs.Ids.{at}
 use Rattle.layouts.specs.Questions.{firstFailed}
 use Rattle.year.specs.declared.Listing.{Listing}
 use Rattle.year.specs.declared.Year.{Year}
-use Rattle.year.specs.Year.{newYear}
+use Rattle.year.specs.Year.{newYear, listed}
 use Rattle.owed.specs.Facts.{factsOf}
 use Rattle.owed.specs.Owed.{amounts}
 use Rattle.heads.specs.declared.Head.{Head}
-use Rattle.heads.specs.Record.{Record, monthOf}
+use Rattle.heads.specs.Record.{Record, isClose, monthOf}
+use Rattle.heads.specs.RecordLaws.{is-retest}
 use Rattle.recorded.specs.After.{yearBy, yearWith}
 use Rattle.recorded.specs.Recorded.{gather, alone, termsIn, recorded}
 use Rattle.recorded.specs.Booked.{booked, booked-new}
-use Rattle.questions.specs.Questions.{inTime, questions}
+use Rattle.questions.specs.Questions.{inTime}
 use Rattle.questions.specs.Admitted.{Admitted, event-held}
 use Rattle.questions.specs.Blind.{records-blind}
 use Rattle.book.specs.Outcome.{recordIn}
@@ -28,12 +29,13 @@ use Rattle.history.specs.Taking.{buffered, shown, step, answered, answer
 use Rattle.history.specs.Claim.{chargeLine, chargeLines}
 use Rattle.history.specs.Along.{step-by, step-booked}
 use Rattle.history.specs.Admitted.{accepted-admitted}
-use Rattle.history.specs.Does.{Does, terms, event, test, close, does}
+use Rattle.history.specs.Does.{Does, terms, event, test, close, retest, does}
 use Rattle.history.specs.Columns.{Column, pays, tests, column, lineIn}
 use Rattle.history.specs.Kept.{Kept, kept-new, kept-step}
 use Rattle.history.specs.Closes.{close-line}
-use Rattle.history.specs.Same.{SameListing, Same, same-new, same-terms, same-event, same-test, same-close}
+use Rattle.history.specs.Same.{SameListing, Same, same-new, same-terms, same-event, same-test, same-retests, same-retest, same-close}
 use Rattle.history.specs.Blind.{years-blind}
+use Rattle.history.specs.OwnRetests.{isOwnRetest, own-retest}
 use Rattle.history.specs.Paired.{Paired, paired}
 use Rattle.history.specs.TwoRuns.{Abreast, none, both, two-runs}
 
@@ -50,31 +52,55 @@ module _ {s : ℕ} {y z : Year} (h : Related s y z) where
   same-record {l} {m} (terms x) = λ a q.
       rw (x .is y l, x .is z m, ← (h .same .terms), ← (h .same .clearings), ← (h .same .opened)) (same-terms (h .same) (h .left .sound) (h .right .sound) (x .fresh (h .left .begun) a) _ _ _)
   same-record (event e n) = rw n (λ a q. same-event (h .same) (h .left .sound) (h .right .sound) (event-held a) (record { month = refl; period = refl; listing = q }))
-  same-record (test t n) = rw n (λ a q. same-test (h .same) (h .left .sound) (h .right .sound) _ (record { taken = refl; listing = q }))
+  same-record (test t n) = rw n (λ a q. same-test (h .same) (h .left .sound) (h .right .sound) _ (record { taken = refl; month = refl; listing = q }))
   same-record (close c n) = rw n (λ a q. same-close (h .same) (c .month))
+  same-record (retest t n) = rw n (λ a q. same-retest (h .same) q)
 
-  -- a call and its variant: accepted alike, the years after them related, and the same lines
+  -- a call and its variant, if it is no retest of s's: accepted alike, and the years after them related
   module _ {c d : Call} (p : Paired s y c d) where
-    same-questions : questions inTime y (recordIn (c .bytes)) (length (c .buffer)) ≡ questions inTime z (recordIn (d .bytes)) (length (d .buffer))
-    same-questions =
-        records-blind inTime (length (c .buffer)) y (recordIn (c .bytes)) (recordIn (d .bytes)) (p .alike .heads) (p .alike .listings .listed) (p .alike .listings .deficits)
-        ∙ rw (p .room) (years-blind inTime (length (d .buffer)) (h .same) (recordIn (d .bytes)))
-
-    same-accepts : accepts y c ≡ accepts z d
+    same-accepts : isOwnRetest s c ≡ false → accepts y c ≡ accepts z d
     unfolding isAccepted
-    same-accepts =
-        ap (λ n. eqb n 0) (same-post y z (c .bytes) (d .bytes) (length (c .buffer)) (length (d .buffer)) (p .number) (ap firstFailed same-questions))
+    same-accepts o =
+        let records = records-blind inTime (length (c .buffer)) y (recordIn (c .bytes)) (recordIn (d .bytes)) (p .alike .heads) (p .alike .listings .listed) (p .alike .listings .deficits) in
+        let years = years-blind (h .same) inTime (length (d .buffer)) (recordIn (d .bytes)) (rw (p .alike .heads) at o) in
+        ap (λ n. eqb n 0) (same-post y z (c .bytes) (d .bytes) (length (c .buffer)) (length (d .buffer)) (p .number) (ap firstFailed (records ∙ rw (p .room) years)))
 
-    same-closes : closes y c ≡ closes z d
-    unfolding isClosing
-    same-closes = rw (same-accepts, p .alike .heads)
-
-    related-step : Related s (step y c) (step z d)
-    related-step = record { same = rw (step-by y c, step-by z d, ← same-accepts) (go (accepts y c) refl); left = kept-step (h .left) c; right = kept-step (h .right) d }
+    same-step : isOwnRetest s c ≡ false → Same s (step y c) (step z d)
+    same-step o = rw (step-by y c, step-by z d, ← (same-accepts o)) (go (accepts y c) refl)
       where
         go : (b : Bool) → accepts y c ≡ b → Same s (cond b (yearWith y (recordIn (c .bytes))) y) (cond b (yearWith z (recordIn (d .bytes))) z)
         go false e = h .same
         go true e = rw (← (p .alike .heads)) (same-record (does (recordIn (c .bytes) .head)) (accepted-admitted y c e) (p .alike .listings))
+
+    -- a retest of s's may be accepted otherwise: it changes s's retests alone
+    own-step : isOwnRetest s c ≡ true → Same s (step y c) (step z d)
+    own-step o =
+        let first = own-retest s y c (h .left .sound) o in
+        let second = own-retest s z d (h .right .sound) (rw (p .alike .heads) at o) in
+        rw (first .1, second .1) (same-retests (h .same) (λ i n. sym (first .2 i n) ∙ h .same .retests i n ∙ second .2 i (rw (h .same .terms) at n)))
+
+    related-step : Related s (step y c) (step z d)
+    related-step = record { same = go (isOwnRetest s c) refl; left = kept-step (h .left) c; right = kept-step (h .right) d }
+      where
+        go : (b : Bool) → isOwnRetest s c ≡ b → Same s (step y c) (step z d)
+        go false o = same-step o
+        go true o = own-step o
+
+    -- at each position: accepted, or s's retest
+    same-position : (accepts y c || isOwnRetest s c) ≡ (accepts z d || isOwnRetest s d)
+    same-position = rw (← (p .alike .heads)) (go (isOwnRetest s c) refl)
+      where
+        go : (b : Bool) → isOwnRetest s c ≡ b → (accepts y c || b) ≡ (accepts z d || b)
+        go false o = rw (same-accepts o)
+        go true o = or-true (accepts y c) ∙ sym (or-true (accepts z d))
+
+    same-closes : closes y c ≡ closes z d
+    unfolding isClosing
+    same-closes = rw (← (p .alike .heads)) (go (isOwnRetest s c) refl)
+      where
+        go : (b : Bool) → isOwnRetest s c ≡ b → (accepts y c && isClose (recordIn (c .bytes) .head)) ≡ (accepts z d && isClose (recordIn (c .bytes) .head))
+        go false o = rw (same-accepts o)
+        go true o = rw (is-retest s (recordIn (c .bytes) .head) o .1) (and-false (accepts y c) ∙ sym (and-false (accepts z d)))
 
     -- what a close says of another seller
     module _ {r : ℕ} (n : r ≡ s → ⊥) where
@@ -123,8 +149,9 @@ module _ (s : ℕ) where
     alike f same =
         two-runs shown shown step step (Related s) P (λ y z c d h p. related-step h p) f f same related (abreast v H newYear newYear (sym booked-new) refl)
 
-    pub accepted-alike : acceptances (answers newYear G) ≡ acceptances (answers newYear H)
-    accepted-alike = sym (alike (λ x. isAccepted x ∷ []) (λ y z c d h p. rw (same-accepts h p)))
+    pub accepted-alike : acceptances s (answers newYear G) ≡ acceptances s (answers newYear H)
+    accepted-alike =
+        sym (alike (λ x. (isAccepted x || isOwnRetest s (x .call)) ∷ []) (λ y z c d h p. rw (same-position h p)))
 
     pub charged-alike : (r : ℕ) → (r ≡ s → ⊥) → chargeLines r (answers newYear G) ≡ chargeLines r (answers newYear H)
     charged-alike r n = sym (alike (λ x. alone (isClosing x) (chargeLine r (x .after))) (λ y z c d h p. same-lines h p n))

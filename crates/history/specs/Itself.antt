@@ -1,7 +1,7 @@
--- Demand 3 speaks of variants that there are: H is one of itself, and for every choice of reductions from 0 to 100,000 the record that writing gives is one.
+-- Demand 3 speaks of variants that there are: H is one of itself, and so it is with one record varied; for every choice of reductions from 0 to 100,000 the record that writing gives is varied so.
 use Prim.Native.Nat.{ℕ, _≤_}
 use mathlib.Core.Bool.{Bool, true, false, cond}
-use mathlib.Core.List.{List, [], _∷_, _++_}
+use mathlib.Core.List.{List, [], _∷_, _++_, append-nil, append-assoc}
 use mathlib.Core.Path.{_≡_, refl, sym}
 use native.Mathlib.Nat.{le-refl}
 use lib.ListN.{length, drop}
@@ -19,9 +19,9 @@ use Rattle.year.specs.declared.Terms.{Terms}
 use Rattle.year.specs.declared.Year.{Year}
 use Rattle.year.specs.Year.{newYear}
 use Rattle.heads.specs.Record.{Record}
-use Rattle.recorded.specs.Recorded.{termsIn}
-use Rattle.history.specs.Runs.{Call, recordFrom, isOwn, Varied, refused, accepted, Variant, done, next}
-use Rattle.history.specs.Taking.{shown, step, answered, answers, accepts}
+use Rattle.recorded.specs.Recorded.{gather, termsIn}
+use Rattle.history.specs.Runs.{Call, recordFrom, acceptedIn, isOwn, Varied, refused, accepted, Variant, done, next}
+use Rattle.history.specs.Taking.{shown, step, answered, answers, run, accepts}
 use Rattle.history.specs.Admitted.{accepted-record}
 
 -- each number in its own place
@@ -54,10 +54,25 @@ module _ (s : ℕ) (rs : List Record) (y : Year) (c : Call) where
       let back = write-reads ws room ok rest in
       accepted e (back .accepts) f (back .numbers) (drop-at (bytesBy ws) rest (consumed (bytesBy ws ++ rest)) (sym (back .uses))) l
 
-pub variant-itself : (s : ℕ) (H : List Call) → Variant s [] (answers newYear H) H
-unfolding answered
-variant-itself s H = go [] newYear H
-  where
-    go : (rs : List Record) (y : Year) (cs : List Call) → Variant s rs (answers y cs) cs
-    go rs y [] = done
-    go rs y (c ∷ cs) = next (itself s rs y c) (go (rs ++ recordFrom (shown y c)) (step y c) cs)
+module _ (s : ℕ) where
+  -- calls as they are
+  kept : (rs : List Record) (y : Year) (cs : List Call) → Variant s rs (answers y cs) cs
+  unfolding answered
+  kept rs y [] = done
+  kept rs y (c ∷ cs) = next (itself s rs y c) (kept (rs ++ recordFrom (shown y c)) (step y c) cs)
+
+  pub variant-itself : (H : List Call) → Variant s [] (answers newYear H) H
+  variant-itself H = kept [] newYear H
+
+  -- with one of them varied
+  one-varied : (rs : List Record) (y : Year) (cs : List Call) {c d : Call} (ds : List Call) → Varied s (rs ++ acceptedIn (answers y cs)) (shown (run y cs) c) d
+      → Variant s rs (answers y (cs ++ c ∷ ds)) (cs ++ d ∷ ds)
+  unfolding answered run gather
+  one-varied rs y [] {c} ds v = next (rw (append-nil rs) at v) (kept (rs ++ recordFrom (shown y c)) (step y c) ds)
+  one-varied rs y (x ∷ cs) {c} {d} ds v =
+      let new = recordFrom (shown y x) in
+      next (itself s rs y x) (one-varied (rs ++ new) (step y x) cs {c = c} {d = d} ds (rw (append-assoc rs new (acceptedIn (answers (step y x) cs))) v))
+
+  pub variant-one : (cs : List Call) {c d : Call} (ds : List Call) → Varied s (acceptedIn (answers newYear cs)) (shown (run newYear cs) c) d
+      → Variant s [] (answers newYear (cs ++ c ∷ ds)) (cs ++ d ∷ ds)
+  variant-one = one-varied [] newYear

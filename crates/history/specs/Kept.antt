@@ -30,7 +30,7 @@ use Rattle.history.specs.Runs.{Call, isAccepted}
 use Rattle.history.specs.Taking.{accepts, step, run}
 use Rattle.history.specs.Along.{step-by}
 use Rattle.history.specs.Admitted.{accepted-admitted}
-use Rattle.history.specs.Does.{Knows, Does, terms, event, test, close, does, event-open, event-knows, test-open, test-knows, close-open, close-obliged}
+use Rattle.history.specs.Does.{Knows, Does, terms, event, test, close, retest, does, event-open, event-knows, test-open, test-knows, close-open, close-obliged}
 use Rattle.history.specs.Billed.{Billed, billed-none, billed-amounts}
 
 -- sound; opened before the first event, test or close; nothing billed before them; every listed registration known; what is billed balances
@@ -66,7 +66,7 @@ kept-new =
     }
 
 -- soundness of the year after an accepted record
-accepted-sound : {y : Year} → Sound y → (c : Call) → accepts y c ≡ true → Sound (yearWith y (recordIn (c .bytes)))
+pub accepted-sound : {y : Year} → Sound y → (c : Call) → accepts y c ≡ true → Sound (yearWith y (recordIn (c .bytes)))
 unfolding isAccepted yearAfter
 accepted-sound S c e = rw e at (sound-after S (c .bytes) (length (c .buffer)))
 
@@ -114,6 +114,14 @@ module _ {y : Year} (k : Kept y) {l : Listing} {room : ℕ} where
         known = record { events = k .known .events; tests = k .known .tests };
         billed = billed-amounts (k .sound) (k .known) (rw (lses-is (k .sound .terms)) at (close-obliged a)) (c .month);
       })
+  kept-by (retest t q) = rw q (λ a s.
+      record {
+        sound = s;
+        begun = k .begun;
+        unbilled = k .unbilled;
+        known = record { events = k .known .events; tests = k .known .tests };
+        billed = k .billed;
+      })
 
   -- once begun, the terms stay
   frozen-by : {h : Head} → Does h → Admitted inTime y (record { head = h; listing = l }) room → y .started ≡ true
@@ -123,6 +131,7 @@ module _ {y : Year} (k : Kept y) {l : Listing} {room : ℕ} where
   frozen-by (event e q) a b = rw q (refl, refl)
   frozen-by (test t q) a b = rw q (refl, refl)
   frozen-by (close c q) a b = rw q (refl, refl)
+  frozen-by (retest t q) a b = rw q (b, refl)
 
 -- what a call does
 module _ {y : Year} (k : Kept y) (c : Call) where

@@ -18,6 +18,9 @@ pub mod Answers
 pub mod Same
 pub mod Alike
 pub mod Blind
+pub mod OwnRetests
+pub mod Retried
+pub mod HadRetest
 pub mod Paired
 pub mod TwoRuns
 pub mod Independence

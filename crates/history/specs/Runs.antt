@@ -1,6 +1,6 @@
 -- Calls that take a record (document 01, 'The lists of demand 3'), and what is read off a list of calls that are answered.
 use Prim.Native.Nat.{ℕ}
-use mathlib.Core.Bool.{Bool, true, false, _&&_}
+use mathlib.Core.Bool.{Bool, true, false, _&&_, _||_}
 use mathlib.Core.List.{List, [], _∷_, _++_}
 use mathlib.Core.Path.{_≡_}
 use lib.ListN.{length, drop}
@@ -10,7 +10,7 @@ use Rattle.reductions.specs.Reductions.{withReductions}
 use Rattle.layouts.specs.Questions.{numbersOf, recordNumber, consumed}
 use Rattle.year.specs.declared.Terms.{Terms}
 use Rattle.year.specs.Year.{seller}
-use Rattle.heads.specs.Record.{Record, isClose}
+use Rattle.heads.specs.Record.{Record, isClose, isRetestOf}
 use Rattle.recorded.specs.Recorded.{gather, alone, termsIn}
 use Rattle.book.specs.Outcome.{recordIn}
 
@@ -32,10 +32,11 @@ isAccepted x = eqb (x .number) 0
 unfoldable pub isClosing : Answered → Bool
 isClosing x = isAccepted x && isClose (recordIn (x .call .bytes) .head)
 
--- of a list: which calls are accepted, by position; the accepted records; the statements, which stand in the buffer after each accepted close
-abbrev pub acceptances : List Answered → List Bool
-acceptances = gather (λ x. isAccepted x ∷ [])
+-- of a list, by position: is the call accepted, or seller s's retest, which alone may be accepted otherwise when s's reductions are replaced
+abbrev pub acceptances : ℕ → List Answered → List Bool
+acceptances s = gather (λ x. (isAccepted x || isRetestOf s (recordIn (x .call .bytes) .head)) ∷ [])
 
+-- the accepted records; the statements, which stand in the buffer after each accepted close
 abbrev pub recordFrom : Answered → List Record
 recordFrom x = alone (isAccepted x) (recordIn (x .call .bytes))
 

@@ -1,6 +1,6 @@
 -- Two years that are the same for all sellers but s. Steps that are the same for these keep them so.
 use Prim.Native.Nat.{ℕ, _+_, _<_}
-use mathlib.Core.Bool.{Bool, false}
+use mathlib.Core.Bool.{Bool, false, cond}
 use mathlib.Core.List.{List}
 use mathlib.Core.Path.{_≡_, refl, ap, sym, _∙_}
 use native.Mathlib.Decide.{decLt}
@@ -15,10 +15,11 @@ use Rattle.year.specs.declared.Clearings.{Clearings}
 use Rattle.year.specs.declared.Listing.{Listing}
 use Rattle.year.specs.declared.Event.{Event}
 use Rattle.year.specs.declared.Test.{Test}
+use Rattle.year.specs.declared.Retest.{Retest}
 use Rattle.year.specs.declared.Terms.{Terms}
 use Rattle.year.specs.declared.Year.{Year}
-use Rattle.year.specs.Year.{newYear, noTest, pastEvent, pastTest, listed, reduction, deficit, seller}
-use Rattle.year.specs.Steps.{withTerms, withEvent, withTest, withClose}
+use Rattle.year.specs.Year.{newYear, noTest, noRetest, retestOf, pastEvent, pastTest, listed, reduction, deficit, seller}
+use Rattle.year.specs.Steps.{withTerms, withEvent, withTest, withRetests, retestBy, withRetest, withClose}
 use Rattle.year.specs.Sound.{Sound}
 use Rattle.owed.specs.Facts.{factsOf, sellers}
 use Rattle.owed.specs.Owed.{own, ofArea, areaRate, rate, called, compliance, test, amounts}
@@ -38,13 +39,18 @@ module _ (T : Terms) (s : ℕ) where
 
   pub record SameTest (a b : Test) : Type 0 where
     pub taken : a .taken ≡ b .taken
+    pub month : a .month ≡ b .month
     pub listing : SameListing (a .listing) (b .listing)
 
   pub listing-refl : (a : Listing) → SameListing a a
   listing-refl a = record { listed = refl; deficits = refl; reductions = λ i n. refl }
 
   test-refl : (a : Test) → SameTest a a
-  test-refl a = record { taken = refl; listing = listing-refl (a .listing) }
+  test-refl a = record { taken = refl; month = refl; listing = listing-refl (a .listing) }
+
+-- what two years have of retests is the same but for those of seller s's registrations
+abbrev pub SameRetests : Terms → ℕ → List Retest → List Retest → Type 0
+SameRetests T s rs ts = (i : ℕ) → (seller T i ≡ s → ⊥) → getD rs i noRetest ≡ getD ts i noRetest
 
 -- and so are two years, but for seller s's amounts, and all credits
 pub record Same (s : ℕ) (y z : Year) : Type 0 where
@@ -56,18 +62,19 @@ pub record Same (s : ℕ) (y z : Year) : Type 0 where
   pub clearings : y .clearings ≡ z .clearings
   pub events : (ev : ℕ) → ev < y .held → SameEvent (y .terms) s (getD (y .events) ev pastEvent) (getD (z .events) ev pastEvent)
   pub tests : (p : ℕ) → SameTest (y .terms) s (getD (y .tests) p pastTest) (getD (z .tests) p pastTest)
+  pub retests : SameRetests (y .terms) s (y .retests) (z .retests)
   pub pays : (r : ℕ) → (r ≡ s → ⊥) → at (y .billed .compliance) r ≡ at (z .billed .compliance) r
   pub fails : (r : ℕ) → (r ≡ s → ⊥) → at (y .billed .test) r ≡ at (z .billed .test) r
 
 pub same-new : (s : ℕ) → Same s newYear newYear
 same-new s =
-    record { opened = refl; started = refl; closed = refl; held = refl; terms = refl; clearings = refl; events = λ ev l. absurd (not-suc-le-zero l); tests = λ p. test-refl (newYear .terms) s (getD (newYear .tests) p pastTest); pays = λ r n. refl; fails = λ r n. refl }
+    record { opened = refl; started = refl; closed = refl; held = refl; terms = refl; clearings = refl; events = λ ev l. absurd (not-suc-le-zero l); tests = λ p. test-refl (newYear .terms) s (getD (newYear .tests) p pastTest); retests = λ i n. refl; pays = λ r n. refl; fails = λ r n. refl }
 
 -- two tables at one place
-table-at : (n : ℕ) (f g : ℕ → ℕ) (i : ℕ) → f i ≡ g i → at (tabulate n f) i ≡ at (tabulate n g) i
-table-at n f g i e = elim (decLt i n) [
-  | yes l ↦ getD-tabulate f n i 0 l ∙ e ∙ sym (getD-tabulate g n i 0 l)
-  | no l ↦ List·getD-eq-default (tabulate n f) 0 (omega (arith, length-tabulate f n)) ∙ sym (List·getD-eq-default (tabulate n g) 0 (omega (arith, length-tabulate g n)))
+pub table-at : {A : Type 0} (n : ℕ) (d : A) (f g : ℕ → A) (i : ℕ) → f i ≡ g i → getD (tabulate n f) i d ≡ getD (tabulate n g) i d
+table-at n d f g i e = elim (decLt i n) [
+  | yes l ↦ getD-tabulate f n i d l ∙ e ∙ sym (getD-tabulate g n i d l)
+  | no l ↦ List·getD-eq-default (tabulate n f) d (omega (arith, length-tabulate f n)) ∙ sym (List·getD-eq-default (tabulate n g) d (omega (arith, length-tabulate g n)))
 ]
 
 module _ {s : ℕ} {y z : Year} (h : Same s y z) where
@@ -76,7 +83,7 @@ module _ {s : ℕ} {y z : Year} (h : Same s y z) where
   listed-same ev l i = rw (h .events ev l .listing .listed)
 
   -- their facts agree in what is another seller's
-  same-facts : (r : ℕ) → (r ≡ s → ⊥) → independent.Same r (factsOf y) (factsOf z)
+  pub same-facts : (r : ℕ) → (r ≡ s → ⊥) → independent.Same r (factsOf y) (factsOf z)
   unfolding listed deficit own ofArea areaRate rate
   same-facts r n =
       record {
@@ -96,6 +103,8 @@ module _ {s : ℕ} {y z : Year} (h : Same s y z) where
         reduction = λ ev l i own. h .events ev l .listing .reductions i (λ q. n (sym own ∙ q));
         tested = λ p i own. rw (h .tests p .listing .listed);
         testReduction = λ p i own. h .tests p .listing .reductions i (λ q. n (sym own ∙ q));
+        retested = λ i own. ap (λ (x : Retest). x .taken) (h .retests i (λ q. n (sym own ∙ q)));
+        retestReduction = λ i own. ap (λ (x : Retest). x .reduction) (h .retests i (λ q. n (sym own ∙ q)));
       }
 
   -- every registration is called in both or in neither
@@ -119,6 +128,7 @@ module _ {s : ℕ} {y z : Year} (h : Same s y z) where
         clearings = refl;
         events = λ ev l. absurd (omega (arith, f .0));
         tests = rw (f .2, g .2) (λ p. test-refl T s (getD (replicate 24 noTest) p pastTest));
+        retests = rw (f .3, g .3) (λ i n. refl);
         pays = h .pays;
         fails = h .fails;
       }
@@ -136,6 +146,7 @@ module _ {s : ℕ} {y z : Year} (h : Same s y z) where
             rw (← (h .held))
             (related-next (SameEvent (y .terms) s) pastEvent (y .events) (z .events) (y .held) (omega (arith, S .events .long)) (omega (arith, U .events .long)) q (h .events));
         tests = h .tests;
+        retests = h .retests;
         pays = h .pays;
         fails = h .fails;
       }
@@ -151,9 +162,33 @@ module _ {s : ℕ} {y z : Year} (h : Same s y z) where
         clearings = h .clearings;
         events = h .events;
         tests = related-set (SameTest (y .terms) s) pastTest (y .tests) (z .tests) place (S .places ∙ sym (U .places)) q (h .tests);
+        retests = h .retests;
         pays = h .pays;
         fails = h .fails;
       }
+
+  pub same-retests : {rs ts : List Retest} → SameRetests (y .terms) s rs ts → Same s (withRetests y rs) (withRetests z ts)
+  same-retests q =
+      record {
+        opened = h .opened;
+        started = h .started;
+        closed = h .closed;
+        held = h .held;
+        terms = h .terms;
+        clearings = h .clearings;
+        events = h .events;
+        tests = h .tests;
+        retests = q;
+        pays = h .pays;
+        fails = h .fails;
+      }
+
+  -- by retests that list the same but for seller s's reductions
+  pub same-retest : {l m : Listing} → SameListing (y .terms) s l m → Same s (withRetest y l) (withRetest z m)
+  unfolding listed
+  same-retest {l} {m} q =
+      same-retests (λ i n. table-at 64 noRetest (λ j. cond (listed l j) (retestBy l j) (retestOf y j)) (λ j. cond (listed m j) (retestBy m j) (retestOf z j)) i
+      (cc (q .listed, q .reductions i n, h .retests i n)))
 
   pub same-close : (k : ℕ) → Same s (withClose y (amounts (factsOf y) k)) (withClose z (amounts (factsOf z) k))
   unfolding amounts
@@ -167,6 +202,7 @@ module _ {s : ℕ} {y z : Year} (h : Same s y z) where
         clearings = h .clearings;
         events = h .events;
         tests = h .tests;
-        pays = λ r n. table-at sellers (compliance (factsOf y) k) (compliance (factsOf z) k) r (independent.same-compliance (same-facts r n) k);
-        fails = λ r n. table-at sellers (test (factsOf y) k) (test (factsOf z) k) r (independent.same-test (same-facts r n) k);
+        retests = h .retests;
+        pays = λ r n. table-at sellers 0 (compliance (factsOf y) k) (compliance (factsOf z) k) r (independent.same-compliance (same-facts r n) k);
+        fails = λ r n. table-at sellers 0 (test (factsOf y) k) (test (factsOf z) k) r (independent.same-test (same-facts r n) k);
       }

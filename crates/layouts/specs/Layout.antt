@@ -1,4 +1,4 @@
--- The record layouts (document 01, 'Record layouts'), as one table with a row a kind; what else is known of a kind is derived from its row.
+-- The record layouts (document 01, 'Record layouts'; document 02, C-11 and C-15), as one table with a row a kind; what else is known of a kind is derived from its row.
 use Prim.Native.Nat.{ℕ, zero, suc, _+_, _-_, _*_, _^_, max}
 use mathlib.Core.Bool.{cond}
 use mathlib.Core.List.{List, [], _∷_, _++_, map}
@@ -51,9 +51,12 @@ noItems = record { count = 0; fields = []; reductions = [] }
 abbrev pub noLayout : Layout
 noLayout = bare []
 
--- deficits and entries, counted in numbers 4 and 5
-abbrev pairs : List Items
-pairs = record { count = 4; fields = deficit; reductions = [] } ∷ record { count = 5; fields = entry; reductions = 1 ∷ [] } ∷ []
+-- deficits, counted in number 4, and entries, counted in number 5
+abbrev deficits : Items
+deficits = record { count = 4; fields = deficit; reductions = [] }
+
+abbrev entries : Items
+entries = record { count = 5; fields = entry; reductions = 1 ∷ [] }
 
 -- the kinds from 0 on
 abbrev pub layouts : List Layout
@@ -66,13 +69,17 @@ layouts =
     -- LSE: LSE, obligation kW
     ∷ bare (kind 3 ∷ field 4 0 15 ∷ field 20 1 1000000 ∷ [])
     -- event: area, month, period, deficits, entries
-    ∷ record { head = kind 4 ∷ field 3 0 7 ∷ field 4 1 12 ∷ field 2 1 3 ∷ field 5 0 16 ∷ field 7 1 64 ∷ []; lists = pairs }
+    ∷ record { head = kind 4 ∷ field 3 0 7 ∷ field 4 1 12 ∷ field 2 1 3 ∷ field 5 0 16 ∷ field 7 1 64 ∷ []; lists = deficits ∷ entries ∷ [] }
     -- test: zone, product, month, deficits, entries
-    ∷ record { head = kind 5 ∷ field 3 0 7 ∷ field 2 0 2 ∷ field 4 1 12 ∷ field 5 0 16 ∷ field 7 1 64 ∷ []; lists = pairs }
+    ∷ record { head = kind 5 ∷ field 3 0 7 ∷ field 2 0 2 ∷ field 4 1 12 ∷ field 5 0 16 ∷ field 7 1 64 ∷ []; lists = deficits ∷ entries ∷ [] }
     -- close: month
     ∷ bare (kind 6 ∷ field 4 1 15 ∷ [])
     -- clearing: registration, price, cleared kW
     ∷ bare (kind 7 ∷ field 6 0 63 ∷ field 17 0 100000 ∷ field 17 1 100000 ∷ [])
+    -- 8 is no kind
+    ∷ noLayout
+    -- retest: seller, zone, product, month, entries
+    ∷ record { head = kind 9 ∷ field 4 0 15 ∷ field 3 0 7 ∷ field 2 0 2 ∷ field 4 1 12 ∷ field 7 1 64 ∷ []; lists = entries ∷ [] }
     ∷ []
 
 abbrev pub layoutOf : ℕ → Layout

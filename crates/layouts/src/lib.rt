@@ -7,11 +7,11 @@ ghost use Rattle.layouts.specs.Parts.{startOf, kinds, parts, rules, lows
 
 pub mod shapes;
 
-// How many kinds the tables have, 0 among them, which is none.
-pub const KINDS: u64 = 8;
+// How many kinds the tables have, 0 and 8 among them, which are none.
+pub const KINDS: u64 = 10;
 
-// The fields of every part of every kind, part after part: a kind's head, then an item of each of its lists. Kind 0 has none. Their widths in bits,
-const WIDTHS: [u8; 41] = [
+// The fields of every part of every kind, part after part: a kind's head, then an item of each of its lists. What is no kind has none. Their widths in bits,
+const WIDTHS: [u8; 49] = [
     4, // opening
     1, // leap
     14, // DR Factor
@@ -53,10 +53,18 @@ const WIDTHS: [u8; 41] = [
     6, // registration id
     17, // price
     17, // cleared kW
+    4, // retest
+    4, // seller
+    3, // zone
+    2, // product
+    4, // month
+    7, // entries
+    6, // entry: registration
+    17, // reduction kW
 ];
 
 // their lowest permitted values,
-const LOWS: [u32; 41] = [
+const LOWS: [u32; 49] = [
     1, // opening
     0, // leap
     1, // DR Factor
@@ -98,10 +106,18 @@ const LOWS: [u32; 41] = [
     0, // registration id
     0, // price
     1, // cleared kW
+    9, // retest
+    0, // seller
+    0, // zone
+    0, // product
+    1, // month
+    1, // entries
+    0, // entry: registration
+    0, // reduction kW
 ];
 
 // and their highest.
-const HIGHS: [u32; 41] = [
+const HIGHS: [u32; 49] = [
     1, // opening
     1, // leap
     12000, // DR Factor
@@ -143,6 +159,14 @@ const HIGHS: [u32; 41] = [
     63, // registration id
     100000, // price
     100000, // cleared kW
+    9, // retest
+    15, // seller
+    7, // zone
+    2, // product
+    12, // month
+    64, // entries
+    63, // entry: registration
+    100000, // reduction kW
 ];
 
 // Where the fields of a part stand in the tables, from start up to end; the bits that they take; the place of the part's count among the numbers of its head, 0 for a head; and which of its fields is the first reduction, 0 where none is.
@@ -154,19 +178,19 @@ pub struct Part {
     pub reduction: usize,
 }
 
-pub fn widths_of_parts() -> [u8; 41]
+pub fn widths_of_parts() -> [u8; 49]
     ensures { λ r. ⌜ r ≡ widths rules ⌝ }
 {
     WIDTHS
 }
 
-pub fn lows_of_parts() -> [u32; 41]
+pub fn lows_of_parts() -> [u32; 49]
     ensures { λ r. ⌜ r ≡ lows rules ⌝ }
 {
     LOWS
 }
 
-pub fn highs_of_parts() -> [u32; 41]
+pub fn highs_of_parts() -> [u32; 49]
     ensures { λ r. ⌜ r ≡ highs rules ⌝ }
 {
     HIGHS
@@ -186,7 +210,9 @@ fn first_of(kind: usize) -> usize
         5 => 7,
         6 => 10,
         7 => 11,
-        _ => 12,
+        8 => 12,
+        9 => 13,
+        _ => 15,
     }
 }
 
@@ -227,7 +253,10 @@ fn row_at(part: usize) -> Part
         8 => row(31, 33, 24, 4, 0), // its deficits
         9 => row(33, 35, 23, 5, 1), // its entries
         10 => row(35, 37, 8, 0, 0), // close
-        _ => row(37, 41, 44, 0, 0), // clearing
+        11 => row(37, 41, 44, 0, 0), // clearing
+        12 => row(41, 41, 0, 0, 0), // no kind
+        13 => row(41, 47, 24, 0, 0), // retest
+        _ => row(47, 49, 23, 5, 1), // its entries
     }
 }
 

@@ -1,4 +1,4 @@
--- What the rules read, as functions of ids: of a registration, of an LSE, of an event by its number in order of acceptance, of the test at a place.
+-- What the rules read, as functions of ids: of a registration, of an LSE, of an event by its number in order of acceptance, of the test at a place, of a registration's retest.
 use Prim.Native.Nat.{ℕ}
 use mathlib.Core.Bool.{Bool}
 use lib.ListN.{getD}
@@ -37,6 +37,9 @@ pub record Facts : Type 0 where
   pub tested : ℕ → ℕ → Bool
   pub testReduction : ℕ → ℕ → ℕ
   pub testDeficit : ℕ → ℕ → ℕ
+  -- is registration i retested, and with which reduction
+  pub retested : ℕ → Bool
+  pub retestReduction : ℕ → ℕ
 
 -- as many ids of registrations, sellers and LSEs there are, and places of tests
 abbrev pub registrations : ℕ
@@ -84,4 +87,6 @@ module _ (y : Year) where
         tested = λ p. year.listed (testAt p .listing);
         testReduction = λ p. year.reduction (testAt p .listing);
         testDeficit = λ p. year.deficit (testAt p .listing);
+        retested = λ i. year.retestOf y i .taken;
+        retestReduction = λ i. year.retestOf y i .reduction;
       }

@@ -1,9 +1,10 @@
--- Figures of the definitions: document 01's starred ones in one table, those of document 02's C-11 to C-13, and more that were worked by hand.
+-- Figures of the definitions: document 01's starred ones in one table, those of document 02's C-11 to C-13 and C-15, and more that were worked by hand.
 use Prim.Native.Nat.{ℕ, _+_, _*_}
 use mathlib.Core.List.{List, [], _∷_}
-use mathlib.Core.Bool.{Bool, true, false}
+use mathlib.Core.Bool.{Bool, true, false, _&&_}
 use mathlib.Core.Path.{_≡_, refl}
 use lib.ListN.{length}
+use lib.Dec.{eqb}
 use Rattle.ids.specs.Ids.{at, holds, sumTo, anyTo}
 use Rattle.units.specs.Units.{convert}
 use Rattle.calendar.specs.Calendar.{limited, annual, offPeak, days, due}
@@ -11,7 +12,8 @@ use Rattle.allotment.specs.Allot.{share}
 use Rattle.allotment.specs.Divisions.{divisions}
 use Rattle.owed.specs.Facts.{Facts}
 use Rattle.owed.specs.Divisions.{uDivisions, eDivisions, divisionsOf, creditDivisions, lseDivisions}
-use Rattle.owed.specs.Owed.{beforeCap, raised, unforced, own, ofArea, areaRate, rate, ofSeller, shareOf, called, calls, shortfallOver, u, cap, daily, spent, revenue, charge, excess, e, creditLimit, B}
+use Rattle.owed.specs.Owed.{beforeCap, raised, unforced, own, ofArea, areaRate, rate, ofSeller, shareOf, called, calls, shortfallOver, u, cap, daily, spent, revenue, charge, excess, e, creditLimit, result, testShortfall, B, testOf}
+use Rattle.owed.specs.Retests.{belowQuarter, entryOf, failed, testedKw, failedKw, hadRetest}
 
 -- Year A, with registration 0 of this product and registration 1 of this seller; registration 2, of 400 kW at 0, in their area, registration 3, at 0
 -- too, alone in another; the place of registration 4, which is not known, says 700 kW at 20,000 in their area. Events of these periods list these
@@ -41,6 +43,8 @@ cleared clearings value kw product seller periods listed v =
       tested = λ p. holds (true ∷ true ∷ true ∷ []);
       testReduction = λ p. at (v ∷ 2100 ∷ v ∷ []);
       testDeficit = λ p s. 0;
+      retested = λ i. false;
+      retestReduction = λ i. 0;
     }
 
 abbrev yearA : ℕ → ℕ → List ℕ → List Bool → ℕ → Facts
@@ -130,3 +134,60 @@ division-figures : (divisions 3 1 ≡ 3) × (divisions 3 0 ≡ 0) × (divisions 
     × (uDivisions bothOfOne 0 0 ≡ 2) × (eDivisions bothOfOne 0 0 ≡ 2) × (creditDivisions bothOfOne 0 ≡ 0)
 unfolding sumTo share divisions ofSeller shareOf excess e divisionsOf creditDivisions lseDivisions
 division-figures = (refl, refl, refl, refl, refl, refl, refl, refl, refl, refl, refl, refl)
+
+-- Failed kW of a quarter are too many, and so are they of a seller that tested none; none failed is nothing to retest.
+quarter-figures : (belowQuarter 1000 4001 ≡ true) × (belowQuarter 1000 4000 ≡ false) × (belowQuarter 1 4 ≡ false) × (belowQuarter 1 5 ≡ true)
+    × (belowQuarter 0 4001 ≡ false) × (belowQuarter 0 0 ≡ false)
+unfolding belowQuarter
+quarter-figures = (refl, refl, refl, refl, refl, refl)
+
+-- The test at place 0 lists seller 0's registrations of 1,000, 2,000 and 1,001 kW, with reductions of v, 2,100 and 1,001, and seller 1's of 500 kW with 100, all at 10,000.
+-- Registration 0 is retested or not, with w. An event lists these registrations.
+abbrev retried : ℕ → Bool → ℕ → List Bool → Facts
+retried v again w listed =
+    record {
+      leap = 0;
+      factor = 9500;
+      requirement = 10800;
+      known = holds (true ∷ true ∷ true ∷ true ∷ []);
+      seller = at (0 ∷ 0 ∷ 0 ∷ 1 ∷ []);
+      area = λ i. 1;
+      product = λ i. limited;
+      committed = at (1000 ∷ 2000 ∷ 1001 ∷ 500 ∷ []);
+      fieldRate = λ i. 10000;
+      clearings = λ i. 0;
+      clearedValue = λ i. 0;
+      clearedKw = λ i. 0;
+      obligation = at (3000 ∷ []);
+      events = 1;
+      month = λ ev. 1;
+      period = λ ev. 1;
+      listed = λ ev. holds listed;
+      reduction = λ ev i. 0;
+      deficit = λ ev s. 0;
+      tested = λ p i. eqb p 0 && holds (true ∷ true ∷ true ∷ true ∷ []) i;
+      testReduction = λ p. at (v ∷ 2100 ∷ 1001 ∷ 100 ∷ []);
+      testDeficit = λ p. at (0 ∷ 100 ∷ []);
+      retested = holds (again ∷ []);
+      retestReduction = at (w ∷ []);
+    }
+
+-- Of seller 0's 4,001 kW the 1,000 of registration 0 failed: 1,001 given of 1,001 is no failure. So it stays when the retest gives 1,000, and when an event lists
+-- registration 0. Seller 1 failed with all of its 500 kW, seller 2 tested nothing, nor did anybody at place 1.
+failed-figures : (testedKw (retried 400 false 0 []) 0 0 ≡ 4001) × (failedKw (retried 400 false 0 []) 0 0 ≡ 1000)
+    × (failedKw (retried 400 true 1000 []) 0 0 ≡ 1000) × (failedKw (retried 1000 true 400 []) 0 0 ≡ 0) × (failedKw (retried 400 false 0 (true ∷ [])) 0 0 ≡ 1000)
+    × (testedKw (retried 400 false 0 []) 0 1 ≡ 500) × (failedKw (retried 400 false 0 []) 0 1 ≡ 500)
+    × (testedKw (retried 400 false 0 []) 0 2 ≡ 0) × (testedKw (retried 400 false 0 []) 1 0 ≡ 0)
+    × (hadRetest (retried 400 false 0 []) 0 0 ≡ false) × (hadRetest (retried 400 true 0 []) 0 0 ≡ true) × (hadRetest (retried 400 true 0 []) 0 1 ≡ false)
+    × (hadRetest (retried 400 true 0 []) 1 0 ≡ false)
+unfolding sumTo anyTo entryOf failed testedKw failedKw hadRetest
+failed-figures = (refl, refl, refl, refl, refl, refl, refl, refl, refl, refl, refl, refl, refl)
+
+-- First, 3,501 of 4,001 kW are given: 500 kW convert to 513, at 12,000 and for 30 days 184,680 cents. Retested with 900 nothing is short; with 1,000 neither, though more
+-- is given; with 0, worse, 900 kW convert to 923: 332,280 cents. Once an event lists registration 0 neither result counts. Seller 1 stays short of 400 kW, 410 less its deficit of 100.
+retest-figures : (result (retried 400 false 900 []) 0 0 ≡ 400) × (result (retried 400 true 900 []) 0 0 ≡ 900) × (result (retried 400 true 0 []) 0 0 ≡ 0)
+    × (testOf (retried 400 false 900 []) 1 0 0 ≡ 184680) × (testOf (retried 400 true 900 []) 1 0 0 ≡ 0) × (testOf (retried 400 true 1000 []) 1 0 0 ≡ 0)
+    × (testOf (retried 400 true 0 []) 1 0 0 ≡ 332280) × (testOf (retried 400 true 0 (true ∷ [])) 1 0 0 ≡ 0)
+    × (testShortfall (retried 400 true 0 []) 0 1 ≡ 310)
+unfolding sumTo anyTo convert days raised unforced own ofArea areaRate rate ofSeller called shortfallOver result B testOf
+retest-figures = (refl, refl, refl, refl, refl, refl, refl, refl, refl)

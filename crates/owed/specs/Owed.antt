@@ -1,4 +1,4 @@
--- What is owed (document 01, with document 02's C-11 and C-12), in the document's order, over facts. Amounts are to date at month k; i is a registration, s a seller, a an area, j an LSE, ev an event, p the place of a test.
+-- What is owed (document 01, with document 02's C-11, C-12 and C-15), in the document's order, over facts. Amounts are to date at month k; i is a registration, s a seller, a an area, j an LSE, ev an event, p the place of a test.
 -- a - b is 0 where b is the larger, so "at least 0" is written as `-`; a / 0 is 0, so nothing is allotted where all weights are 0.
 -- A sum or an allotment over some registrations runs over all ids, in rising order, with 0 for the others.
 use Prim.Native.Nat.{ℕ, zero, suc, _+_, _-_, _*_, _/_, min, max}
@@ -128,12 +128,15 @@ module _ (F : Facts) where
   unfoldable pub creditOf : ℕ → ℕ → ℕ → ℕ
   creditOf k ev i = min (creditShare k ev i) (creditLimit k ev i)
 
-  -- test: the entries whose registration no event lists, the shortfall as in step 1, B, and the charge to date
+  -- test: the entries whose registration no event lists; an entry's reduction, the retested one, if there is one, else the first; the shortfall as in step 1, B, and the charge to date
   abbrev pub stands : ℕ → ℕ → Bool
   stands p i = F .tested p i && not (called i)
 
+  unfoldable pub result : ℕ → ℕ → ℕ
+  result p i = cond (F .retested i) (F .retestReduction i) (F .testReduction p i)
+
   abbrev pub testShortfall : ℕ → ℕ → ℕ
-  testShortfall p = shortfallOver (stands p) (F .testReduction p) (F .testDeficit p)
+  testShortfall p = shortfallOver (stands p) (result p) (F .testDeficit p)
 
   unfoldable pub B : ℕ → ℕ → ℕ
   B p s = ofSeller s (only (stands p) (λ i. F .committed i * rate i)) / ofSeller s (only (stands p) (F .committed))

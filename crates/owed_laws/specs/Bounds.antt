@@ -13,7 +13,7 @@ use Rattle.units.specs.Units.{convert-scaled}
 use Rattle.calendar.specs.Calendar.{due, days-le}
 use Rattle.allotment.specs.Allot.{share-most}
 use Rattle.owed.specs.Facts.{Facts, registrations}
-use Rattle.owed.specs.Owed.{raised, D, unforced, own, areaRate, rate, ofSeller, shareOf, shortfallOver, shortfall, lack, more, u, cap, daily, spent, charge, excess, e, creditLimit, creditOf, stands, testShortfall, B, testOf}
+use Rattle.owed.specs.Owed.{raised, D, unforced, own, areaRate, rate, ofSeller, shareOf, shortfallOver, shortfall, lack, more, u, cap, daily, spent, charge, excess, e, creditLimit, creditOf, stands, result, testShortfall, B, testOf}
 use Rattle.owed_laws.specs.Limits.{Limits}
 use Rattle.owed_laws.specs.Rates.{worth-most, area-rate-some}
 use Rattle.owed_laws.specs.Sellers.{ofSeller-le, net-is, excess-is}
@@ -131,7 +131,7 @@ module _ {F : Facts} (L : Limits F) where
         arith,
         div-mul-le-self (a * raised (B F p s) * D F k) 1000,
         mul-le-mul (mul-le-mul (le-refl a) (raised-le p s)) (D-le k),
-        shortfall-scaled (stands F p) (F .testReduction p) (F .testDeficit p) s,
+        shortfall-scaled (stands F p) (result F p) (F .testDeficit p) s,
       )
 
   pub test-le : (k p s : ℕ) → testOf F k p s ≤ 404766720000

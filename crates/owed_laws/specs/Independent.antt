@@ -9,7 +9,7 @@ use Rattle.ids.specs.Ids.{sumTo, anyTo, only, keyed}
 use Rattle.ids.specs.Sums.{sum-same}
 use Rattle.ids.specs.Tests.{any-same}
 use Rattle.owed.specs.Facts.{Facts, registrations, places}
-use Rattle.owed.specs.Owed.{unforced, rate, ofSeller, shareOf, called, calls, shortfallOver, shortfall, lack, u, cap, daily, spent, charge, stands, B, testOf, compliance, test}
+use Rattle.owed.specs.Owed.{unforced, rate, ofSeller, shareOf, called, calls, shortfallOver, shortfall, lack, u, cap, daily, spent, charge, stands, result, B, testOf, compliance, test}
 
 -- two facts that agree in what is seller r's, along the accepted events and at every test
 pub record Same (r : ℕ) (F G : Facts) : Type 0 where
@@ -30,6 +30,8 @@ pub record Same (r : ℕ) (F G : Facts) : Type 0 where
   pub reduction : (ev : ℕ) → ev < F .events → (i : ℕ) → F .seller i ≡ r → F .reduction ev i ≡ G .reduction ev i
   pub tested : (p i : ℕ) → F .seller i ≡ r → F .tested p i ≡ G .tested p i
   pub testReduction : (p i : ℕ) → F .seller i ≡ r → F .testReduction p i ≡ G .testReduction p i
+  pub retested : (i : ℕ) → F .seller i ≡ r → F .retested i ≡ G .retested i
+  pub retestReduction : (i : ℕ) → F .seller i ≡ r → F .retestReduction i ≡ G .retestReduction i
 
 module _ {r : ℕ} {F G : Facts} (h : Same r F G) where
   -- equal at seller r's registrations
@@ -112,6 +114,10 @@ module _ {r : ℕ} {F G : Facts} (h : Same r F G) where
   same-stands : (p : ℕ) → Alike (stands F p) (stands G p)
   same-stands p i own = cc (h .tested p i own, same-called i own)
 
+  same-result : (p : ℕ) → Alike (result F p) (result G p)
+  unfolding result
+  same-result p i own = cc (h .retested i own, h .retestReduction i own, h .testReduction p i own)
+
   same-B : (p : ℕ) → B F p r ≡ B G p r
   unfolding B
   same-B p =
@@ -126,7 +132,7 @@ module _ {r : ℕ} {F G : Facts} (h : Same r F G) where
       cc (
         h .leap,
         same-B p,
-        same-shortfall (F .testDeficit p) (G .testDeficit p) (same-stands p) (h .testReduction p) (h .testDeficit p),
+        same-shortfall (F .testDeficit p) (G .testDeficit p) (same-stands p) (same-result p) (h .testDeficit p),
       )
 
   pub same-test : (k : ℕ) → test F k r ≡ test G k r

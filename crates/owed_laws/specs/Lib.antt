@@ -6,6 +6,7 @@ pub mod Allotments
 pub mod Cap
 pub mod Balance
 pub mod Independent
+pub mod Retested
 pub mod Unlisted
 pub mod Parties
 pub mod Bounds

@@ -17,9 +17,9 @@ use Rattle.year.specs.declared.Year.{Year}
 use Rattle.year.specs.Year.{pastListing, pastEvent, pastTest, zone, product, obligation}
 use Rattle.year.specs.Year as year
 use Rattle.year.specs.Sound.{SoundListing, AtMost, Sound}
-use Rattle.year.specs.Limits.{each-anywhere, clearings-sound, seller-below, area-below, zone-below, product-below, committed-most, committed-some, committed-blank, field-rate-most, reduction-most}
+use Rattle.year.specs.Limits.{each-anywhere, clearings-sound, seller-below, area-below, zone-below, product-below, committed-most, committed-some, committed-blank, field-rate-most, retest-most, reduction-most}
 use Rattle.owed.specs.Facts.{Facts, factsOf, registrations, sellers, places}
-use Rattle.owed.specs.Owed.{own, rate}
+use Rattle.owed.specs.Owed.{own, rate, result}
 use Rattle.owed_laws.specs.Rates.{own-le, rate-le}
 
 pub record Limits (F : Facts) : Type 0 where
@@ -39,7 +39,7 @@ pub record Limits (F : Facts) : Type 0 where
   pub month : (ev : ℕ) → F .month ev ≤ 12
   pub reduction : (ev i : ℕ) → F .reduction ev i ≤ 100000
   pub deficit : (ev s : ℕ) → F .deficit ev s ≤ 1000000
-  pub testReduction : (p i : ℕ) → F .testReduction p i ≤ 100000
+  pub result : (p i : ℕ) → result F p i ≤ 100000
   pub testDeficit : (p s : ℕ) → F .testDeficit p s ≤ 1000000
   -- no registration is in two tests
   pub once : (i : ℕ) → i < registrations → countTo places (λ p. F .tested p i) ≤ 1
@@ -100,6 +100,14 @@ module _ {y : Year} (S : Sound y) where
   own-most : (i : ℕ) → own (factsOf y) i ≤ 100000
   own-most i = own-le (factsOf y) i (field-rate-most (S .terms) i) (clearings-sound S i .value)
 
+  result-most : (p i : ℕ) → result (factsOf y) p i ≤ 100000
+  unfolding result
+  result-most p i = go (factsOf y .retested i)
+    where
+      go : (b : Bool) → cond b (factsOf y .retestReduction i) (factsOf y .testReduction p i) ≤ 100000
+      go true = retest-most S i
+      go false = test-within p .reduction i
+
   pub limits : Limits (factsOf y)
   limits =
       record {
@@ -119,7 +127,7 @@ module _ {y : Year} (S : Sound y) where
         month = month-most;
         reduction = λ ev. event-within ev .reduction;
         deficit = λ ev. event-within ev .deficit;
-        testReduction = λ p. test-within p .reduction;
+        result = result-most;
         testDeficit = λ p. test-within p .deficit;
         once = in-one-test;
       }

@@ -10,7 +10,7 @@ use Rattle.ids.specs.Sums.{sum-zero}
 use Rattle.units.specs.Units.{convert-zero}
 use Rattle.allotment.specs.Allot.{share-zero}
 use Rattle.owed.specs.Facts.{Facts, registrations, lses, places}
-use Rattle.owed.specs.Owed.{D, raised, unforced, ofSeller, shortfallOver, stands, testShortfall, B, testOf, compliance, test, credit, charges, credits, lse}
+use Rattle.owed.specs.Owed.{D, raised, unforced, ofSeller, shortfallOver, stands, result, testShortfall, B, testOf, compliance, test, credit, charges, credits, lse}
 use Rattle.owed_laws.specs.Unlisted.{u-unlisted, charge-none, credit-unlisted}
 
 -- every listed registration is known
@@ -50,7 +50,7 @@ module _ {F : Facts} (K : Known F) (s : ℕ) (none : (i : ℕ) → i < registrat
   unfolding test testOf shortfallOver unforced
   test-none k =
       sum-zero places (λ p l.
-      let net : ofSeller F s (only (stands F p) (F .committed)) - ofSeller F s (only (stands F p) (F .testReduction p)) ≡ 0 = omega (arith, stands-none p l) in
+      let net : ofSeller F s (only (stands F p) (F .committed)) - ofSeller F s (only (stands F p) (result F p)) ≡ 0 = omega (arith, stands-none p l) in
       let short : testShortfall F p s ≡ 0 = rw net (omega (arith, convert-zero (F .factor) (F .requirement))) in
       rw (short, zero-mul (raised (B F p s)), zero-mul (D F k)))
 

@@ -6,9 +6,9 @@ use Rattle.year.specs.declared.Year.{Year}
 use Rattle.year.specs.Year.{listed, deficit}
 use Rattle.heads.specs.Record.{Record}
 use Rattle.entries.specs.Entries.{everyListed, deficitsListed, listsExactly}
-use Rattle.questions.specs.Questions.{q10, q11, q14, questions}
+use Rattle.questions.specs.Questions.{q10, q11, q21, q14, questions}
 
 pub records-blind : (rule : ℕ → ℕ → Bool) (room : ℕ) (y : Year) (r q : Record) → r .head ≡ q .head → r .listing .listed ≡ q .listing .listed → r .listing .deficits ≡ q .listing .deficits
     → questions rule y r room ≡ questions rule y q room
-unfolding questions q10 q11 q14 everyListed deficitsListed listsExactly listed deficit
+unfolding questions q10 q11 q21 q14 everyListed deficitsListed listsExactly listed deficit
 records-blind rule room y r q h a b = rw (h, a, b)

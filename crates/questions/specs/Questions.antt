@@ -1,24 +1,30 @@
--- Questions 6 to 17 (document 01, 'Questions at the counter'; document 02, C-11), of a year and a record. A record that a question is not put to passes it.
+-- Questions 6 to 17, 20 and 21 (document 01, 'Questions at the counter'; document 02, C-11 and C-15), of a year and a record. A record that a question is not put to passes it.
 use Prim.Native.Nat.{ℕ, _+_, max}
-use mathlib.Core.Bool.{Bool, true, not, _&&_}
+use mathlib.Core.Bool.{Bool, true, not, _&&_, _||_}
 use mathlib.Core.List.{List, [], _∷_}
 use lib.ListN.{getD}
 use lib.Dec.{leb, ltb, eqb}
 use Rattle.ids.specs.Ids.{anyTo}
 use Rattle.calendar.specs.Calendar.{callable, testable}
 use Rattle.year.specs.declared.Listing.{Listing}
+use Rattle.year.specs.declared.Test.{Test}
 use Rattle.year.specs.declared.Terms.{Terms}
 use Rattle.year.specs.declared.Year.{Year}
-use Rattle.year.specs.Year.{clearingsOf, known, product, obligation, size, lses, pastTest, testPlace}
+use Rattle.year.specs.Year.{clearingsOf, known, seller, product, obligation, size, lses, pastTest, testPlace}
 use Rattle.owed.specs.Facts.{factsOf}
 use Rattle.owed.specs.Owed.{called}
+use Rattle.owed.specs.Retests.{belowQuarter, failed, testedKw, failedKw, hadRetest}
 use Rattle.heads.specs.declared.Head.{Head}
-use Rattle.heads.specs.Record.{Record, forOpening, forRegistration, forLse, forEvent, forTest, forClose, forClearing}
+use Rattle.heads.specs.Record.{Record, forOpening, forRegistration, forLse, forEvent, forTest, forClose, forClearing, forRetest}
 use Rattle.entries.specs.Entries.{inArea, inGroup, everyListed, deficitsListed, listsExactly}
 
 -- may an event of month m be taken with z months closed: the time rule in force
 unfoldable pub inTime : ℕ → ℕ → Bool
 inTime z m = leb m (z + 1) && ltb z (max 5 (m + 3))
+
+-- may a product be tested in month m with z months closed
+abbrev pub mayTest : ℕ → ℕ → ℕ → Bool
+mayTest z product m = leb m (z + 1) && testable product m
 
 -- are there a registration and an LSE
 abbrev pub hasParties : Terms → Bool
@@ -31,6 +37,10 @@ module _ (y : Year) where
   abbrev T : Terms
   T = y .terms
 
+  -- the test of a zone and product
+  abbrev testOf : ℕ → ℕ → Test
+  testOf z p = getD (y .tests) (testPlace z p) pastTest
+
   -- for an opening: is there no year? For others: is there one, with month 15 not closed?
   unfoldable pub q6 : Head → Bool
   q6 = forOpening (λ o. not (y .opened)) (λ h. y .opened && ltb (y .closed) 15)
@@ -39,29 +49,44 @@ module _ (y : Year) where
   unfoldable pub q7 : Head → Bool
   q7 = forRegistration (λ r. not (y .started)) (forLse (λ j. not (y .started)) (forClearing (λ c. not (y .started)) passed))
 
-  -- for event, test and close: are there a registration and an LSE?
+  -- for event, test, retest and close: are there a registration and an LSE?
   unfoldable pub q8 : Head → Bool
-  q8 = forEvent (λ e. hasParties T) (forTest (λ t. hasParties T) (forClose (λ c. hasParties T) passed))
+  q8 = forEvent (λ e. hasParties T) (forTest (λ t. hasParties T) (forRetest (λ t. hasParties T) (forClose (λ c. hasParties T) passed)))
 
   -- is a registration's or LSE's id new?
   unfoldable pub q9 : Head → Bool
   q9 = forRegistration (λ r. not (known T (r .id))) (forLse (λ j. eqb (obligation T (j .id)) 0) passed)
 
-  -- is every listed registration known and in the event's area, or the test's zone and product, and has every deficit's seller an entry? Is a clearing's registration known?
+  -- is every listed registration known and in the event's area, or the test's zone and product, and has every deficit's seller an entry? Is a clearing's registration known? Is every registration that a retest lists known, of its zone and product, and its seller's?
   unfoldable pub q10 : Listing → Head → Bool
   q10 l =
       forEvent (λ e. everyListed T l (inArea T (e .area)) && deficitsListed T l)
-      (forTest (λ t. everyListed T l (inGroup T (t .zone) (t .product)) && deficitsListed T l) (forClearing (λ c. known T (c .registration)) passed))
+      (forTest (λ t. everyListed T l (inGroup T (t .zone) (t .product)) && deficitsListed T l)
+      (forClearing (λ c. known T (c .registration))
+      (forRetest (λ t. everyListed T l (inGroup T (t .zone) (t .product)) && everyListed T l (λ i. eqb (seller T i) (t .seller))) passed)))
 
   -- has a clearing's registration fewer than four?
   unfoldable pub q17 : Head → Bool
   q17 = forClearing (λ c. ltb (clearingsOf y (c .registration) .count) 4) passed
 
-  -- is an event in time by the rule, a test's month begun, and may each product be called or tested then?
+  -- is an event in time by the rule, a test's and a retest's month begun, and may each product be called or tested then? Where there was a test, is a retest's month not before its?
   unfoldable pub q11 : (ℕ → ℕ → Bool) → Listing → Head → Bool
   q11 rule l =
       forEvent (λ e. rule (y .closed) (e .month) && everyListed T l (λ i. callable (product T i) (e .month) (e .period)))
-      (forTest (λ t. leb (t .month) (y .closed + 1) && testable (t .product) (t .month)) passed)
+      (forTest (λ t. mayTest (y .closed) (t .product) (t .month))
+      (forRetest (λ t. let test = testOf (t .zone) (t .product) in mayTest (y .closed) (t .product) (t .month) && (not (test .taken) || leb (test .month) (t .month))) passed))
+
+  -- for a retest: was there a test of the zone and product, has the seller had no retest of it, and are its failed kW below a quarter of its tested kW, and some?
+  unfoldable pub q20 : Head → Bool
+  q20 =
+      forRetest
+      (λ t. let p = testPlace (t .zone) (t .product) in
+      testOf (t .zone) (t .product) .taken && (not (hadRetest (factsOf y) p (t .seller)) && belowQuarter (failedKw (factsOf y) p (t .seller)) (testedKw (factsOf y) p (t .seller))))
+      passed
+
+  -- does a retest list exactly the seller's entries that failed?
+  unfoldable pub q21 : Listing → Head → Bool
+  q21 l = forRetest (λ t. listsExactly T l (failed (factsOf y) (testPlace (t .zone) (t .product)) (t .seller))) passed
 
   -- are fewer than 16 events accepted (for an event)?
   unfoldable pub q12 : Head → Bool
@@ -69,7 +94,7 @@ module _ (y : Year) where
 
   -- is the zone and product untested (for a test)?
   unfoldable pub q13 : Head → Bool
-  q13 = forTest (λ t. not (getD (y .tests) (testPlace (t .zone) (t .product)) pastTest .taken)) passed
+  q13 = forTest (λ t. not (testOf (t .zone) (t .product) .taken)) passed
 
   -- does a test list exactly those registrations of its zone and product that no accepted event lists?
   unfoldable pub q14 : Listing → Head → Bool
@@ -95,6 +120,8 @@ questions rule y r room =
     ∷ (10, q10 y l h)
     ∷ (17, q17 y h)
     ∷ (11, q11 y rule l h)
+    ∷ (20, q20 y h)
+    ∷ (21, q21 y l h)
     ∷ (12, q12 y h)
     ∷ (13, q13 y h)
     ∷ (14, q14 y l h)

@@ -1,12 +1,15 @@
-// Questions 6 and 8, which records of several kinds are asked.
+// The questions that records of several kinds are asked: 6 and 8, and a test's 11.
 ghost use mathlib.Core.Path.{_≡_};
 ghost use mathlib.Core.Bool.{_&&_};
+ghost use mathlib.Core.List.{[], _∷_};
 ghost use lib.Dec.{ltb};
+ghost use Rattle.layouts.specs.Questions.{firstFailed};
 ghost use Rattle.cells.specs.Layout.{yearIn, Held};
-ghost use Rattle.questions.specs.Questions.{hasParties};
+ghost use Rattle.questions.specs.Questions.{mayTest, hasParties};
 use cells::Cells;
+use entries::Condition;
 use entries::any_lse;
-use entries::any_registration;
+use entries::any_meets;
 
 // Question 6 of any record but an opening.
 pub fn is_open(year: &Cells) -> bool
@@ -16,9 +19,28 @@ pub fn is_open(year: &Cells) -> bool
 }
 
 // Question 8.
-pub fn has_parties(year: &Cells) -> bool
+fn has_parties(year: &Cells) -> bool
     requires { ⌜ Held (now year) ⌝ }
     ensures { λ r. ⌜ r ≡ hasParties (yearIn (now (year .entry)) .terms) ⌝ }
 {
-    any_registration(year) && any_lse(year)
+    any_meets(year, Condition::Known) && any_lse(year)
+}
+
+// Questions 6 and 8 of an event, a test, a retest or a close: the number of the first that fails, or 0.
+pub fn open_number(year: &Cells) -> u64
+    requires { ⌜ Held (now year) ⌝ }
+    ensures { λ r. ⌜ r ≡ (let y = yearIn (now (year .entry)) in firstFailed ((6, y .opened && ltb (y .closed) 15) ∷ (8, hasParties (y .terms)) ∷ [])) ⌝ }
+{
+    if !is_open(year) {
+        return 6;
+    }
+    if has_parties(year) { 0 } else { 8 }
+}
+
+// A test's question 11.
+pub fn may_test(year: &Cells, product: u64, month: u64) -> bool
+    requires { ⌜ Held (now year) ⌝ }
+    ensures { λ r. ⌜ r ≡ mayTest (yearIn (now (year .entry)) .closed) product month ⌝ }
+{
+    month <= cells::closed(year) + 1 && calendar::testable(product, month)
 }

@@ -6,7 +6,7 @@ use Rattle.year.specs.declared.Event.{Event}
 use Rattle.year.specs.declared.Test.{Test}
 use Rattle.year.specs.declared.Year.{Year}
 use Rattle.year.specs.Year.{testPlace}
-use Rattle.year.specs.Steps.{withOpening, withRegistration, withLse, withClearing, withEvent, withTest, withClose}
+use Rattle.year.specs.Steps.{withOpening, withRegistration, withLse, withClearing, withEvent, withTest, withRetest, withClose}
 use Rattle.owed.specs.Facts.{factsOf}
 use Rattle.owed.specs.Owed.{amounts}
 use Rattle.heads.specs.declared.RegistrationHead.{RegistrationHead}
@@ -35,6 +35,7 @@ yearBy y l (head.Event e) = withEvent y (eventOf e l)
 yearBy y l (head.Test t) = withTest y (testPlace (t .zone) (t .product)) (testOf t l)
 yearBy y l (head.Close c) = withClose y (amounts (factsOf y) (c .month))
 yearBy y l (head.Clearing c) = withClearing y (c .registration) (c .price) (c .kw)
+yearBy y l (head.Retest t) = withRetest y l
 
 abbrev pub yearWith : Year → Record → Year
 yearWith y r = yearBy y (r .listing) (r .head)

@@ -10,8 +10,8 @@ use Rattle.year.specs.declared.Listing.{Listing}
 use Rattle.year.specs.declared.Event.{Event}
 use Rattle.year.specs.declared.Amounts.{Amounts}
 use Rattle.year.specs.declared.Year.{Year}
-use Rattle.year.specs.Year.{newYear, noClearings, noEvent, noAmounts, pastEvent, listed, reduction, deficit}
-use Rattle.year.specs.Steps.{clearedBy}
+use Rattle.year.specs.Year.{newYear, noClearings, noEvent, noRetest, noAmounts, pastEvent, listed, reduction, deficit}
+use Rattle.year.specs.Steps.{clearedBy, retestBy}
 use Rattle.owed.specs.Facts.{registrations, factsOf}
 use Rattle.owed.specs.Owed.{amounts}
 use Rattle.heads.specs.declared.EventHead.{EventHead}
@@ -20,8 +20,8 @@ use Rattle.heads.specs.declared.Head.{Head}
 use Rattle.heads.specs.declared.Head.the-variants as head
 use Rattle.heads.specs.Record.{Record, forClose}
 use Rattle.recorded.specs.After.{eventOf, yearBy}
-use Rattle.recorded.specs.Recorded.{gather, lastOr, sumOver, summed, clearingFor, event, termsIn, clearingsIn, eventsIn, testsIn, factsIn, recorded}
-use Rattle.recorded.specs.Gathered.{gather-more, some-more, last-more, last-alone, set-table, set-changed, set-filled, sum-more, length-more}
+use Rattle.recorded.specs.Recorded.{gather, lastOr, sumOver, summed, clearingFor, event, retestFor, termsIn, clearingsIn, eventsIn, testsIn, retestsIn, factsIn, recorded}
+use Rattle.recorded.specs.Gathered.{gather-more, some-more, last-more, last-alone, set-table, set-changed, over-table, set-filled, sum-more, length-more}
 
 -- the amounts to date at a close, by the records before it, and at each close among records
 abbrev billedAt : List Record → Record → List Amounts
@@ -51,6 +51,7 @@ booked rs =
       events = y .events ++ replicate (16 - y .held) noEvent;
       held = y .held;
       tests = y .tests;
+      retests = y .retests;
       billed = lastOr noAmounts (billedIn [] rs);
     }
 
@@ -87,7 +88,7 @@ summed-more cs false c = rw (append-nil cs)
 module _ (rs : List Record) (l : Listing) where
   pub booked-more : (h : Head) → ((e : EventHead) → h ≡ head.Event e → booked rs .held < 16)
       → yearBy (booked rs) l h ≡ booked (rs ++ record { head = h; listing = l } ∷ [])
-  unfolding yearBy booked recorded termsIn clearingsIn eventsIn testsIn
+  unfolding yearBy booked recorded termsIn clearingsIn eventsIn testsIn retestsIn
   booked-more (head.Opening o) room = simp (gather-more, billed-more, append-nil, some-more, last-more)
   booked-more (head.Registration r) room = simp (gather-more, billed-more, append-nil, last-alone, set-table)
   booked-more (head.Lse j) room = simp (gather-more, billed-more, append-nil, last-alone, set-table)
@@ -98,7 +99,10 @@ module _ (rs : List Record) (l : Listing) where
   booked-more (head.Clearing c) room =
       rw (set-changed registrations (λ i. summed (gather (clearingFor i) rs)) (c .registration) noClearings (λ x. clearedBy x (c .price) (c .kw)))
       (simp (gather-more, billed-more, append-nil, summed-more))
+  booked-more (head.Retest t) room =
+      rw (over-table registrations (λ i. lastOr noRetest (gather (retestFor i) rs)) noRetest (listed l) (retestBy l))
+      (simp (gather-more, billed-more, append-nil, last-alone))
 
 pub booked-new : booked [] ≡ newYear
-unfolding booked recorded termsIn clearingsIn eventsIn testsIn billedIn gather lastOr sumOver summed tabulate
+unfolding booked recorded termsIn clearingsIn eventsIn testsIn retestsIn billedIn gather lastOr sumOver summed tabulate
 booked-new = refl

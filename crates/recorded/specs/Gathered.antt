@@ -50,6 +50,11 @@ module _ {A : Type 0} where
       go j l true q = rw (eqb-true i j q, getD-tabulate f n j d l)
       go j l false q = refl
 
+  -- and with other elements at the ids that are picked
+  pub over-table : (n : ℕ) (f : ℕ → A) (d : A) (picked : ℕ → Bool) (g : ℕ → A)
+      → tabulate n (λ i. cond (picked i) (g i) (getD (tabulate n f) i d)) ≡ tabulate n (λ i. cond (picked i) (g i) (f i))
+  over-table n f d picked g = tabulate-same n (λ i l. rw (getD-tabulate f n i d l))
+
 -- places behind a list, the first of them taken
 set-next : {A : Type 0} (xs : List A) (n : ℕ) (d v : A) → set (xs ++ replicate (suc n) d) (length xs) v ≡ (xs ++ v ∷ []) ++ replicate n d
 set-next [] n d v = refl

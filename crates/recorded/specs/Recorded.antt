@@ -1,4 +1,4 @@
--- What a list of accepted records says (document 01, 'The lists of demand 3'), read off the list: terms, clearings, events, tests, and the year that has just these.
+-- What a list of accepted records says (document 01, 'The lists of demand 3'), read off the list: terms, clearings, events, tests, retests, and the year that has just these.
 use Prim.Native.Nat.{ℕ, _+_, _*_}
 use mathlib.Core.Bool.{Bool, true, cond}
 use mathlib.Core.List.{List, [], _∷_, _++_}
@@ -9,15 +9,17 @@ use Rattle.year.specs.declared.Registration.{Registration}
 use Rattle.year.specs.declared.Clearings.{Clearings}
 use Rattle.year.specs.declared.Event.{Event}
 use Rattle.year.specs.declared.Test.{Test}
+use Rattle.year.specs.declared.Retest.{Retest}
 use Rattle.year.specs.declared.Terms.{Terms}
 use Rattle.year.specs.declared.Year.{Year}
-use Rattle.year.specs.Year.{noRegistration, noTest, noAmounts, testPlace}
+use Rattle.year.specs.Year.{noRegistration, noTest, noRetest, noAmounts, testPlace, listed}
+use Rattle.year.specs.Steps.{retestBy}
 use Rattle.owed.specs.Facts.{Facts, registrations, lses, places, factsOf}
 use Rattle.heads.specs.declared.OpeningHead.{OpeningHead}
 use Rattle.heads.specs.declared.CloseHead.{CloseHead}
 use Rattle.heads.specs.declared.ClearingHead.{ClearingHead}
 use Rattle.heads.specs.declared.Head.{Head}
-use Rattle.heads.specs.Record.{Record, forOpening, forRegistration, forLse, forEvent, forTest, forClose, forClearing}
+use Rattle.heads.specs.Record.{Record, forOpening, forRegistration, forLse, forEvent, forTest, forClose, forClearing, forRetest}
 use Rattle.recorded.specs.After.{registrationOf, eventOf, testOf}
 
 -- what f takes out of each element, in order
@@ -46,7 +48,7 @@ none h = []
 unfoldable pub summed : List ClearingHead → Clearings
 summed cs = record { count = length cs; value = sumOver (λ c. c .price * c .kw) cs; kw = sumOver (λ c. c .kw) cs }
 
--- of one record: an opening, the registration of id i, LSE j's obligation, a clearing of registration i, an event, the test at a place, a close
+-- of one record: an opening, the registration of id i, LSE j's obligation, a clearing of registration i, an event, the test at a place, registration i's retest, a close
 abbrev pub opening : Record → List OpeningHead
 opening r = forOpening (λ o. o ∷ []) none (r .head)
 
@@ -65,6 +67,9 @@ event r = forEvent (λ e. eventOf e (r .listing) ∷ []) none (r .head)
 abbrev pub testFor : ℕ → Record → List Test
 testFor p r = forTest (λ t. alone (eqb (testPlace (t .zone) (t .product)) p) (testOf t (r .listing))) none (r .head)
 
+abbrev pub retestFor : ℕ → Record → List Retest
+retestFor i r = forRetest (λ t. alone (listed (r .listing) i) (retestBy (r .listing) i)) none (r .head)
+
 abbrev pub close : Record → List CloseHead
 close r = forClose (λ c. c ∷ []) none (r .head)
 
@@ -72,7 +77,7 @@ close r = forClose (λ c. c ∷ []) none (r .head)
 abbrev pub begins : Record → List Bool
 begins r = forEvent (λ e. true ∷ []) (forTest (λ t. true ∷ []) (forClose (λ c. true ∷ []) none)) (r .head)
 
--- of a list of accepted records. Ids are new where they are accepted, and so is a test's zone and product, so there is at most one of each
+-- of a list of accepted records. Ids are new where they are accepted, and so is a test's zone and product, and a seller retests an entry once, so there is at most one of each
 module _ (rs : List Record) where
   unfoldable pub termsIn : Terms
   termsIn =
@@ -97,6 +102,10 @@ module _ (rs : List Record) where
   unfoldable pub testsIn : List Test
   testsIn = tabulate places (λ p. lastOr noTest (gather (testFor p) rs))
 
+  -- by registration
+  unfoldable pub retestsIn : List Retest
+  retestsIn = tabulate registrations (λ i. lastOr noRetest (gather (retestFor i) rs))
+
   -- the year of these; what is billed, which neither the questions nor the rules read, stays out
   unfoldable pub recorded : Year
   recorded =
@@ -109,6 +118,7 @@ module _ (rs : List Record) where
         events = eventsIn;
         held = length eventsIn;
         tests = testsIn;
+        retests = retestsIn;
         billed = noAmounts;
       }
 

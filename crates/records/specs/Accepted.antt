@@ -127,6 +127,10 @@ pub record Clearing (vs : List ℕ) : Type 0 where
   pub price : at vs 2 ≤ 100000
   pub kw : (1 ≤ at vs 3) × (at vs 3 ≤ 100000)
 
+pub record Retest (vs : List ℕ) : Type 0 where
+  pub zone : at vs 2 < 8
+  pub product : at vs 3 ≤ 2
+
 module _ (bytes : List ℕ) (a : Accepted bytes) where
   -- the kind and the counts, as the numbers say them
   abbrev vs : List ℕ
@@ -198,3 +202,6 @@ module _ (bytes : List ℕ) (a : Accepted bytes) where
   clearing e =
       let h : (j : ℕ) → j < 4 → ((getD (head 7) j noRule) .low ≤ at (row vs) j) × (at (row vs) j ≤ (getD (head 7) j noRule) .high) = λ j l. head-as 7 j e l in
       record { registration = omega (arith, h 1 (omega arith) .1); price = h 2 (omega arith) .1; kw = h 3 (omega arith) }
+
+  pub retest : kindOf bytes ≡ 9 → Retest (row vs)
+  retest e = record { zone = omega (arith, head-as 9 2 e (omega arith) .1); product = head-as 9 3 e (omega arith) .1 }

@@ -1,29 +1,24 @@
 -- The year in cells into which the rows of a step were laid: one fact a part, kept or laid anew.
 use Prim.Native.Nat.{ℕ, _+_, _*_, _≤_, _<_}
-use mathlib.Core.Path.{_≡_, refl, _∙_}
-use mathlib.Core.Bool.{true, false, cond}
+use mathlib.Core.Path.{_≡_, refl}
+use mathlib.Core.Bool.{true, false}
 use mathlib.Core.List.{List, [], _∷_, _++_}
-use mathlib.Core.Logic.{_≢_}
 use native.Mathlib.Omega.{arith}
-use native.Mathlib.Nat.{zero-add}
-use native.Mathlib.Decide.{decLt}
 use lib.Dec.{lit<, lit≤}
-use lib.ListN.{length, getD, take, drop, length-append, length-drop}
-use lib.Seq.{getD-append-add, getD-take, getD-drop, length-take-le}
-use Rattle.ids.specs.Tables.{length-tabulate, getD-tabulate}
-use Rattle.ids.specs.Ids.{at, tabulate}
+use lib.ListN.{length, length-append}
+use lib.Seq.{getD-append-add}
+use Rattle.ids.specs.Ids.{at}
 use Rattle.year.specs.declared.Registration.{Registration}
 use Rattle.year.specs.declared.Listing.{Listing}
 use Rattle.year.specs.declared.Event.{Event}
 use Rattle.year.specs.declared.Amounts.{Amounts}
-use Rattle.year.specs.declared.Year.{Year}
-use Rattle.year.specs.Year.{clearingsOf, pastTest}
-use Rattle.year.specs.Steps.{withOpening, withRegistration, withLse, withClearing, withEvent, withTest, withClose}
-use Rattle.year.specs.Sound.{SoundTest, SoundAmounts, Sound}
+use Rattle.year.specs.Year.{clearingsOf}
+use Rattle.year.specs.Steps.{withOpening, withRegistration, withLse, withClearing, withEvent, withClose}
+use Rattle.year.specs.Sound.{SoundAmounts, Sound}
 use Rattle.cells.specs.Rows.{Laid, laid-on, Same, same-on, same-in, same-before, same-behind, rows-laid, cells-laid, numbers-kept, numbers-anew}
-use Rattle.cells.specs.Layout.{flag, registrationAt, listingAt, eventAt, cellRegistrations, cellObligations, cellTerms, cellEvents, cellTests, cellBilled, cellClearings, yearIn, Held}
-use Rattle.cells.specs.Regions.{registration-view, clearings-view, listing-view, event-view, registrations-kept, obligations-kept, terms-kept, events-kept, places-kept, tests-kept, billed-kept, clearings-kept}
-use Rattle.steps.specs.Tests.{testOf, untaken-free, unmarked, tests-unmarked, Tested, tests-laid}
+use Rattle.cells.specs.Layout.{registrationAt, listingAt, eventAt, cellRegistrations, cellObligations, cellEvents, cellBilled, cellClearings, yearIn}
+use Rattle.cells.specs.Regions.{registration-view, clearings-view, listing-view, event-view, registrations-kept, obligations-kept, terms-kept, events-kept, tests-kept, billed-kept, clearings-kept, retests-kept}
+use Rattle.steps.specs.Unmarked.{unmarked, tests-unmarked}
 
 -- a known registration is the one that its row has
 registration-row : (r : Registration) → r .known ≡ true → registrationAt (at (1 ∷ r .seller ∷ r .area ∷ r .zone ∷ r .product ∷ r .committed .0 ∷ r .rate ∷ [])) ≡ r
@@ -54,6 +49,7 @@ module _ {c d : List ℕ} where
         clearings-kept (same-behind h 3447 192 (lit≤ tt)),
         events-kept (same-behind h 471 2352 (lit≤ tt)),
         tests-kept registrations (same-behind h 2823 560 (lit≤ tt)),
+        retests-kept (same-behind h 3639 128 (lit≤ tt)),
         billed-kept (same-behind h 3383 64 (lit≤ tt)),
       )
 
@@ -77,6 +73,7 @@ module _ {c d : List ℕ} where
         clearings-kept (same-behind h 3447 192 (omega arith)),
         events-kept (same-behind h 471 2352 (omega arith)),
         tests-unmarked (unmarked c s (s .fresh e .2)) (same-behind h 2823 560 (omega arith)),
+        retests-kept (same-behind h 3639 128 (omega arith)),
         billed-kept (same-behind h 3383 64 (omega arith)),
       )
 
@@ -98,6 +95,7 @@ module _ {c d : List ℕ} where
         clearings-kept (same-behind h 3447 192 (omega arith)),
         events-kept (same-behind h 471 2352 (omega arith)),
         tests-kept registrations (same-behind h 2823 560 (omega arith)),
+        retests-kept (same-behind h 3639 128 (omega arith)),
         billed-kept (same-behind h 3383 64 (omega arith)),
       )
 
@@ -116,6 +114,7 @@ module _ {c d : List ℕ} where
         rows-laid clearings-view 64 3447 id l refl h,
         events-kept (same-before h 471 2352 (omega arith)),
         tests-kept registrations (same-before h 2823 560 (omega arith)),
+        retests-kept (same-behind h 3639 128 (omega arith)),
         billed-kept (same-before h 3383 64 (omega arith)),
       )
 
@@ -129,7 +128,7 @@ call-laid {a} {b} {c} {d} {l} n {area} {month} {period} q m e g h i =
     let long : length ((area ∷ month ∷ period ∷ []) ++ l) ≡ 147 = omega (arith, length-append (area ∷ month ∷ period ∷ []) l) in
     let marks = same-before row 0 7 (omega arith) in
     let terms = same-on (same-before row 3 468 (omega arith)) (same-behind i 3 468 (lit≤ tt)) in
-    let behind = same-on (same-behind row 2823 816 (omega arith)) (same-behind i 2823 816 (lit≤ tt)) in
+    let behind = same-on (same-behind row 2823 944 (omega arith)) (same-behind i 2823 944 (lit≤ tt)) in
     let kept = terms-kept (same-in 4 467 (lit≤ tt) (lit≤ tt) terms) in
     cc (
       q,
@@ -144,77 +143,9 @@ call-laid {a} {b} {c} {d} {l} n {area} {month} {period} q m e g h i =
       rows-laid event-view 16 471 n m long row,
       event-row area month period l,
       tests-kept (registrations-kept (same-in 7 448 (lit≤ tt) (lit≤ tt) terms)) (same-in 2823 560 (lit≤ tt) (lit≤ tt) behind),
+      retests-kept (same-in 3639 128 (lit≤ tt) (lit≤ tt) behind),
       billed-kept (same-in 3383 64 (lit≤ tt) (lit≤ tt) behind),
     )
-
--- what the entries of all tests become: the listing's part from q on where it lists, else the cells from p on
-module _ (c : List ℕ) (p : ℕ) (l : List ℕ) (q : ℕ) where
-  abbrev pub mergedAt : ℕ → ℕ
-  mergedAt i = cond (flag (at l i)) (at l (q + i)) (at c (p + i))
-
-  abbrev pub merged : List ℕ
-  merged = tabulate 64 mergedAt
-
--- a test is laid by five rows: the mark, its head and its deficits, then marks and reductions of the entries of all tests
-module _ {a b c d e f : List ℕ} (l : List ℕ) (place : ℕ) {month : ℕ} (p : place < 24) (n : length l ≡ 144)
-    (start : Laid 1 (1 ∷ []) a b) (head : Laid (2823 + 18 * place) (1 ∷ month ∷ []) b c) (deficits : Laid (2823 + 18 * place + 2) (take 16 (drop 128 l)) c d)
-    (marks : Laid 3255 (merged a 3255 l 0) d e) (reductions : Laid 3319 (merged a 3319 l 64) e f) where
-  row : Laid (2823 + 18 * place) ((1 ∷ month ∷ []) ++ take 16 (drop 128 l)) b d
-  row = laid-on head deficits
-
-  sixteen : length (take 16 (drop 128 l)) ≡ 16
-  sixteen = length-take-le 16 (drop 128 l) (omega (arith, length-drop 128 l))
-
-  eighteen : length ((1 ∷ month ∷ []) ++ take 16 (drop 128 l)) ≡ 18
-  eighteen = omega (arith, length-append (1 ∷ month ∷ []) (take 16 (drop 128 l)), sixteen)
-
-  sixty-four : (c : List ℕ) (p q : ℕ) → length (merged c p l q) ≡ 64
-  sixty-four c p q = length-tabulate (mergedAt c p l q) 64
-
-  -- cells before the entries, and between the mark and the place's row
-  early : (q w : ℕ) → q + w ≤ 3255 → Same q w d f
-  early q w m = same-on (same-before marks q w m) (same-before reductions q w (omega arith))
-
-  between : (q w : ℕ) → 2 ≤ q → q + w ≤ 2823 → Same q w a f
-  between q w x y =
-      same-on (same-on (same-behind start q w x) (same-before row q w (omega arith))) (early q w (omega arith))
-
-  laid : Tested place month l a f
-  laid =
-      record {
-        taken = early (2823 + 18 * place) 18 (omega arith) .cell 0 (lit< tt) ∙ row .inside 0 (omega (arith, eighteen));
-        month = early (2823 + 18 * place) 18 (omega arith) .cell 1 (lit< tt) ∙ row .inside 1 (omega (arith, eighteen));
-        deficits = λ j m. early (2823 + 18 * place) 18 (omega arith) .cell (2 + j) (omega arith) ∙ row .inside (2 + j) (omega (arith, eighteen)) ∙ getD-append-add (1 ∷ month ∷ []) (take 16 (drop 128 l)) j 0 ∙ getD-take 16 (drop 128 l) j 0 m ∙ getD-drop 128 l j 0;
-        others = λ k m x. same-on (same-on (same-behind start (2823 + 18 * k) 18 (omega arith)) (apart k m x (decLt k place))) (early (2823 + 18 * k) 18 (omega arith));
-        marks = λ i m. same-before reductions 3255 64 (lit≤ tt) .cell i m ∙ marks .inside i (omega (arith, sixty-four a 3255 0)) ∙ entry a 3255 0 i m ∙ rw (zero-add i);
-        reductions = λ i m. let z : 3255 + (64 + i) ≡ 3319 + i = omega arith in rw z (reductions .inside i (omega (arith, sixty-four a 3319 64)) ∙ entry a 3319 64 i m);
-      }
-    where
-      entry : (c : List ℕ) (p q i : ℕ) → i < 64 → at (merged c p l q) i ≡ mergedAt c p l q i
-      entry c p q i m = getD-tabulate (mergedAt c p l q) 64 i 0 m
-
-      apart : (k : ℕ) → k < 24 → k ≢ place → Dec (k < place) → Same (2823 + 18 * k) 18 b d
-      apart k m x (yes y) = same-before row (2823 + 18 * k) 18 (omega arith)
-      apart k m x (no y) = same-behind row (2823 + 18 * k) 18 (omega (arith, eighteen))
-
-  pub test-laid : Held a → getD (cellTests a) place pastTest .taken ≡ false → SoundTest (cellTerms a) place (testOf month (listingAt (at l)))
-      → yearIn f ≡ withTest (yearIn a) place (testOf month (listingAt (at l)))
-  test-laid k x s =
-      let kept = between 2 2821 (lit≤ tt) (lit≤ tt) in
-      let registrations = registrations-kept (same-in 7 448 (lit≤ tt) (lit≤ tt) kept) in
-      let behind = same-on (same-on (same-behind start 3383 256 (lit≤ tt)) (same-behind row 3383 256 (omega (arith, eighteen)))) (same-on (same-behind marks 3383 256 (omega (arith, sixty-four a 3255 0))) (same-behind reductions 3383 256 (omega (arith, sixty-four a 3319 64)))) in
-      cc (
-        same-on (same-on (same-before start 0 1 (lit≤ tt)) (same-before row 0 1 (omega arith))) (early 0 1 (lit≤ tt)) .cell 0 (lit< tt),
-        same-on (same-before row 1 1 (omega arith)) (early 1 1 (lit≤ tt)) .cell 0 (lit< tt),
-        start .inside 0 (lit< tt),
-        kept .cell 0 (lit< tt),
-        kept .cell 1 (lit< tt),
-        terms-kept (same-in 4 467 (lit≤ tt) (lit≤ tt) kept),
-        clearings-kept (same-in 3447 192 (lit≤ tt) (lit≤ tt) behind),
-        events-kept (same-in 471 2352 (lit≤ tt) (lit≤ tt) kept),
-        tests-laid laid p (places-kept a f registrations) s (untaken-free a (k .sound) p x),
-        billed-kept (same-in 3383 64 (lit≤ tt) (lit≤ tt) behind),
-      )
 
 -- four rows of amounts
 billed-laid : {b c d e f : List ℕ} (x : Amounts) → SoundAmounts x → Laid 3383 (x .compliance) b c → Laid 3399 (x .test) c d → Laid 3415 (x .credit) d e → Laid 3431 (x .lse) e f → cellBilled f ≡ x
@@ -238,7 +169,7 @@ close-laid {a = a} {b = b} {f = f} x s q g h i j k =
     let before : (q w : ℕ) → q + w ≤ 3383 → Same q w b f = λ q w m. same-on (same-on (same-before h q w m) (same-before i q w (omega arith))) (same-on (same-before j q w (omega arith)) (same-before k q w (omega arith))) in
     let marks = before 0 2 (lit≤ tt) in
     let kept = same-on (same-behind g 2 3381 (lit≤ tt)) (before 2 3381 (lit≤ tt)) in
-    let behind : Same 3447 192 a f = same-on (same-behind g 3447 192 (lit≤ tt)) (same-on (same-on (same-behind h 3447 192 (omega (arith, s .compliance .long))) (same-behind i 3447 192 (omega (arith, s .test .long)))) (same-on (same-behind j 3447 192 (omega (arith, s .credit .long))) (same-behind k 3447 192 (omega (arith, s .lse .long))))) in
+    let behind : Same 3447 320 a f = same-on (same-behind g 3447 320 (lit≤ tt)) (same-on (same-on (same-behind h 3447 320 (omega (arith, s .compliance .long))) (same-behind i 3447 320 (omega (arith, s .test .long)))) (same-on (same-behind j 3447 320 (omega (arith, s .credit .long))) (same-behind k 3447 320 (omega (arith, s .lse .long))))) in
     cc (
       q,
       marks .cell 0 (lit< tt),
@@ -248,12 +179,9 @@ close-laid {a = a} {b = b} {f = f} x s q g h i j k =
       kept .cell 0 (lit< tt),
       kept .cell 1 (lit< tt),
       terms-kept (same-in 4 467 (lit≤ tt) (lit≤ tt) kept),
-      clearings-kept behind,
+      clearings-kept (same-in 3447 192 (lit≤ tt) (lit≤ tt) behind),
       events-kept (same-in 471 2352 (lit≤ tt) (lit≤ tt) kept),
       tests-kept (registrations-kept (same-in 7 448 (lit≤ tt) (lit≤ tt) kept)) (same-in 2823 560 (lit≤ tt) (lit≤ tt) kept),
+      retests-kept (same-in 3639 128 (lit≤ tt) (lit≤ tt) behind),
       billed-laid x s h i j k,
     )
-
--- a step on cells that hold a sound year
-pub stepped : {c d : List ℕ} {y : Year} → Held c → length d ≡ length c → yearIn d ≡ y → Sound y → (yearIn d ≡ y) × Held d
-stepped k l e s = (e, record { long = l ∙ k .long; sound = rw e s })

@@ -1,3 +1,3 @@
 -- The year in cells into which the rows of a step were laid.
-pub mod Tests
+pub mod Unmarked
 pub mod Laying

@@ -1,15 +1,14 @@
-// The year after an accepted record of each kind, made where it lies: a step lays a few rows.
+// The year after an accepted record, made where it lies: a step lays a few rows. Those of tests and retests are in `entering`.
 ghost use mathlib.Core.Path.{_≡_};
 ghost use mathlib.Core.Bool.{true, false};
 ghost use Prim.Native.Nat.{_+_, _*_, _≤_, _<_};
-ghost use lib.ListN.{length, getD};
+ghost use lib.ListN.{length};
 ghost use Rattle.ids.specs.Ids.{at};
-ghost use Rattle.year.specs.Year.{clearingsOf, pastTest};
-ghost use Rattle.year.specs.Steps.{withOpening, withRegistration, withLse, withClearing, withEvent, withTest, withClose};
-ghost use Rattle.year.specs.Sound.{SoundRegistration, SoundListing, SoundTest, SoundAmounts, Factors};
+ghost use Rattle.year.specs.Year.{clearingsOf};
+ghost use Rattle.year.specs.Steps.{withOpening, withRegistration, withLse, withClearing, withEvent, withClose};
+ghost use Rattle.year.specs.Sound.{SoundRegistration, SoundListing, SoundAmounts, Factors};
 ghost use Rattle.cells.specs.Layout.{listingAt, yearIn, Held};
-ghost use Rattle.steps.specs.Tests.{testOf};
-ghost use Rattle.steps.specs.Laying.{eventOf, mergedAt, merged};
+ghost use Rattle.steps.specs.Laying.{eventOf};
 use cells::BILLED;
 use cells::CLEARING;
 use cells::CLEARINGS;
@@ -23,10 +22,6 @@ use cells::OPENED;
 use cells::REGISTRATION;
 use cells::REGISTRATIONS;
 use cells::STARTED;
-use cells::TEST;
-use cells::TEST_DEFICITS;
-use cells::TESTED;
-use cells::TESTS;
 use cells::lay;
 use year::Amounts;
 use year::Registration;
@@ -100,57 +95,6 @@ pub fn call(year: &mut Cells, area: u64, month: u64, period: u64, listing: &[u64
     lay(year, EVENTS + EVENT * n, &[area, month, period]);
     lay(year, EVENTS + EVENT * n + LISTED, listing);
     lay(year, STARTED, &[1, n as u64 + 1]);
-}
-
-// One of the entries of all tests, with a listing's: where it lists, its own.
-fn merged_at(year: &Cells, place: usize, listing: &[u64], part: usize, i: usize) -> u64
-    requires { ⌜ place + i < 3639 ⌝ }
-    requires { ⌜ i < length (now listing) ⌝ }
-    requires { ⌜ part + i < length (now listing) ⌝ }
-    ensures { λ r. ⌜ r ≡ mergedAt (now (year .entry)) place (now (listing .entry)) part i ⌝ }
-{
-    if listing[i] != 0 {
-        return listing[part + i];
-    }
-    year[place + i]
-}
-
-// All of them.
-fn merge(year: &Cells, place: usize, listing: &[u64], part: usize) -> [u64; 64]
-    requires { ⌜ place + 64 ≤ 3639 ⌝ }
-    requires { ⌜ part + 64 ≤ length (now listing) ⌝ }
-    ensures { λ r. ⌜ r ≡ merged (now (year .entry)) place (now (listing .entry)) part ⌝ }
-{
-    let mut entries = [0u64; 64];
-    let mut i: usize = 0;
-    while i < 64 {
-        entries[i] = merged_at(year, place, listing, part, i);
-        i += 1;
-    }
-    entries
-}
-
-// The test of a place that has none; its listing is a row as an event's.
-pub fn test(year: &mut Cells, place: usize, month: u64, listing: &[u64])
-    requires { ⌜ Held (now year) ⌝ }
-    requires { ⌜ place < 24 ⌝ }
-    requires { ⌜ getD (yearIn (now year) .tests) place pastTest .taken ≡ false ⌝ }
-    requires { ⌜ length (now listing) ≡ 144 ⌝ }
-    requires { ⌜ SoundTest (yearIn (now year) .terms) place (testOf month (listingAt (at (now listing)))) ⌝ }
-    ensures equals { λ r. ⌜ yearIn (now (year .exit)) ≡ withTest (yearIn (now (year .entry))) place (testOf month (listingAt (at (now (listing .entry))))) ⌝ }
-    ensures held { λ r. ⌜ Held (now (year .exit)) ⌝ }
-{
-    let marks = merge(year, TESTED, listing, 0);
-    let reductions = merge(year, TESTED + 64, listing, 64);
-    lay(year, STARTED, &[1]);
-    lay(year, TESTS + TEST * place, &[1, month]);
-    lay(
-        year,
-        TESTS + TEST * place + TEST_DEFICITS,
-        &listing[128..144],
-    );
-    lay(year, TESTED, &marks);
-    lay(year, TESTED + 64, &reductions);
 }
 
 // One more month closed, and what is billed by then.

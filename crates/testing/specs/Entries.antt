@@ -1,4 +1,4 @@
--- The entries of all tests in the year's cells, as the facts of each test; which of them stand; and a place without a test.
+-- The entries of all tests and retests in the year's cells, as the facts of each test; which of them stand; and a place without a test.
 use Prim.Native.Nat.{ℕ, _+_, _*_, _-_, _≤_, _<_}
 use mathlib.Core.Path.{_≡_, refl, ap, sym, _∙_}
 use mathlib.Core.Bool.{Bool, true, false, not, _&&_, cond}
@@ -10,13 +10,13 @@ use borrow.Author.Tests.{eq-eqb}
 use lib.ListN.{getD}
 use Rattle.ids.specs.Ids.{at, anyTo, only}
 use Rattle.ids.specs.Sums.{sum-zero}
-use Rattle.ids.specs.Tests.{cond-true, cond-le, none-at}
+use Rattle.ids.specs.Tests.{cond-le, none-at}
 use Rattle.ids.specs.Tables.{getD-tabulate}
 use Rattle.units.specs.Units.{convert-zero}
-use Rattle.year.specs.Limits.{zone-below, product-below}
-use Rattle.year.specs.Year.{pastTest, listed, reduction, deficit}
-use Rattle.cells.specs.Layout.{flag, placeIn, entryAt, yearIn, Held}
+use Rattle.year.specs.Year.{pastTest, retestOf, deficit}
+use Rattle.cells.specs.Layout.{flag, placeIn, yearIn, Held}
 use Rattle.cells.specs.Regions.{test-in}
+use Rattle.cells.specs.Tested.{tested-in, first-in}
 use Rattle.owed.specs.Owed.{D, raised, unforced, ofSeller, called, shortfallOver, testShortfall, B, testOf}
 use Rattle.owed.specs.Owed as owed
 use Rattle.owed_laws.specs.Limits.{limits}
@@ -32,9 +32,12 @@ unless true e = ap not e
 unless false e = ap not e
 
 module _ (c : List ℕ) where
-  -- what a look at registration i's entry returns
+  -- what a look at registration i's entry returns: its reduction is the retested one, if there is one, else the first
+  abbrev pub resultAt : ℕ → ℕ
+  resultAt i = cond (retestOf (yearIn c) i .taken) (retestOf (yearIn c) i .reduction) (at c (3255 + (64 + i)))
+
   abbrev pub lookAt : ℕ → Entry
-  lookAt i = record { listed = flag (at c (3255 + i)); reduction = record { 0 = at c (3255 + (64 + i)) } }
+  lookAt i = record { listed = flag (at c (3255 + i)); reduction = record { 0 = resultAt i } }
 
   -- does it stand: is it listed, and its registration by no event
   unfoldable pub stands : ℕ → Bool
@@ -64,16 +67,6 @@ module _ (c : List ℕ) where
 
   -- the facts of the test at place p
   module _ {p : ℕ} (l : p < 24) where
-    pub tested-in : {i : ℕ} → i < 64 → facts c .tested p i ≡ (lookAt i .listed && eqb (placeIn c i) p)
-    unfolding listed
-    tested-in {i} m = rw (test-in c pastTest l) (getD-tabulate (entryAt (placeIn c) (λ k. at c (3255 + k)) p) 64 i false m)
-
-    pub reduction-in : {i : ℕ} → i < 64 → facts c .testReduction p i ≡ cond (lookAt i .listed && eqb (placeIn c i) p) (lookAt i .reduction .0) 0
-    unfolding reduction
-    reduction-in {i} m =
-        rw (test-in c pastTest l)
-        (getD-tabulate (λ i. cond (entryAt (placeIn c) (λ k. at c (3255 + k)) p i) (at c (3255 + (64 + i))) 0) 64 i 0 m)
-
     pub deficit-in : {s : ℕ} → s < 16 → facts c .testDeficit p s ≡ at c (2823 + 18 * p + (2 + s))
     unfolding deficit
     deficit-in {s} m = rw (test-in c pastTest l) (getD-tabulate (λ j. at c (2823 + 18 * p + (2 + j))) 16 s 0 m)
@@ -93,7 +86,7 @@ module _ (c : List ℕ) where
       unfolding shortfallOver unforced
       none-short s =
           let F = facts c in
-          let net : ofSeller F s (only (owed.stands F p) (F .committed)) - ofSeller F s (only (owed.stands F p) (F .testReduction p)) ≡ 0 = omega (arith, none-stands s (F .committed)) in
+          let net : ofSeller F s (only (owed.stands F p) (F .committed)) - ofSeller F s (only (owed.stands F p) (owed.result F p)) ≡ 0 = omega (arith, none-stands s (F .committed)) in
           rw (net, convert-zero (F .factor) (F .requirement)) (zero-sub (F .testDeficit p s))
 
       pub untaken : (k s : ℕ) → testOf (facts c) k p s ≡ 0
@@ -105,25 +98,29 @@ pub none-taken : {c : List ℕ} → Held c → (k s : ℕ) → anyTo 24 (takenAt
 unfolding owed.test
 none-taken {c} h k s e = sym (sum-zero 24 (λ p l. untaken c l h (none-at 24 (takenAt c) e p l) k s))
 
--- within limits
-module _ {c : List ℕ} (h : Held c) (i : ℕ) where
-  pub place-below : placeIn c i < 24
-  unfolding placeIn
-  place-below = omega (arith, zone-below (h .sound .terms) i, product-below (h .sound .terms) i)
+module _ {c : List ℕ} (h : Held c) where
+  pub tested-at : (p : ℕ) {i : ℕ} → i < 64 → facts c .tested p i ≡ (lookAt c i .listed && eqb (placeIn c i) p)
+  tested-at p m = tested-in c (h .sound) p m
 
-  listed-le : i < 64 → lookAt c i .listed ≡ true → lookAt c i .reduction .0 ≤ 100000
-  listed-le m on =
+  -- the result of an entry that the test lists
+  pub result-at : (p : ℕ) {i : ℕ} → i < 64 → facts c .tested p i ≡ true → lookAt c i .reduction .0 ≡ owed.result (facts c) p i
+  unfolding owed.result
+  result-at p {i} m on = rw (first-in c (h .sound) p m, sym (tested-in c (h .sound) p m) ∙ on)
+
+  -- within limits
+  listed-le : (i : ℕ) → i < 64 → lookAt c i .listed ≡ true → lookAt c i .reduction .0 ≤ 100000
+  listed-le i m on =
       let p = placeIn c i in
-      let whole : (lookAt c i .listed && eqb p p) ≡ true = rw on (eq-eqb p p refl) in
-      rw (cond-true 0 whole refl ∙ sym (reduction-in c place-below m)) (limits (h .sound) .testReduction p i)
+      let here : facts c .tested p i ≡ true = tested-at p m ∙ rw on (eq-eqb p p refl) in
+      rw (result-at p m here) (limits (h .sound) .result p i)
 
-  pub reduction-le : i < 64 → only (stands c) (λ j. lookAt c j .reduction .0) i ≤ 100000
+  pub reduction-le : (i : ℕ) → i < 64 → only (stands c) (λ j. lookAt c j .reduction .0) i ≤ 100000
   unfolding stands
-  reduction-le m = go (lookAt c i .listed) (not (called (facts c) i)) (listed-le m)
+  reduction-le i m = go (lookAt c i .listed) (not (called (facts c) i)) (listed-le i m)
     where
       go : (t d : Bool) {x : ℕ} → (t ≡ true → x ≤ 100000) → cond (t && d) x 0 ≤ 100000
       go true d f = cond-le d (f refl)
       go false d f = omega arith
 
-  pub standing-le : i < 64 → stands c i ≡ true → lookAt c i .reduction .0 ≤ 100000
-  standing-le m on = rw on at (reduction-le m)
+  pub standing-le : (i : ℕ) → i < 64 → stands c i ≡ true → lookAt c i .reduction .0 ≤ 100000
+  standing-le i m on = rw on at (reduction-le i m)

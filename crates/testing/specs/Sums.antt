@@ -1,6 +1,6 @@
 -- The sums of the tests' entries that stand, by place and seller: how they grow, and that they are each test's sums.
 use Prim.Native.Nat.{ℕ, _+_, _*_, _-_, _/_, _≤_, _<_}
-use mathlib.Core.Path.{_≡_, refl, sym, _∙_}
+use mathlib.Core.Path.{_≡_, refl, _∙_}
 use mathlib.Core.Bool.{Bool, true, false, not, _&&_, cond}
 use mathlib.Core.List.{List}
 use native.Mathlib.Omega.{arith}
@@ -10,8 +10,9 @@ use lib.ListN.{length}
 use borrow.Author.Tests.{eq-eqb, ne-eqb, eqb-true, eqb-false}
 use Rattle.ids.specs.Ids.{at, sumTo, only, keyed}
 use Rattle.ids.specs.Sums.{sum-same}
-use Rattle.ids.specs.Tests.{cond-true, cond-le}
+use Rattle.ids.specs.Tests.{cond-le}
 use Rattle.cells.specs.Layout.{placeIn, Held}
+use Rattle.cells.specs.Tested.{place-below}
 use Rattle.owed.specs.Facts.{Facts}
 use Rattle.owed.specs.Owed.{unforced, ofSeller, called, shortfallOver, testShortfall, B}
 use Rattle.owed.specs.Owed as owed
@@ -21,7 +22,7 @@ use Rattle.owed_laws.specs.Bounds.{committed-le, worth-le}
 use Rattle.looks.specs.Looks.{facts}
 use Rattle.table.specs.Rows.{Stored, Row, Grown, none, row-within, grown-first, grown-kept, grown-none, grown-more, grown-most}
 use Rattle.testing.specs.declared.sums.Addend.{Addend}
-use Rattle.testing.specs.Entries.{lookAt, stands, tested-in, reduction-in, place-below, reduction-le}
+use Rattle.testing.specs.Entries.{lookAt, stands, tested-at, result-at, reduction-le}
 
 -- keys of a place and a seller are equal where both are
 key-eqb : (p q : ℕ) {s t : ℕ} → s < 16 → t < 16 → eqb (16 * p + s) (16 * q + t) ≡ (eqb s t && eqb p q)
@@ -91,7 +92,7 @@ module _ (c : List ℕ) where
         }
 
 pub key-below : {c : List ℕ} → Held c → (i : ℕ) → keyAt c i < 384
-key-below H i = omega (arith, place-below H i, limits (H .sound) .seller i)
+key-below {c} H i = omega (arith, place-below c (H .sound) i, limits (H .sound) .seller i)
 
 -- room for one more
 module _ {c : List ℕ} (H : Held c) {i : ℕ} (b : i ≤ 64) {w : List ℕ} (h : Summing c i w) (k : ℕ) (m : k < 384) where
@@ -118,7 +119,7 @@ module _ {c : List ℕ} (H : Held c) {p s : ℕ} (l : p < 24) (m : s < 16) where
   unfolding ofSeller stands
   sums-same g h e =
       sum-same 64 (λ i b. rw (key-eqb (placeIn c i) p (limits (H .sound) .seller i) m)
-      (go (eqb (F .seller i) s) (eqb (placeIn c i) p) (lookAt c i .listed) (called F i) (F .tested p i) (tested-in c l b) (g i) (h i) (e i b)))
+      (go (eqb (F .seller i) s) (eqb (placeIn c i) p) (lookAt c i .listed) (called F i) (F .tested p i) (tested-at H p b) (g i) (h i) (e i b)))
     where
       parts : (a b m d : Bool) (x y : ℕ) → ((m && b) ≡ true → y ≡ x) → cond (a && b) (cond (m && not d) y 0) 0 ≡ cond a (cond ((m && b) && not d) x 0) 0
       parts false b m d x y e = refl
@@ -139,8 +140,8 @@ module _ {c : List ℕ} (H : Held c) {p s : ℕ} (l : p < 24) (m : s < 16) where
     pub committed-is : at w (0 + k) ≡ ofSeller F s (only (owed.stands F p) (F .committed))
     committed-is = S .committed .row .is k (omega arith) ∙ zero-add _ ∙ sums-same (F .committed) (F .committed) (λ i b e. refl)
 
-    pub reduction-is : at w (384 + k) ≡ ofSeller F s (only (owed.stands F p) (F .testReduction p))
-    reduction-is = S .reduction .row .is k (omega arith) ∙ zero-add _ ∙ sums-same (F .testReduction p) (λ i. lookAt c i .reduction .0) (λ i b e. cond-true 0 (sym (tested-in c l b) ∙ e) refl ∙ sym (reduction-in c l b))
+    pub reduction-is : at w (384 + k) ≡ ofSeller F s (only (owed.stands F p) (owed.result F p))
+    reduction-is = S .reduction .row .is k (omega arith) ∙ zero-add _ ∙ sums-same (owed.result F p) (λ i. lookAt c i .reduction .0) (λ i b e. result-at H p b e)
 
     pub worth-is : at w (768 + k) ≡ ofSeller F s (only (owed.stands F p) (λ i. F .committed i * owed.rate F i))
     worth-is =
@@ -153,7 +154,7 @@ module _ {c : List ℕ} (H : Held c) {p s : ℕ} (l : p < 24) (m : s < 16) where
 
     pub reduction-most : at w (384 + k) ≤ 6400000
     reduction-most =
-        rw reduction-is (ofSeller-le F s 100000 (λ i. cond-le (owed.stands F p i) (limits (H .sound) .testReduction p i)))
+        rw reduction-is (ofSeller-le F s 100000 (λ i. cond-le (owed.stands F p i) (limits (H .sound) .result p i)))
 
     pub worth-most : at w (768 + k) ≤ at w (0 + k) * 100000
     worth-most = rw (worth-is, committed-is) (worth-le (limits (H .sound)) (owed.stands F p) s)

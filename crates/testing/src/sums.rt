@@ -1,5 +1,6 @@
-// The two passes over the entries of all tests: which stand, and their sums by place and seller.
+// The two passes over the entries of all tests and retests: which stand, and their sums by place and seller.
 ghost use mathlib.Core.Path.{_≡_};
+ghost use mathlib.Core.Bool.{cond};
 ghost use Prim.Native.Nat.{_<_};
 ghost use lib.ListN.{length};
 ghost use Rattle.ids.specs.Ids.{tabulate};
@@ -11,6 +12,7 @@ use cells::Cells;
 use looks::Entry;
 use table::Work;
 use units::Nominated;
+use year::Retest;
 
 // By 16 × place + seller, 384 places each: what is committed, the reductions, and what is committed times its rate.
 pub type Sums = [u64; 1152];
@@ -21,13 +23,24 @@ pub const REDUCTION: usize = 384;
 
 pub const WORTH: usize = 768;
 
-// One look at an entry: nothing else reads one.
+// An entry's reduction: the retested one, if there is one, else the first.
+fn result(first: u64, retest: Retest) -> Nominated
+    ensures { λ r. ⌜ r .0 ≡ cond (retest .taken) (retest .reduction) first ⌝ }
+{
+    if retest.taken {
+        return Nominated(retest.reduction);
+    }
+    Nominated(first)
+}
+
+// One look at an entry of a test and at that of its retest: nothing else in the closing reads them.
 fn look(year: &Cells, i: usize) -> Entry
     requires { ⌜ i < 64 ⌝ }
     ensures { λ r. ⌜ r ≡ lookAt (now (year .entry)) i ⌝ }
 {
     let listed = year[cells::TESTED + i] != 0;
-    let reduction = Nominated(year[cells::TESTED + (64 + i)]);
+    let retest = cells::retest_at(year, i);
+    let reduction = result(year[cells::TESTED + (64 + i)], retest);
     Entry { listed, reduction }
 }
 

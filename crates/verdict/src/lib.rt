@@ -15,19 +15,17 @@ use heads::Head;
 use joining::clearing_number;
 use joining::lse_number;
 use joining::registration_number;
-use questions::has_parties;
-use questions::is_open;
+use questions::open_number;
+use retesting::retest_number;
 
 // Of a close.
 fn close_number(year: &Cells, c: CloseHead, room: usize) -> u64
     requires { ⌜ Held (now year) ⌝ }
     ensures { λ n. ⌜ ((l : Listing) → n ≡ firstFailed (questions inTime (yearIn (now (year .entry))) (record { head = Head.Close c; listing = l }) room)) ⌝ }
 {
-    if !is_open(year) {
-        return 6;
-    }
-    if !has_parties(year) {
-        return 8;
+    let first = open_number(year);
+    if first != 0 {
+        return first;
     }
     if c.month != cells::closed(year) + 1 {
         return 15;
@@ -50,5 +48,6 @@ pub fn number_of(year: &Cells, head: Head, listing: &[u64], room: usize) -> u64
         Head::Test(t) => test_number(year, t, listing),
         Head::Close(c) => close_number(year, c, room),
         Head::Clearing(c) => clearing_number(year, c),
+        Head::Retest(t) => retest_number(year, t, listing),
     }
 }

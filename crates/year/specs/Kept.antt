@@ -1,23 +1,24 @@
 -- A new year is sound, and each step keeps it so.
 use Prim.Native.Nat.{ℕ, _<_, _≤_}
 use mathlib.Core.Path.{_≡_, refl, _∙_}
-use mathlib.Core.Bool.{Bool, true, false}
+use mathlib.Core.Bool.{Bool, true, false, cond}
 use mathlib.Core.List.{List}
 use native.Mathlib.Nat.{le-refl, mul-le-mul}
 use native.Mathlib.Omega.{arith}
 use lib.Dec.{lit≤, lit<}
 use lib.ListN.{getD, replicate, length-replicate, getD-replicate, length-set}
-use Rattle.ids.specs.Each.{Each, each-set, each-replicate}
+use Rattle.ids.specs.Each.{Each, each-set, each-replicate, each-tabulate}
 use Rattle.year.specs.declared.Registration.{Registration}
 use Rattle.year.specs.declared.Clearings.{Clearings}
+use Rattle.year.specs.declared.Listing.{Listing}
 use Rattle.year.specs.declared.Event.{Event}
 use Rattle.year.specs.declared.Test.{Test}
 use Rattle.year.specs.declared.Terms.{Terms}
 use Rattle.year.specs.declared.Amounts.{Amounts}
 use Rattle.year.specs.declared.Year.{Year}
-use Rattle.year.specs.Year.{noRegistration, noClearings, noListing, noEvent, noTest, noTerms, noAmounts, newYear, clearingsOf, pastEvent, pastTest, listed, zone, product}
-use Rattle.year.specs.Steps.{withTerms, withOpening, withRegistration, withLse, clearedBy, withClearing, withEvent, withTest, withClose}
-use Rattle.year.specs.Sound.{SoundRegistration, SoundClearings, AtMost, SoundListing, SoundEvent, SoundTest, Factors, SoundTerms, Fits42, SoundAmounts, Sound}
+use Rattle.year.specs.Year.{noRegistration, noClearings, noListing, noEvent, noTest, noRetest, noTerms, noAmounts, newYear, clearingsOf, retestOf, pastEvent, pastTest, listed, reduction, zone, product}
+use Rattle.year.specs.Steps.{withTerms, withOpening, withRegistration, withLse, clearedBy, withClearing, withEvent, withTest, retestBy, withRetest, withClose}
+use Rattle.year.specs.Sound.{SoundRegistration, SoundClearings, AtMost, SoundListing, SoundEvent, SoundTest, SoundRetest, Factors, SoundTerms, Fits42, SoundAmounts, Sound}
 use Rattle.ids.specs.Sets.{kept-set}
 
 false-true : {X : Type 0} {b : Bool} → b ≡ false → b ≡ true → X
@@ -59,12 +60,12 @@ sound-no-tests T e k l =
 
 pub sound-new : Sound newYear
 sound-new =
-    record { closed = lit≤ tt; held = lit≤ tt; terms = sound-no-terms; clearings = each-replicate SoundClearings noClearings 64 sound-no-clearings; events = each-replicate SoundEvent pastEvent 16 sound-no-event; places = length-replicate 24 noTest; tests = sound-no-tests noTerms refl; billed = sound-no-amounts; fresh = λ e. (refl, refl, refl) }
+    record { closed = lit≤ tt; held = lit≤ tt; terms = sound-no-terms; clearings = each-replicate SoundClearings noClearings 64 sound-no-clearings; events = each-replicate SoundEvent pastEvent 16 sound-no-event; places = length-replicate 24 noTest; tests = sound-no-tests noTerms refl; retests = each-replicate SoundRetest noRetest 64 (lit≤ tt); billed = sound-no-amounts; fresh = λ e. (refl, refl, refl, refl) }
 
 module _ {y : Year} (s : Sound y) where
   sound-terms : {opened : Bool} {T : Terms} {cs : List Clearings} → SoundTerms T → Each SoundClearings noClearings 64 cs → SoundTests T (y .tests) → Sound (withTerms y opened T cs)
   sound-terms t c h =
-      record { closed = s .closed; held = s .held; terms = t; clearings = c; events = s .events; places = s .places; tests = h; billed = s .billed; fresh = s .fresh }
+      record { closed = s .closed; held = s .held; terms = t; clearings = c; events = s .events; places = s .places; tests = h; retests = s .retests; billed = s .billed; fresh = s .fresh }
 
   -- other terms with the same registrations
   sound-others : {opened : Bool} {T : Terms} → T .registrations ≡ y .terms .registrations → SoundTerms T → Sound (withTerms y opened T (y .clearings))
@@ -95,12 +96,22 @@ module _ {y : Year} (s : Sound y) where
 
   pub sound-event : y .held < 16 → {e : Event} → SoundEvent e → Sound (withEvent y e)
   sound-event l h =
-      record { closed = s .closed; held = omega arith; terms = s .terms; clearings = s .clearings; events = each-set SoundEvent pastEvent (s .events) (y .held) h; places = s .places; tests = s .tests; billed = s .billed; fresh = λ e. false-true e refl }
+      record { closed = s .closed; held = omega arith; terms = s .terms; clearings = s .clearings; events = each-set SoundEvent pastEvent (s .events) (y .held) h; places = s .places; tests = s .tests; retests = s .retests; billed = s .billed; fresh = λ e. false-true e refl }
 
   pub sound-test : (place : ℕ) {t : Test} → SoundTest (y .terms) place t → Sound (withTest y place t)
   sound-test place {t} h =
-      record { closed = s .closed; held = s .held; terms = s .terms; clearings = s .clearings; events = s .events; places = length-set (y .tests) place t ∙ s .places; tests = kept-set (λ k u. k < 24 → SoundTest (y .terms) k u) pastTest (y .tests) place (λ l. h) (s .tests); billed = s .billed; fresh = λ e. false-true e refl }
+      record { closed = s .closed; held = s .held; terms = s .terms; clearings = s .clearings; events = s .events; places = length-set (y .tests) place t ∙ s .places; tests = kept-set (λ k u. k < 24 → SoundTest (y .terms) k u) pastTest (y .tests) place (λ l. h) (s .tests); retests = s .retests; billed = s .billed; fresh = λ e. false-true e refl }
+
+  -- after a test
+  pub sound-retest : y .started ≡ true → {l : Listing} → SoundListing l → Sound (withRetest y l)
+  unfolding reduction
+  sound-retest e {l} h =
+      record { closed = s .closed; held = s .held; terms = s .terms; clearings = s .clearings; events = s .events; places = s .places; tests = s .tests; retests = each-tabulate SoundRetest noRetest 64 (λ i m. go i m (listed l i)); billed = s .billed; fresh = λ f. false-true f e }
+    where
+      go : (i : ℕ) → i < 64 → (b : Bool) → SoundRetest (cond b (retestBy l i) (retestOf y i))
+      go i m true = h .reductions .at i m
+      go i m false = s .retests .at i m
 
   pub sound-close : y .closed < 15 → {billed : Amounts} → SoundAmounts billed → Sound (withClose y billed)
   sound-close l h =
-      record { closed = omega arith; held = s .held; terms = s .terms; clearings = s .clearings; events = s .events; places = s .places; tests = s .tests; billed = h; fresh = λ e. false-true e refl }
+      record { closed = omega arith; held = s .held; terms = s .terms; clearings = s .clearings; events = s .events; places = s .places; tests = s .tests; retests = s .retests; billed = h; fresh = λ e. false-true e refl }

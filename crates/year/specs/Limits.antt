@@ -1,17 +1,20 @@
 -- What sound terms and listings say of every id, also past the arrays' ends.
-use Prim.Native.Nat.{ℕ, zero, suc, _≤_, _<_}
+use Prim.Native.Nat.{ℕ, zero, suc, _*_, _≤_, _<_}
 use mathlib.Core.Path.{_≡_}
-use mathlib.Core.Bool.{true, false}
+use mathlib.Core.Bool.{Bool, true, false}
 use mathlib.Core.List.{List, [], _∷_}
 use native.Mathlib.Omega.{arith}
 use lib.Dec.{lit≤}
 use lib.ListN.{length, getD}
+use Rattle.ids.specs.Ids.{sumTo, only}
+use Rattle.ids.specs.Sums.{sum-bound}
+use Rattle.ids.specs.Tests.{cond-le}
 use Rattle.ids.specs.Each.{Each}
 use Rattle.year.specs.declared.Listing.{Listing}
 use Rattle.year.specs.declared.Terms.{Terms}
 use Rattle.year.specs.declared.Year.{Year}
-use Rattle.year.specs.Year.{registration, clearingsOf, known, seller, area, zone, product, committed, fieldRate, size, lses, reduction}
-use Rattle.year.specs.Sound.{SoundRegistration, SoundClearings, AtMost, SoundListing, SoundTerms, Sound}
+use Rattle.year.specs.Year.{registration, clearingsOf, retestOf, known, seller, area, zone, product, committed, fieldRate, size, lses, reduction}
+use Rattle.year.specs.Sound.{SoundRegistration, SoundClearings, AtMost, SoundListing, SoundRetest, SoundTerms, Sound}
 use Rattle.year.specs.Kept.{sound-no-registration, sound-no-clearings}
 
 -- what holds of the default and of each element holds of what is read anywhere
@@ -48,6 +51,9 @@ module _ {T : Terms} (s : SoundTerms T) where
   unfolding committed
   committed-most i = registration-sound i .committed
 
+  pub committed-sum : (p : ℕ → Bool) (n : ℕ) → sumTo n (only p (committed T)) ≤ n * 100000
+  committed-sum p n = sum-bound n 100000 (only p (committed T)) (λ i l. cond-le (p i) (committed-most i))
+
   pub committed-some : (i : ℕ) → known T i ≡ true → 1 ≤ committed T i
   unfolding known committed
   committed-some i e = registration-sound i .some e
@@ -68,6 +74,9 @@ module _ {T : Terms} (s : SoundTerms T) where
 
 pub clearings-sound : {y : Year} → Sound y → (i : ℕ) → SoundClearings (clearingsOf y i)
 clearings-sound s = each-anywhere SoundClearings sound-no-clearings (s .clearings)
+
+pub retest-most : {y : Year} → Sound y → (i : ℕ) → retestOf y i .reduction ≤ 100000
+retest-most s = each-anywhere SoundRetest (lit≤ tt) (s .retests)
 
 module _ {l : Listing} (s : SoundListing l) where
   pub reduction-most : (i : ℕ) → reduction l i ≤ 100000

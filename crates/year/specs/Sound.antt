@@ -10,10 +10,11 @@ use Rattle.year.specs.declared.Clearings.{Clearings}
 use Rattle.year.specs.declared.Listing.{Listing}
 use Rattle.year.specs.declared.Event.{Event}
 use Rattle.year.specs.declared.Test.{Test}
+use Rattle.year.specs.declared.Retest.{Retest}
 use Rattle.year.specs.declared.Terms.{Terms}
 use Rattle.year.specs.declared.Amounts.{Amounts}
 use Rattle.year.specs.declared.Year.{Year}
-use Rattle.year.specs.Year.{noRegistration, noClearings, noTest, pastEvent, pastTest, listed, zone, product}
+use Rattle.year.specs.Year.{noRegistration, noClearings, noTest, noRetest, pastEvent, pastTest, listed, zone, product}
 
 pub record SoundRegistration (r : Registration) : Type 0 where
   pub seller : r .seller < 16
@@ -51,6 +52,9 @@ pub record SoundTest (T : Terms) (place : ℕ) (t : Test) : Type 0 where
   pub own : (i : ℕ) → i < 64 → listed (t .listing) i ≡ true → 3 * zone T i + product T i ≡ place
   pub untaken : t .taken ≡ false → (i : ℕ) → i < 64 → listed (t .listing) i ≡ false
 
+abbrev pub SoundRetest : Retest → Type 0
+SoundRetest r = r .reduction ≤ 100000
+
 -- a leap mark, a DR Factor and a Forecast Pool Requirement
 pub record Factors (l f r : ℕ) : Type 0 where
   pub leap : l ≤ 1
@@ -80,5 +84,6 @@ pub record Sound (y : Year) : Type 0 where
   pub events : Each SoundEvent pastEvent 16 (y .events)
   pub places : length (y .tests) ≡ 24
   pub tests : (k : ℕ) → k < 24 → SoundTest (y .terms) k (getD (y .tests) k pastTest)
+  pub retests : Each SoundRetest noRetest 64 (y .retests)
   pub billed : SoundAmounts (y .billed)
-  pub fresh : y .started ≡ false → (y .held ≡ 0) × (y .closed ≡ 0) × (y .tests ≡ replicate 24 noTest)
+  pub fresh : y .started ≡ false → (y .held ≡ 0) × (y .closed ≡ 0) × (y .tests ≡ replicate 24 noTest) × (y .retests ≡ replicate 64 noRetest)

@@ -9,6 +9,7 @@ use Rattle.year.specs.declared.Clearings.{Clearings}
 use Rattle.year.specs.declared.Listing.{Listing}
 use Rattle.year.specs.declared.Event.{Event}
 use Rattle.year.specs.declared.Test.{Test}
+use Rattle.year.specs.declared.Retest.{Retest}
 use Rattle.year.specs.declared.Terms.{Terms}
 use Rattle.year.specs.declared.Amounts.{Amounts}
 use Rattle.year.specs.declared.Year.{Year}
@@ -29,6 +30,9 @@ noEvent = record { area = 0; month = 0; period = 0; listing = noListing }
 abbrev pub noTest : Test
 noTest = record { taken = false; month = 0; listing = noListing }
 
+abbrev pub noRetest : Retest
+noRetest = record { taken = false; reduction = 0 }
+
 abbrev pub noTerms : Terms
 noTerms =
     record { leap = 0; factor = 0; requirement = 0; registrations = replicate 64 noRegistration; obligations = replicate 16 0 }
@@ -39,7 +43,7 @@ noAmounts = record { compliance = replicate 16 0; test = replicate 16 0; credit 
 -- no year yet
 abbrev pub newYear : Year
 newYear =
-    record { opened = false; started = false; closed = 0; terms = noTerms; clearings = replicate 64 noClearings; events = replicate 16 noEvent; held = 0; tests = replicate 24 noTest; billed = noAmounts }
+    record { opened = false; started = false; closed = 0; terms = noTerms; clearings = replicate 64 noClearings; events = replicate 16 noEvent; held = 0; tests = replicate 24 noTest; retests = replicate 64 noRetest; billed = noAmounts }
 
 -- what the code reads past an array's end: every number 0, every test false, every list empty
 abbrev pub pastListing : Listing
@@ -58,6 +62,10 @@ accepted y = take (y .held) (y .events)
 -- what registration i's clearings come to
 abbrev pub clearingsOf : Year → ℕ → Clearings
 clearingsOf y i = getD (y .clearings) i noClearings
+
+-- registration i's retest
+abbrev pub retestOf : Year → ℕ → Retest
+retestOf y i = getD (y .retests) i noRetest
 
 -- is registration i listed, and with which reduction; the deficit of seller s, 0 where it is absent
 unfoldable pub listed : Listing → ℕ → Bool

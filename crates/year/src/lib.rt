@@ -40,6 +40,12 @@ pub struct Test {
     pub listing: Listing,
 }
 
+// A registration's retest: the reduction that stands for its test's. The place of one that has none holds zeros.
+pub struct Retest {
+    pub taken: bool,
+    pub reduction: u64,
+}
+
 // What no event, test or close changes. An obligation of 0 is an LSE that is not known.
 pub struct Terms {
     pub leap: u64,
@@ -57,9 +63,9 @@ pub struct Amounts {
     pub lse: [u64; 16],
 }
 
-// `started`: an event, test or close is accepted. `closed` counts the closes. What clearings come to stands by
-// registration, events in order of acceptance, and the test of zone z and product p at 3 z + p. `billed` holds the
-// amounts to date at the last close.
+// `started`: an event, test or close is accepted. `closed` counts the closes. What clearings come to and retests stand
+// by registration, events in order of acceptance, and the test of zone z and product p at 3 z + p, as it was recorded.
+// `billed` holds the amounts to date at the last close.
 pub struct Year {
     pub opened: bool,
     pub started: bool,
@@ -69,5 +75,6 @@ pub struct Year {
     pub events: [Event; 16],
     pub held: usize,
     pub tests: [Test; 24],
+    pub retests: [Retest; 64],
     pub billed: Amounts,
 }

@@ -3,10 +3,12 @@ use Prim.Native.Nat.{ℕ}
 use Prim.Native.Char.{code}
 use Prim.Native.String.{String, [] as none, _∷_ as _then_}
 use mathlib.Core.List.{List, [], _∷_, _++_, map}
-use mathlib.Core.Bool.{true}
-use mathlib.Core.Path.{_≡_, refl}
+use mathlib.Core.Bool.{true, cond}
+use mathlib.Core.Path.{_≡_, refl, ap}
+use native.Mathlib.Omega.{arith}
+use lib.Dec.{lit≤}
 use lib.ListN.{replicate}
-use Rattle.ids.specs.Ids.{sumTo, anyTo, allTo, tabulate}
+use Rattle.ids.specs.Ids.{holds, sumTo, anyTo, allTo, tabulate}
 use Rattle.units.specs.Units.{convert}
 use Rattle.calendar.specs.Calendar.{days, due, callable, testable}
 use Rattle.allotment.specs.Allot.{share}
@@ -14,23 +16,27 @@ use Rattle.bits.specs.Bits.{bitAt, number}
 use Rattle.bits.specs.Table.{times}
 use Rattle.bits.specs.Pack.{bitsOf, spell, byteOf, bytesOf, pack, encode}
 use Rattle.layouts.specs.Layout.{itemsIn, rulesTo, rulesFor}
-use Rattle.layouts.specs.Questions.{recordQuestions, firstFailed, kindOf, headOf, rulesOf, numbersOf, isKind, isWhole, permits, permitted, isFilled, rises, idsRise, recordNumber, consumed}
+use Rattle.layouts.specs.Questions.{recordQuestions, firstFailed, kindOf, headOf, rulesOf, numbersOf, isKind, isWhole, permits, permitted, isFilled, rises, idsRise, recordNumber, consumed, rulesBy}
+use Rattle.records.specs.Calls.{bytesBy}
 use Rattle.year.specs.Year.{newYear, listed, reduction, deficit, known, seller, area, zone, product, committed, fieldRate, obligation}
-use Rattle.owed.specs.Owed.{beforeCap, raised, unforced, own, ofArea, areaRate, rate, ofSeller, shareOf, called, calls, shortfallOver, u, cap, daily, spent, charge, excess, e, creditShare, creditLimit, creditOf, B, testOf, compliance, test, credit, charges, credits, lse, amounts}
+use Rattle.owed.specs.Owed.{beforeCap, raised, unforced, own, ofArea, areaRate, rate, ofSeller, shareOf, called, calls, shortfallOver, u, cap, daily, spent, charge, excess, e, creditShare, creditLimit, creditOf, result, B, testOf, compliance, test, credit, charges, credits, lse, amounts}
+use Rattle.owed.specs.Retests.{belowQuarter, entryOf, failed, testedKw, failedKw, hadRetest}
 use Rattle.statement.specs.Statement.{difference, hasRegistration, hasObligation, sellerColumns, lineFields, linesTo, statementFields, statementOf}
 use Rattle.statement.specs.Value42.{value42}
 use Rattle.heads.specs.Record.{headOf as namedHead, withItem, withItems, listingTo, listingIn}
-use Rattle.questions.specs.Questions.{inTime, q6, q7, q8, q9, q10, q17, q11, q12, q13, q14, q15, q16, questions}
+use Rattle.questions.specs.Questions.{inTime, q6, q7, q8, q9, q10, q17, q11, q20, q21, q12, q13, q14, q15, q16, questions}
 use Rattle.entries.specs.Entries.{inArea, inGroup, everyListed, deficitsListed, listsExactly}
 use Rattle.recorded.specs.After.{yearBy}
-use Rattle.recorded.specs.Recorded.{gather, lastOr, sumOver, summed, termsIn, clearingsIn, eventsIn, testsIn, recorded, factsIn}
+use Rattle.recorded.specs.Recorded.{gather, lastOr, sumOver, summed, termsIn, clearingsIn, eventsIn, testsIn, retestsIn, recorded, factsIn}
 use Rattle.book.specs.Outcome.{postNumber, bufferWith, yearAfter, bufferAfter}
 use Rattle.text.specs.Lines.{digitsTo, decimal}
 use Rattle.file.specs.Walk.{recordsTo}
-use Rattle.history.specs.Runs.{Call, Answered, isAccepted, isClosing, acceptedIn, statements}
+use Rattle.reductions.specs.Reductions.{reducesIn, isReduction, withReductions}
+use Rattle.history.specs.Runs.{Call, Answered, isAccepted, isClosing, acceptedIn, statements, Variant}
 use Rattle.history.specs.Taking.{buffered, step, shown, answered, answers, run}
 use Rattle.history.specs.Claim.{AtClose}
 use Rattle.history.specs.Along.{answers-more}
+use Rattle.history.specs.Itself.{chosen, variant-one}
 use Rattle.history.specs.Proof.{demand3}
 use Rattle.history.specs.Files.{callsOf, numbers}
 use Rattle.answer.specs.Answer.{answerText, textOf, calls as callsIn, billText}
@@ -98,7 +104,7 @@ withEvents = parties ++ ((0x61 ∷ 0x62 ∷ 0x63 ∷ 0x64 ∷ []) ++ (juneEvent 
 
 -- what the bill program prints of a file. What computes it is named here, once for all figures.
 bill : List ℕ → List ℕ
-unfolding sumTo anyTo allTo tabulate convert days due callable testable share bitAt number bitsOf spell byteOf bytesOf pack encode itemsIn times rulesTo rulesFor recordQuestions firstFailed kindOf headOf rulesOf numbersOf isKind isWhole permits permitted isFilled rises idsRise listed reduction deficit known seller area zone product committed fieldRate obligation beforeCap raised unforced own ofArea areaRate rate ofSeller shareOf called calls shortfallOver u cap daily spent charge excess e creditShare creditLimit creditOf B testOf compliance test credit charges credits lse amounts difference hasRegistration hasObligation sellerColumns lineFields linesTo statementFields statementOf value42 namedHead withItem withItems listingTo listingIn inArea inGroup everyListed deficitsListed listsExactly inTime q6 q7 q8 q9 q10 q17 q11 q12 q13 q14 q15 q16 questions postNumber yearBy bufferWith yearAfter bufferAfter digitsTo decimal cents refusalLine linesFrom monthLine partyLine statementLines answerLines bytes recordNumber consumed recordsTo isAccepted isClosing buffered step run answered gather lastOr sumOver summed termsIn clearingsIn eventsIn testsIn recorded callsOf answerText textOf
+unfolding sumTo anyTo allTo tabulate convert days due callable testable share bitAt number bitsOf spell byteOf bytesOf pack encode itemsIn times rulesTo rulesFor recordQuestions firstFailed kindOf headOf rulesOf numbersOf isKind isWhole permits permitted isFilled rises idsRise listed reduction deficit known seller area zone product committed fieldRate obligation beforeCap raised unforced own ofArea areaRate rate ofSeller shareOf called calls shortfallOver u cap daily spent charge excess e creditShare creditLimit creditOf result belowQuarter entryOf failed testedKw failedKw hadRetest B testOf compliance test credit charges credits lse amounts difference hasRegistration hasObligation sellerColumns lineFields linesTo statementFields statementOf value42 namedHead withItem withItems listingTo listingIn inArea inGroup everyListed deficitsListed listsExactly inTime q6 q7 q8 q9 q10 q17 q11 q20 q21 q12 q13 q14 q15 q16 questions postNumber yearBy bufferWith yearAfter bufferAfter digitsTo decimal cents refusalLine linesFrom monthLine partyLine statementLines answerLines bytes recordNumber consumed recordsTo isAccepted isClosing buffered step run answered gather lastOr sumOver summed termsIn clearingsIn eventsIn testsIn retestsIn recorded callsOf answerText textOf
 bill file = billText file blank
 
 -- Year A: each record's number, the buffer that each is lent (as the one before left it; one record more shows what the last leaves), the
@@ -146,6 +152,22 @@ borrowed-figures : bill withBorrower ≡ bytes "M 1\nS 0 0 0 0\nS 1 0 0 0\nS 2 0
 unfolding bill
 borrowed-figures = refl
 
+-- Registration 2, of seller 0 too, commits 3,001 kW at 10,000 and gives them in the June test, so that 1,000 of its 4,001 kW failed, less than a quarter. Close 1 charges
+-- 400 kW as in Year A. In July registration 0 gives 900: 100 kW convert to 102, × 12,000 × 61 / 1,000 is 74,664 to date, 72,936 less. A second retest is refused with 20.
+abbrev withThird : List ℕ
+withThird = parties ++ (0x20 ∷ 0x80 ∷ 0x90 ∷ 0x17 ∷ 0x72 ∷ 0x27 ∷ 0x10 ∷ [])
+
+abbrev testOfThree : List ℕ
+testOfThree = 0x52 ∷ 0x08 ∷ 0x01 ∷ 0x80 ∷ 0x02 ∷ 0x58 ∷ 0x04 ∷ 0x10 ∷ 0x68 ∷ 0x10 ∷ 0x2E ∷ 0xE4 ∷ []
+
+abbrev julyRetest : List ℕ
+julyRetest = 0x90 ∷ 0x21 ∷ 0x01 ∷ 0x00 ∷ 0x07 ∷ 0x08 ∷ []
+
+retest-figures : bill (withThird ++ (testOfThree ++ (0x61 ∷ julyRetest ++ (julyRetest ++ (0x62 ∷ [])))))
+    ≡ bytes "M 1\nS 0 0 147600 0\nS 1 0 0 0\nL 0 110700\nL 1 36900\nN 10 20\nM 2\nS 0 0 -72936 0\nS 1 0 0 0\nL 0 -54702\nL 1 -18234\n"
+unfolding bill
+retest-figures = refl
+
 -- Year A's close, after the six records before it: it is accepted, so demand 3's claims at a close are made of it; and what they say there.
 abbrev earlier : List Call
 earlier = callsIn (parties ++ juneTest) blank
@@ -167,3 +189,23 @@ claim-figures : (test (factsIn (acceptedIn before)) 1 0 ≡ 147600) × (lse (fac
     × (hasRegistration (termsIn (acceptedIn before)) 0 ≡ true) × (hasObligation (termsIn (acceptedIn before)) 1 ≡ true)
 unfolding bill
 claim-figures = (refl, refl, refl, refl, refl)
+
+-- Why demand 3 leaves out a seller's own retests where it says that the same records are accepted: a June retest of registration 0 is accepted after that test; with 3,001 kW in
+-- both entries of seller 0's nothing failed, and it is refused.
+abbrev registered : List Call
+registered = callsIn withThird blank
+
+abbrev tested : Call
+tested = record { bytes = testOfThree; buffer = blank }
+
+abbrev retested : Call
+retested = record { bytes = 0x90 ∷ 0x20 ∷ 0x81 ∷ 0x00 ∷ 0x07 ∷ 0x08 ∷ []; buffer = blank }
+
+accepted-otherwise : ((H G : List Call) → Variant 0 [] (answers newYear H) G → gather (λ x. isAccepted x ∷ []) (answers newYear G) ≡ gather (λ x. isAccepted x ∷ []) (answers newYear H)) → ⊥
+unfolding bill reducesIn isReduction withReductions rulesBy bytesBy
+accepted-otherwise alike =
+    let rs = acceptedIn (answers newYear registered) in
+    let varied = chosen 0 rs (run newYear registered) tested refl (λ j. 3001) (λ j. lit≤ tt) blank refl in
+    let e = alike (registered ++ tested ∷ retested ∷ []) _ (variant-one 0 registered (retested ∷ []) varied) in
+    let last : _≡_ {A = ℕ} 0 1 = ap (λ bs. cond (holds bs 7) 1 0) e in
+    absurd (omega (arith, last))

@@ -15,7 +15,8 @@ use Rattle.steps.proofs.clear.Reads as clear-reads
 use Rattle.steps.proofs.oblige.Reads as oblige-reads
 use Rattle.steps.proofs.open.Reads as open-reads
 use Rattle.steps.proofs.register.Reads as register-reads
-use Rattle.steps.proofs.test.Reads as test-reads
+use Rattle.entering.proofs.retest.Reads as retest-reads
+use Rattle.entering.proofs.test.Reads as test-reads
 
 open-requires : tie.Need-open-requires
 unfolding Suits
@@ -89,6 +90,13 @@ clear-requires c κs =
     let t = rw (c .before .before .head7 .given .1) at (start .pre .1 .1 .0) in
     (start .pre .0, (t .0 .registration, (t .1, (t .0 .price, (t .0 .some, t .0 .kw)))))
 
+retest-requires : tie.Need-retest-requires
+unfolding Suits
+retest-requires c κs =
+    let start = c .before .before .before .before .before in
+    let t = rw (c .before .enum-told .given .1) at (start .pre .1 .1 .0) in
+    (start .pre .0, (t .0, (start .pre .1 .0, t .1)))
+
 returns : tie.Need-returns
 unfolding yearBy bufferWith writtenWith
 returns c =
@@ -132,6 +140,12 @@ returns-7 c =
     let is = c .before .before .before .head7 .given .1 in
     (rw is (c .clear .ensures .0), (c .clear .ensures .1, (rw is, rw is)))
 
+returns-8 : tie.Need-returns-8
+unfolding yearBy bufferWith writtenWith
+returns-8 c =
+    let is = c .before .before .enum-told .given .1 in
+    (rw is (c .retest .ensures .0), (c .retest .ensures .1, (rw is, rw is)))
+
 pub take-spec : {M : Type 1} → statement M
 take-spec =
     tie.close
@@ -153,6 +167,8 @@ take-spec =
     close-requires
     (λ c. search needs)
     clear-requires
+    (λ c. search needs)
+    retest-requires
     returns
     returns-2
     returns-3
@@ -160,4 +176,5 @@ take-spec =
     returns-5
     (λ c. search needs)
     returns-6
-    returns-7)
+    returns-7
+    returns-8)

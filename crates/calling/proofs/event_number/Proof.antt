@@ -5,77 +5,63 @@ use mathlib.Core.Bool.{true}
 use borrow.Author.Tests.{lt-ltb, le-ltb}
 use Rattle.layouts.specs.Questions.{firstFailed}
 use Rattle.ids.specs.Ids.{at}
-use Rattle.year.specs.Year.{known, area}
-use Rattle.entries.specs.Entries.{inArea}
 use Rattle.cells.specs.Layout.{listingAt, yearIn}
 use Rattle.heads.specs.declared.Head.the-variants.{Event}
-use Rattle.questions.specs.Questions.{inTime, q6, q7, q8, q9, q10, q17, q11, q12, q13, q14, q15, q16, questions}
-use Rattle.questions.specs.Answers.{yes, no}
+use Rattle.questions.specs.Questions.{inTime, q6, q7, q8, q9, q10, q17, q11, q20, q21, q12, q13, q14, q15, q16, questions}
+use Rattle.questions.specs.Answers.{yes, no, both-pass, one-fails}
 use Rattle.calling.proofs.event_number.Statement.{statement}
 use Rattle.calling.proofs.event_number.Tie as tie
 use Rattle.cells.proofs.held.Reads as held-reads
 use Rattle.entries.proofs.entries_pass.Reads as entries-pass-reads
-use Rattle.questions.proofs.has_parties.Reads as has-parties-reads
-use Rattle.questions.proofs.is_open.Reads as is-open-reads
+use Rattle.questions.proofs.open_number.Reads as open-number-reads
 use Rattle.calling.proofs.may_call.Reads as may-call-reads
 
 -- the questions' answers, and that they pass further on
-six : (c : tie.After-is-open) → let a = c .before .before .args in c .is-open .result ≡ q6 (yearIn (a .year .now)) (Event (a .e))
-unfolding q6
-six c = c .is-open .ensures
+opens : (c : tie.Else1) → let a = c .before .before .before .args in (q6 (yearIn (a .year .now)) (Event (a .e)) ≡ true) × (q8 (yearIn (a .year .now)) (Event (a .e)) ≡ true)
+unfolding q6 q8
+opens c = both-pass _ _ (c .before .open-number .ensures) (c .if1 .left)
 
-six-passes : (c : tie.Else1) → let a = c .before .before .before .args in q6 (yearIn (a .year .now)) (Event (a .e)) ≡ true
-six-passes c = yes (six (c .before)) (c .if1 .left)
-
-eight : (c : tie.After-has-parties) → let a = c .before .before .before .before .args in c .has-parties .result ≡ q8 (yearIn (a .year .now)) (Event (a .e))
-unfolding q8
-eight c = c .has-parties .ensures
-
-eight-passes : (c : tie.Else2) → let a = c .before .before .before .before .before .args in q8 (yearIn (a .year .now)) (Event (a .e)) ≡ true
-eight-passes c = yes (eight (c .before)) (c .if2 .left)
-
-ten : (c : tie.After-entries-pass) → let a = c .before .before .before .before .before .before .args in c .entries-pass .result ≡ q10 (yearIn (a .year .now)) (listingAt (at (a .listing .now))) (Event (a .e))
-unfolding q10 inArea known area
+ten : (c : tie.After-entries-pass) → let a = c .before .before .before .before .args in c .entries-pass .result ≡ q10 (yearIn (a .year .now)) (listingAt (at (a .listing .now))) (Event (a .e))
+unfolding q10
 ten c = c .entries-pass .ensures
 
-ten-passes : (c : tie.Else3) → let a = c .before .before .before .before .before .before .before .args in q10 (yearIn (a .year .now)) (listingAt (at (a .listing .now))) (Event (a .e)) ≡ true
-ten-passes c = yes (ten (c .before)) (c .if3 .left)
+ten-passes : (c : tie.Else2) → let a = c .before .before .before .before .before .args in q10 (yearIn (a .year .now)) (listingAt (at (a .listing .now))) (Event (a .e)) ≡ true
+ten-passes c = yes (ten (c .before)) (c .if2 .left)
 
-eleven : (c : tie.After-may-call) → let a = c .before .before .before .before .before .before .before .before .args in c .may-call .result ≡ q11 (yearIn (a .year .now)) inTime (listingAt (at (a .listing .now))) (Event (a .e))
+eleven : (c : tie.After-may-call) → let a = c .before .before .before .before .before .before .args in c .may-call .result ≡ q11 (yearIn (a .year .now)) inTime (listingAt (at (a .listing .now))) (Event (a .e))
 unfolding q11
 eleven c = c .may-call .ensures
 
-eleven-passes : (c : tie.Else4) → let a = c .before .before .before .before .before .before .before .before .before .args in q11 (yearIn (a .year .now)) inTime (listingAt (at (a .listing .now))) (Event (a .e)) ≡ true
-eleven-passes c = yes (eleven (c .before)) (c .if4 .left)
+eleven-passes : (c : tie.Else3) → let a = c .before .before .before .before .before .before .before .args in q11 (yearIn (a .year .now)) inTime (listingAt (at (a .listing .now))) (Event (a .e)) ≡ true
+eleven-passes c = yes (eleven (c .before)) (c .if3 .left)
 
 returns : tie.Need-returns
-unfolding firstFailed questions
-returns c room = rw (no (six (c .before)) (c .if1 .taken))
+unfolding questions q6 q7 q8
+returns c room = one-fails _ _ _ (c .before .open-number .ensures) (c .if1 .taken)
 
 returns-2 : tie.Need-returns-2
-unfolding firstFailed questions q7
-returns-2 c room = rw (six-passes (c .before .before), no (eight (c .before)) (c .if2 .taken))
+unfolding firstFailed questions q7 q9 q17
+returns-2 c room = rw (opens (c .before .before) .0, opens (c .before .before) .1, no (ten (c .before)) (c .if2 .taken))
 
 returns-3 : tie.Need-returns-3
 unfolding firstFailed questions q7 q9 q17
-returns-3 c room = rw (six-passes (c .before .before .before .before), eight-passes (c .before .before), no (ten (c .before)) (c .if3 .taken))
+returns-3 c room =
+    let both = opens (c .before .before .before .before) in
+    rw (both .0, both .1, ten-passes (c .before .before), no (eleven (c .before)) (c .if3 .taken))
 
 returns-4 : tie.Need-returns-4
-unfolding firstFailed questions q7 q9 q17
+unfolding firstFailed questions q7 q9 q17 q20 q21 q12 q13 q14 q15 q16
 returns-4 c room =
-    rw (six-passes (c .before .before .before .before .before .before), eight-passes (c .before .before .before .before), ten-passes (c .before .before), no (eleven (c .before)) (c .if4 .taken))
+    let three = c .before .before in
+    let both = opens (three .before .before .before .before) in
+    rw (both .0, both .1, ten-passes (three .before .before), eleven-passes three, sym (c .before .held .ensures), lt-ltb _ _ (c .if4 .taken))
 
 returns-5 : tie.Need-returns-5
-unfolding firstFailed questions q7 q9 q17 q12 q13 q14 q15 q16
+unfolding firstFailed questions q7 q9 q17 q20 q21 q12
 returns-5 c room =
-    let four = c .before .before in
-    rw (six-passes (four .before .before .before .before .before .before), eight-passes (four .before .before .before .before), ten-passes (four .before .before), eleven-passes four, sym (c .before .held .ensures), lt-ltb _ _ (c .if5 .taken))
-
-returns-6 : tie.Need-returns-6
-unfolding firstFailed questions q7 q9 q17 q12
-returns-6 c room =
-    let four = c .before .before in
-    rw (six-passes (four .before .before .before .before .before .before), eight-passes (four .before .before .before .before), ten-passes (four .before .before), eleven-passes four, sym (c .before .held .ensures), le-ltb _ _ (c .if5 .left))
+    let three = c .before .before in
+    let both = opens (three .before .before .before .before) in
+    rw (both .0, both .1, ten-passes (three .before .before), eleven-passes three, sym (c .before .held .ensures), le-ltb _ _ (c .if4 .left))
 
 pub event-number-spec : {M : Type 1} → statement M
 event-number-spec =
@@ -89,6 +75,4 @@ event-number-spec =
     returns-3
     (λ c κs. search needs)
     returns-4
-    (λ c κs. search needs)
-    returns-5
-    returns-6)
+    returns-5)

@@ -8,10 +8,10 @@ use Rattle.layouts.proofs.first_of.Statement.{statement}
 use Rattle.layouts.proofs.first_of.Tie as tie
 
 -- past the last kind
-returns-9 : tie.Need-returns-9
+returns-11 : tie.Need-returns-11
 unfolding startOf kinds
-returns-9 c =
-    let last : c .before .args .kind ≡ 8 = omega (arith, none-below 8 (c .before .args .kind) (c .match .rest), c .before .pre) in
+returns-11 c =
+    let last : c .before .args .kind ≡ 10 = omega (arith, none-below 10 (c .before .args .kind) (c .match .rest), c .before .pre) in
     rw last
 
 pub first-of-spec : {M : Type 1} → statement M
@@ -27,4 +27,6 @@ first-of-spec =
     (λ c. search needs)
     (λ c. search needs)
     (λ c. search needs)
-    returns-9)
+    (λ c. search needs)
+    (λ c. search needs)
+    returns-11)

@@ -8,17 +8,20 @@ use Rattle.layouts.proofs.row_at.Statement.{statement}
 use Rattle.layouts.proofs.row_at.Tie as tie
 
 -- the last part
-returns-12 : tie.Need-returns-12
+returns-15 : tie.Need-returns-15
 unfolding join startOf kinds parts fieldsIn
-returns-12 c =
-    let last : c .before .before .args .part ≡ 11 = omega (arith, none-below 11 (c .before .before .args .part) (c .before .match .rest), c .before .before .pre) in
-    rw last (c .row12 .ensures)
+returns-15 c =
+    let last : c .before .before .args .part ≡ 14 = omega (arith, none-below 14 (c .before .before .args .part) (c .before .match .rest), c .before .before .pre) in
+    rw last (c .row15 .ensures)
 
 pub row-at-spec : {M : Type 1} → statement M
 unfolding join startOf kinds parts fieldsIn
 row-at-spec =
     tie.close
     (tie.spec
+    (λ c κs. search needs)
+    (λ c κs. search needs)
+    (λ c κs. search needs)
     (λ c κs. search needs)
     (λ c κs. search needs)
     (λ c κs. search needs)
@@ -42,4 +45,7 @@ row-at-spec =
     (λ c. rw (c .before .match .keys9) (c .row9 .ensures))
     (λ c. rw (c .before .match .keys10) (c .row10 .ensures))
     (λ c. rw (c .before .match .keys11) (c .row11 .ensures))
-    returns-12)
+    (λ c. rw (c .before .match .keys12) (c .row12 .ensures))
+    (λ c. rw (c .before .match .keys13) (c .row13 .ensures))
+    (λ c. rw (c .before .match .keys14) (c .row14 .ensures))
+    returns-15)

@@ -2,7 +2,8 @@
 use borrow.Author.Needs.{needs}
 use mathlib.Core.Path.{_∙_}
 use native.Mathlib.Omega.{arith}
-use Rattle.steps.specs.Laying.{call-laid, stepped}
+use Rattle.cells.specs.Regions.{stepped}
+use Rattle.steps.specs.Laying.{call-laid}
 use Rattle.year.specs.Kept.{sound-event}
 use Rattle.steps.proofs.call.Statement.{statement}
 use Rattle.steps.proofs.call.Tie as tie

@@ -6,7 +6,8 @@ use borrow.Author.Needs.{needs}
 use Rattle.year.specs.Sound.{SoundClearings}
 use Rattle.year.specs.Limits.{clearings-sound}
 use Rattle.year.specs.Kept.{sound-clearing}
-use Rattle.steps.specs.Laying.{clearing-laid, stepped}
+use Rattle.cells.specs.Regions.{stepped}
+use Rattle.steps.specs.Laying.{clearing-laid}
 use Rattle.steps.proofs.clear.Statement.{statement}
 use Rattle.steps.proofs.clear.Tie as tie
 use Rattle.cells.proofs.clearings_at.Reads as clearings-at-reads

@@ -1,7 +1,8 @@
 -- `steps::close` meets its contract: the marks, and four rows of amounts. Assumes nothing.
 use borrow.Author.Needs.{needs}
 use mathlib.Core.Path.{_∙_}
-use Rattle.steps.specs.Laying.{close-laid, stepped}
+use Rattle.cells.specs.Regions.{stepped}
+use Rattle.steps.specs.Laying.{close-laid}
 use Rattle.year.specs.Kept.{sound-close}
 use Rattle.steps.proofs.close.Statement.{statement}
 use Rattle.steps.proofs.close.Tie as tie

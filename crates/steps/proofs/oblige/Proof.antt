@@ -1,6 +1,7 @@
 -- `steps::oblige` meets its contract: one number. Assumes nothing.
 use borrow.Author.Needs.{needs}
-use Rattle.steps.specs.Laying.{lse-laid, stepped}
+use Rattle.cells.specs.Regions.{stepped}
+use Rattle.steps.specs.Laying.{lse-laid}
 use Rattle.year.specs.Kept.{sound-lse}
 use Rattle.steps.proofs.oblige.Statement.{statement}
 use Rattle.steps.proofs.oblige.Tie as tie

@@ -1,6 +1,7 @@
 -- `steps::open` meets its contract: one row. Assumes nothing.
 use borrow.Author.Needs.{needs}
-use Rattle.steps.specs.Laying.{opening-laid, stepped}
+use Rattle.cells.specs.Regions.{stepped}
+use Rattle.steps.specs.Laying.{opening-laid}
 use Rattle.year.specs.Kept.{sound-opening}
 use Rattle.steps.proofs.open.Statement.{statement}
 use Rattle.steps.proofs.open.Tie as tie

@@ -1,6 +1,7 @@
 -- `steps::register` meets its contract: one row. Assumes nothing.
 use borrow.Author.Needs.{needs}
-use Rattle.steps.specs.Laying.{registration-laid, stepped}
+use Rattle.cells.specs.Regions.{stepped}
+use Rattle.steps.specs.Laying.{registration-laid}
 use Rattle.year.specs.Kept.{sound-registration}
 use Rattle.steps.proofs.register.Statement.{statement}
 use Rattle.steps.proofs.register.Tie as tie

@@ -35,7 +35,7 @@ module _ (c : tie.After-rate-of) where
       let s = c .before .before .before .before .before .before .before .before in
       let F = facts (s .args .year .now) in
       let L = limits (s .pre .0 .sound) in
-      rw (short, rate) (mul-le-mul (shortfall-le L (owed.stands F (s .args .place)) (F .testReduction (s .args .place)) (F .testDeficit (s .args .place)) (s .args .s)) (raised-le L (s .args .place) (s .args .s)))
+      rw (short, rate) (mul-le-mul (shortfall-le L (owed.stands F (s .args .place)) (owed.result F (s .args .place)) (F .testDeficit (s .args .place)) (s .args .s)) (raised-le L (s .args .place) (s .args .s)))
 
 pub charge-of-spec : {M : Type 1} → statement M
 charge-of-spec =

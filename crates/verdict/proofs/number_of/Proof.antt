@@ -1,9 +1,16 @@
 -- `verdict::number_of` meets its contract, by kind. Assumes nothing.
 use borrow.Author.Needs.{needs}
-use mathlib.Core.Path.{sym}
+use Prim.Native.Nat.{ℕ}
+use mathlib.Core.Path.{_≡_, refl, sym, _∙_}
+use mathlib.Core.Bool.{Bool, true, false, not, cond}
+use Rattle.ids.specs.Tests.{cond-true, cond-false}
 use Rattle.layouts.specs.Questions.{firstFailed}
+use Rattle.year.specs.declared.Listing.{Listing}
+use Rattle.year.specs.declared.Year.{Year}
+use Rattle.heads.specs.declared.OpeningHead.{OpeningHead}
+use Rattle.heads.specs.declared.Head.the-variants.{Opening}
 use Rattle.heads.specs.Within.{Within}
-use Rattle.questions.specs.Questions.{q6, q7, q8, q9, q10, q17, q11, q12, q13, q14, q15, q16, questions}
+use Rattle.questions.specs.Questions.{inTime, q6, q7, q8, q9, q10, q17, q11, q20, q21, q12, q13, q14, q15, q16, questions}
 use Rattle.verdict.proofs.number_of.Statement.{statement}
 use Rattle.verdict.proofs.number_of.Tie as tie
 use Rattle.cells.proofs.opened.Reads as opened-reads
@@ -12,6 +19,7 @@ use Rattle.verdict.proofs.close_number.Reads as close-number-reads
 use Rattle.calling.proofs.event_number.Reads as event-number-reads
 use Rattle.joining.proofs.lse_number.Reads as lse-number-reads
 use Rattle.joining.proofs.registration_number.Reads as registration-number-reads
+use Rattle.retesting.proofs.retest_number.Reads as retest-number-reads
 use Rattle.calling.proofs.test_number.Reads as test-number-reads
 
 registration-number-requires : tie.Need-registration-number-requires
@@ -38,13 +46,26 @@ clearing-number-requires : tie.Need-clearing-number-requires
 unfolding Within
 clearing-number-requires c κs = rw (c .before .head6 .given .1) at (c .before .before .before .before .pre .1 .0)
 
+retest-number-requires : tie.Need-retest-number-requires
+unfolding Within
+retest-number-requires c κs =
+    let start = c .before .before .before .before in
+    (start .pre .0, (rw (c .before .head7 .given .1) at (start .pre .1 .0), start .pre .1 .1))
+
+-- an opening is asked 6 alone
+opening-number : (y : Year) (o : OpeningHead) (l : Listing) (room : ℕ) → cond (y .opened) 6 0 ≡ firstFailed (questions inTime y (record { head = Opening o; listing = l }) room)
+unfolding firstFailed questions q6 q7 q8 q9 q10 q17 q11 q20 q21 q12 q13 q14 q15 q16
+opening-number y o l room = go (y .opened)
+  where
+    go : (b : Bool) → _≡_ {A = ℕ} (cond b 6 0) (cond (not b) 0 6)
+    go true = refl
+    go false = refl
+
 returns : tie.Need-returns
-unfolding firstFailed questions q6 q7 q8 q9 q10 q17 q11 q12 q13 q14 q15 q16
-returns c = rw (c .before .before .enum-told .given .1, sym (c .before .opened .ensures), c .if1 .taken)
+returns c = rw (c .before .before .enum-told .given .1) (cond-true 0 (sym (c .before .opened .ensures) ∙ c .if1 .taken) refl ∙ opening-number _ _ _ _)
 
 returns-2 : tie.Need-returns-2
-unfolding firstFailed questions q6 q7 q8 q9 q10 q17 q11 q12 q13 q14 q15 q16
-returns-2 c = rw (c .before .before .enum-told .given .1, sym (c .before .opened .ensures), c .if1 .left)
+returns-2 c = rw (c .before .before .enum-told .given .1) (cond-false 6 (sym (c .before .opened .ensures) ∙ c .if1 .left) refl ∙ opening-number _ _ _ _)
 
 returns-3 : tie.Need-returns-3
 returns-3 c = rw (c .before .before .head .given .1) (c .registration-number .ensures _ _)
@@ -64,6 +85,9 @@ returns-7 c = rw (c .before .before .head5 .given .1) (c .close-number .ensures 
 returns-8 : tie.Need-returns-8
 returns-8 c = rw (c .before .before .head6 .given .1) (c .clearing-number .ensures _ _)
 
+returns-9 : tie.Need-returns-9
+returns-9 c = rw (c .before .before .head7 .given .1) (c .retest-number .ensures _)
+
 pub number-of-spec : {M : Type 1} → statement M
 number-of-spec =
     tie.close
@@ -82,6 +106,8 @@ number-of-spec =
     (λ c κs. search needs)
     (λ c. search needs)
     clearing-number-requires
+    (λ c. search needs)
+    retest-number-requires
     returns
     returns-2
     returns-3
@@ -89,4 +115,5 @@ number-of-spec =
     returns-5
     returns-6
     returns-7
-    returns-8)
+    returns-8
+    returns-9)

@@ -10,7 +10,8 @@ use Rattle.ids.specs.Ids.{at, holds, allTo}
 use Rattle.ids.specs.Tests.{all-more, all-fails}
 use Rattle.year.specs.Year.{deficit}
 use Rattle.cells.specs.Layout.{listingAt, cellTerms}
-use Rattle.entries.specs.Passes.{row-deficit, deficits-listed}
+use Rattle.cells.specs.Regions.{row-deficit}
+use Rattle.entries.specs.Passes.{deficits-listed}
 use Rattle.entries.proofs.listings.deficits_listed.Statement.{statement}
 use Rattle.entries.proofs.listings.deficits_listed.Tie as tie
 use Rattle.entries.proofs.listings.sellers_listed.Reads as sellers-listed-reads

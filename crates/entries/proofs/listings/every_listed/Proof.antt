@@ -6,9 +6,9 @@ use native.Mathlib.Omega.{arith}
 use borrow.Author.Tests.{not-true, not-false}
 use Rattle.ids.specs.Ids.{at, allTo}
 use Rattle.ids.specs.Tests.{all-more, all-fails}
-use Rattle.year.specs.Year.{listed, registration, size}
+use Rattle.year.specs.Year.{listed, size}
 use Rattle.year.specs.Limits.{size-is}
-use Rattle.cells.specs.Layout.{listingAt, cellTerms}
+use Rattle.cells.specs.Layout.{listingAt, cellTerms, yearIn}
 use Rattle.entries.specs.Entries.{everyListed}
 use Rattle.entries.specs.Meets.{fulfils}
 use Rattle.entries.proofs.listings.every_listed.Statement.{statement}
@@ -16,7 +16,7 @@ use Rattle.entries.proofs.listings.every_listed.Tie as tie
 use Rattle.entries.proofs.listings.passes.Reads as passes-reads
 
 abbrev Inv-loop : tie.InvT-loop
-Inv-loop year listing condition i₀ i = (i ≤ 64) × (allTo i (λ k. not (listed (listingAt (at listing)) k) || fulfils condition (registration (cellTerms year) k)) ≡ true)
+Inv-loop year listing condition i₀ i = (i ≤ 64) × (allTo i (λ k. not (listed (listingAt (at listing)) k) || fulfils (yearIn year) condition k) ≡ true)
 
 abbrev μ-loop : tie.MeasureT-loop
 μ-loop year listing condition i₀ i = 64 - i
@@ -32,7 +32,7 @@ returns c =
     let a = start .args in
     let T = cellTerms (a .year .now) in
     let p = c .before .passes in
-    sym (all-fails (size T) (λ k. not (listed (listingAt (at (a .listing .now))) k) || fulfils (a .condition) (registration (cellTerms (a .year .now)) k)) (c .before .before .before .loop .i) (omega (arith, size-is (start .pre .0 .sound .terms))) (sym (p .ensures) ∙ not-true (p .result) (c .if1 .taken)))
+    sym (all-fails (size T) (λ k. not (listed (listingAt (at (a .listing .now))) k) || fulfils (yearIn (a .year .now)) (a .condition) k) (c .before .before .before .loop .i) (omega (arith, size-is (start .pre .0 .sound .terms))) (sym (p .ensures) ∙ not-true (p .result) (c .if1 .taken)))
 
 loop-again : tie.Need-loop-again Inv-loop μ-loop
 loop-again c =
@@ -54,7 +54,7 @@ every-listed-spec =
     Inv-loop
     μ-loop
     loop-holds
-    (λ c κs. omega arith)
+    (λ c κs. (c .before .before .before .pre .0, (c .before .before .before .pre .1, omega arith)))
     returns
     (λ c. omega arith)
     (λ c. omega arith)

@@ -1,25 +1,23 @@
 -- `entries::listings::passes` meets its contract. Assumes nothing.
 use borrow.Author.Needs.{needs}
-use mathlib.Core.Path.{sym}
 use borrow.Author.Tests.{eq-eqb, ne-eqb}
 use Rattle.ids.specs.Ids.{at}
-use Rattle.entries.specs.Passes.{row-listed}
+use Rattle.cells.specs.Regions.{row-listed}
 use Rattle.entries.proofs.listings.passes.Statement.{statement}
 use Rattle.entries.proofs.listings.passes.Tie as tie
-use Rattle.cells.proofs.registration_at.Reads as registration-at-reads
-use Rattle.entries.proofs.registrations.meets.Reads as meets-reads
+use Rattle.entries.proofs.conditions.meets.Reads as meets-reads
 
 returns : tie.Need-returns
 returns c =
     let start = c .before .before .before in
     let row = start .args .listing .now in
-    rw (row-listed row (start .pre .1), eq-eqb (at row (start .args .i)) 0 (c .if1 .taken))
+    rw (row-listed row (start .pre .1 .1), eq-eqb (at row (start .args .i)) 0 (c .if1 .taken))
 
 returns-2 : tie.Need-returns-2
 returns-2 c =
-    let start = c .before .before .before .before .before in
+    let start = c .before .before .before .before in
     let row = start .args .listing .now in
-    rw (row-listed row (start .pre .1), ne-eqb (at row (start .args .i)) 0 (c .before .before .if1 .left), sym (c .before .registration-at .ensures)) (c .meets .ensures)
+    rw (row-listed row (start .pre .1 .1), ne-eqb (at row (start .args .i)) 0 (c .before .if1 .left)) (c .meets .ensures)
 
 pub passes-spec : {M : Type 1} → statement M
 passes-spec =
@@ -28,6 +26,5 @@ passes-spec =
     (λ c. search needs)
     (λ c. search needs)
     returns
-    (λ c κs. search needs)
     (λ c κs. search needs)
     returns-2)

@@ -8,7 +8,8 @@ use Rattle.ids.specs.Ids.{at}
 use Rattle.year.specs.Year.{seller}
 use Rattle.year.specs.Limits.{seller-below, size-is}
 use Rattle.cells.specs.Layout.{listingAt, cellTerms}
-use Rattle.entries.specs.Passes.{row-listed, Marked, marked-none, marked-same, marked-more, marked-all}
+use Rattle.cells.specs.Regions.{row-listed}
+use Rattle.entries.specs.Passes.{Marked, marked-none, marked-same, marked-more, marked-all}
 use Rattle.entries.proofs.listings.sellers_listed.Statement.{statement}
 use Rattle.entries.proofs.listings.sellers_listed.Tie as tie
 use Rattle.cells.proofs.registration_at.Reads as registration-at-reads

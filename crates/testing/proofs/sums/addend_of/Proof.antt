@@ -5,10 +5,10 @@ use native.Mathlib.Omega.{arith}
 use native.Mathlib.Nat.{mul-le-mul}
 use borrow.Author.Needs.{needs}
 use Rattle.cells.specs.Layout.{placeIn}
+use Rattle.cells.specs.Tested.{place-below}
 use Rattle.looks.specs.Looks.{facts}
 use Rattle.owed.specs.Owed as owed
 use Rattle.owed_laws.specs.Limits.{limits}
-use Rattle.testing.specs.Entries.{place-below}
 use Rattle.testing.proofs.sums.addend_of.Statement.{statement}
 use Rattle.testing.proofs.sums.addend_of.Tie as tie
 
@@ -26,7 +26,7 @@ rate-is : (c : tie.After-get4) → c .get4 .result ≡ owed.rate (facts (c .befo
 rate-is c = let s = c .before .before .before .before .before .before .before in c .get4 .ensures ∙ s .pre .1 .0 .columns .rate .is (s .args .i) (s .pre .1 .1)
 
 place-less : (c : tie.After-get2) → c .get2 .result < 24
-place-less c = rw (place-is c) (place-below (c .before .before .before .before .before .pre .0) (c .before .before .before .before .before .args .i))
+place-less c = rw (place-is c) (place-below (c .before .before .before .before .before .args .year .now) (c .before .before .before .before .before .pre .0 .sound) (c .before .before .before .before .before .args .i))
 
 committed-most : (c : tie.After-new) → c .new .result .0 ≤ 100000
 committed-most c = rw (c .new .ensures ∙ committed-is (c .before)) (limits (c .before .before .before .before .pre .0 .sound) .committed (c .before .before .before .before .args .i))
