@@ -36,9 +36,12 @@ use Rattle.questions.specs.Admitted.{Admitted, test-free, retest-started}
 use Rattle.history.specs.Kept.{Kept, never}
 use Rattle.history.specs.Does.{Does, terms, event, test, close, retest}
 
--- is it a retest of seller s's in the zone and product of place p
+-- is a retest seller s's in the zone and product of place p, and is a record such a retest
+abbrev isAt : ℕ → ℕ → RetestHead → Bool
+isAt p s t = eqb (testPlace (t .zone) (t .product)) p && eqb (t .seller) s
+
 abbrev pub isRetestAt : ℕ → ℕ → Head → Bool
-isRetestAt p s = forRetest (λ t. eqb (testPlace (t .zone) (t .product)) p && eqb (t .seller) s) (λ h. false)
+isRetestAt p s = forRetest (isAt p s) (λ h. false)
 
 same-bool : (a b : Bool) → (a ≡ true → b ≡ true) → (b ≡ true → a ≡ true) → a ≡ b
 same-bool true b f g = sym (f refl)
@@ -232,7 +235,7 @@ module _ {y : Year} (k : Kept y) (b : InTest y) {l : Listing} {room : ℕ} where
       let none = blank (k .sound) begun in
       let other : (p s : ℕ) → isRetestAt p s h ≡ false = λ p s. elim (retest-or-not h) [
         | inl m ↦ never begun (retest-started {l = l} {t = m .0} (rw (m .1) at a) (k .sound))
-        | inr o ↦ o (λ t. eqb (testPlace (t .zone) (t .product)) p && eqb (t .seller) s) (λ g. false)
+        | inr o ↦ o (isAt p s) (λ g. false)
       ] in
       rw (x .is y l) (
         (λ i m e. never (none i) e),

@@ -27,7 +27,8 @@ pub const WORTH: usize = 768;
 fn result(first: u64, retest: Retest) -> Nominated
     ensures { λ r. ⌜ r .0 ≡ cond (retest .taken) (retest .reduction) first ⌝ }
 {
-    if retest.taken {
+    let retested = retest.taken;
+    if retested {
         return Nominated(retest.reduction);
     }
     Nominated(first)
