@@ -13,8 +13,9 @@
  * - cells that piermint_post is given were made by piermint_new, and since then written by
  *   piermint_post alone (a copy of such cells is as good, and so is one kept in a file).
  *
- * A number is 0 where a record is accepted, and 1 to 17 where it is refused: the first question
- * that fails (the README's table of numbers). 17 is a fifth clearing of one registration.
+ * A number is 0 where a record is accepted, and 1 to 17, 20 or 21 where it is refused: the first
+ * question that fails (the README's table of numbers). 17 is a fifth clearing of one registration, 20
+ * a retest that the seller may not have, 21 one that does not list exactly what failed.
  *
  * A sample of telemetry is answered with 0, with 18 if a value of it does not count, or else with 19
  * if its reduction is more than 100,000 kW once the eighths are dropped.
@@ -32,7 +33,7 @@
 #define PIERMINT_NUMBERS 166
 #define PIERMINT_STATEMENT 354
 #define PIERMINT_CLOSES 15
-#define PIERMINT_CELLS 3639
+#define PIERMINT_CELLS 3767
 
 #ifdef __cplusplus
 extern "C" {

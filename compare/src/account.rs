@@ -55,6 +55,12 @@ impl Listed<'_> {
     fn over(&self) -> i64 {
         (self.v - self.c).max(0)
     }
+
+    /// With the retest's reduction for the first one, where there was a retest.
+    fn retested(self, year: &Year) -> Self {
+        let v = year.retested[self.id()].map_or(self.v, i64::from);
+        Listed { v, ..self }
+    }
 }
 
 fn listed<'a>(year: &'a Year, lists: &'a Lists) -> impl Iterator<Item = Listed<'a>> {
@@ -172,7 +178,7 @@ impl<'a> Account<'a> {
     fn add_test(&mut self, test: &Test) {
         let mut tallies = [Tally::default(); SELLERS];
         let mut rates = [Average::default(); SELLERS];
-        let listed = listed(self.year, &test.lists);
+        let listed = listed(self.year, &test.lists).map(|l| l.retested(self.year));
         for l in listed.filter(|l| !self.year.is_called[l.id()]) {
             tallies[l.seller()].add(&l);
             rates[l.seller()].add(l.c, l.q);

@@ -60,6 +60,7 @@ impl Book {
             (Record::Test(test), Some(year)) => year.tests.push(test),
             (Record::Close { month }, Some(year)) => return close(year, month, buffer),
             (Record::Clearing(clearing), Some(year)) => year.add_clearing(&clearing),
+            (Record::Retest(retest), Some(year)) => year.add_retest(&retest),
             (_, None) => unreachable!("question 6 asks for a year"),
         }
         0

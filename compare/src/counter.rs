@@ -1,7 +1,10 @@
-//! Questions 6 to 17 at the counter; a "no" gives the number.
+//! Questions 6 to 17, 20 and 21 at the counter; a "no" gives the number.
 
 use crate::fields::SELLERS;
-use crate::records::{Clearing, Entry, Event, Lists, Lse, Product, Record, Registration, Test};
+use crate::records::{
+    Clearing, Entry, Event, Lists, Lse, Product, Record, Registration, Retest, Test,
+};
+use crate::retests::FirstResult;
 use crate::statement;
 use crate::year::{Year, CLOSES, MOST_EVENTS};
 
@@ -30,6 +33,7 @@ pub fn ask_all(year: Option<&Year>, record: &Record, room: usize) -> Asked {
         Record::Test(test) => ask_test(year, test),
         Record::Close { month } => ask_close(year, *month, room),
         Record::Clearing(clearing) => ask_clearing(year, clearing),
+        Record::Retest(retest) => ask_retest(year, retest),
     }
 }
 
@@ -62,13 +66,8 @@ fn ask_test(year: &Year, test: &Test) -> Asked {
         all_known(year, test.lists.entries(), tests) && deficits_have_entries(year, &test.lists),
         10,
     )?;
-    ask(is_test_in_time(year, test), 11)?;
-    ask(
-        year.tests
-            .iter()
-            .all(|earlier| (earlier.zone, earlier.product) != (test.zone, test.product)),
-        13,
-    )?;
+    ask(is_test_in_time(year, test.product, test.month), 11)?;
+    ask(year.test_of(test.zone, test.product).is_none(), 13)?;
     ask(lists_exactly_the_uncalled(year, test, tests), 14)
 }
 
@@ -83,6 +82,22 @@ fn ask_clearing(year: &Year, clearing: &Clearing) -> Asked {
     ask(is_unused(year), 7)?;
     ask(year.registrations[id].is_some(), 10)?;
     ask(year.clearings[id].has_room(), 17)
+}
+
+fn ask_retest(year: &Year, retest: &Retest) -> Asked {
+    let place = (retest.seller, retest.zone, retest.product);
+    let belongs = |r: &Registration| (r.seller, r.zone, r.product) == place;
+    ask(has_parties(year), 8)?;
+    ask(all_known(year, &retest.entries, belongs), 10)?;
+    let test = year.test_of(retest.zone, retest.product);
+    ask(
+        is_test_in_time(year, retest.product, retest.month)
+            && test.is_none_or(|test| test.month <= retest.month),
+        11,
+    )?;
+    let first = FirstResult::new(year, test.ok_or(20_u64)?, retest.seller);
+    ask(!year.retests.contains(&place) && first.allows_retest(), 20)?;
+    ask(first.failed_are(&retest.entries), 21)
 }
 
 fn is_unused(year: &Year) -> bool {
@@ -117,8 +132,8 @@ fn is_event_in_time(year: &Year, event: &Event) -> bool {
         })
 }
 
-fn is_test_in_time(year: &Year, test: &Test) -> bool {
-    test.month <= year.closed + 1 && may_be_tested(test.product, test.month)
+fn is_test_in_time(year: &Year, product: Product, month: u8) -> bool {
+    month <= year.closed + 1 && may_be_tested(product, month)
 }
 
 /// With z months closed, may an event of this month still come?

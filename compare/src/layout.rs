@@ -1,4 +1,4 @@
-//! The layouts of the seven kinds of record.
+//! The layouts of the eight kinds of record.
 
 use crate::exact::narrow;
 use crate::fields::{
@@ -48,13 +48,13 @@ const fn bits(fields: &[Field]) -> usize {
     }
 }
 
-const fn head_of(fields: &'static [Field]) -> Head {
+const fn head_of(fields: &'static [Field]) -> Option<Head> {
     let bits = bits(fields);
-    Head { fields, bits }
+    Some(Head { fields, bits })
 }
 
-/// The heads in the order of their kinds, 1 to 7.
-static HEADS: [Head; 7] = [
+/// The heads in the order of their kinds, from 1 on; 8 is none.
+static HEADS: [Option<Head>; 9] = [
     head_of(&[kind(1), LEAP, FACTOR, FACTOR]),
     head_of(&[
         kind(2),
@@ -71,15 +71,23 @@ static HEADS: [Head; 7] = [
     head_of(&[kind(5), ZONE, PRODUCT, MONTH, DEFICITS, ENTRIES]),
     head_of(&[kind(6), CLOSED_MONTH]),
     head_of(&[kind(7), REGISTRATION_ID, PRICE, CLEARED]),
+    None,
+    head_of(&[kind(9), SELLER_ID, ZONE, PRODUCT, MONTH, ENTRIES]),
 ];
 
 /// The head of a kind, if there is such a kind.
 pub fn head(kind: u64) -> Option<&'static Head> {
-    HEADS.get(usize::try_from(kind).ok()?.checked_sub(1)?)
+    let at = usize::try_from(kind).ok()?.checked_sub(1)?;
+    HEADS.get(at)?.as_ref()
 }
 
-/// Have records of this kind lists, whose counts end the head?
-pub fn has_lists(kind: u64) -> bool {
+/// Have records of this kind entries, whose count ends the head?
+pub fn has_entries(kind: u64) -> bool {
+    has_deficits(kind) || kind == 9
+}
+
+/// Have records of this kind deficits, whose count stands before that of the entries?
+pub fn has_deficits(kind: u64) -> bool {
     matches!(kind, 4 | 5)
 }
 
@@ -95,7 +103,8 @@ impl Layout {
     /// The layout by the counts as they stand in the numbers of a head.
     pub fn new(head: &'static Head, numbers: &[u64]) -> Self {
         let (deficits, entries) = match numbers {
-            [kind, _, _, _, deficits, entries, ..] if has_lists(*kind) => (*deficits, *entries),
+            [kind, _, _, _, deficits, entries, ..] if has_deficits(*kind) => (*deficits, *entries),
+            [kind, _, _, _, _, entries, ..] if has_entries(*kind) => (0, *entries),
             _ => (0, 0),
         };
         Layout {

@@ -22,6 +22,7 @@ mod packed;
 pub mod piermint;
 pub mod rates;
 pub mod records;
+mod retests;
 pub mod statement;
 pub mod telemetry;
 mod year;

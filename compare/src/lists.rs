@@ -1,4 +1,4 @@
-//! The lists of events and tests: pairs of an id and kilowatts.
+//! The lists of events, tests and retests: pairs of an id and kilowatts.
 
 use crate::bits::bits_at;
 use crate::fields::{Field, DEFICIT_KW, REDUCTION, REGISTRATION_ID, SELLER_ID};

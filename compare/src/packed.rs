@@ -1,7 +1,7 @@
 //! A record still packed, with the questions that need no year.
 
 use crate::bits::first_word;
-use crate::layout::{self, has_lists, Layout, MOST_HEAD};
+use crate::layout::{self, has_entries, Layout, MOST_HEAD};
 use crate::lists::{Deficits, Entries, Findings, List};
 
 /// A record that questions 1 to 5 let by.
@@ -52,7 +52,7 @@ impl<'a> Packed<'a> {
 
     /// Questions 3 to 5.
     fn ask(&self) -> Result<(), u64> {
-        let lists = match has_lists(self.head[0]) {
+        let lists = match has_entries(self.head[0]) {
             true => Findings::new(self.deficits(), self.entries()),
             false => Findings::default(),
         };

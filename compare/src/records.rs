@@ -1,4 +1,4 @@
-//! The seven kinds of record.
+//! The eight kinds of record.
 
 use crate::exact::narrow;
 use crate::fields::{REGISTRATIONS, SELLERS};
@@ -98,6 +98,14 @@ pub struct Test {
     pub lists: Lists,
 }
 
+pub struct Retest {
+    pub seller: u8,
+    pub zone: u8,
+    pub product: Product,
+    pub month: u8,
+    pub entries: Vec<Entry>,
+}
+
 pub enum Record {
     Opening(Opening),
     Registration(Registration),
@@ -106,6 +114,7 @@ pub enum Record {
     Test(Test),
     Close { month: u8 },
     Clearing(Clearing),
+    Retest(Retest),
 }
 
 impl From<&Packed<'_>> for Record {
@@ -137,10 +146,17 @@ impl From<&Packed<'_>> for Record {
             6 => Record::Close {
                 month: narrow(head[1]),
             },
-            _ => Record::Clearing(Clearing {
+            7 => Record::Clearing(Clearing {
                 registration: narrow(head[1]),
                 price: narrow(head[2]),
                 kw: narrow(head[3]),
+            }),
+            _ => Record::Retest(Retest {
+                seller: narrow(head[1]),
+                zone: narrow(head[2]),
+                product: Product::new(head[3]),
+                month: narrow(head[4]),
+                entries: packed.entries().map(entry).collect(),
             }),
         }
     }
@@ -168,11 +184,15 @@ fn lists(packed: &Packed) -> Lists {
     for [seller, kw] in packed.deficits() {
         lists.deficits[narrow::<usize>(seller)] = narrow(kw);
     }
-    for (slot, [registration, reduction]) in lists.entries.iter_mut().zip(packed.entries()) {
-        *slot = Entry {
-            registration: narrow(registration),
-            reduction: narrow(reduction),
-        };
+    for (slot, pair) in lists.entries.iter_mut().zip(packed.entries()) {
+        *slot = entry(pair);
     }
     lists
+}
+
+fn entry([registration, reduction]: [u64; 2]) -> Entry {
+    Entry {
+        registration: narrow(registration),
+        reduction: narrow(reduction),
+    }
 }

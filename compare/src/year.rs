@@ -4,7 +4,7 @@ use crate::clearings::Clearings;
 use crate::fields::{LSES, REGISTRATIONS};
 use crate::owed::{cap, days, Owed};
 use crate::rates::{self, Rates};
-use crate::records::{Clearing, Entry, Event, Lse, Opening, Registration, Test};
+use crate::records::{Clearing, Entry, Event, Lse, Opening, Product, Registration, Retest, Test};
 
 pub const MOST_EVENTS: usize = 16;
 
@@ -22,7 +22,13 @@ pub struct Year {
     pub rates: Rates,
     pub lses: [Option<Lse>; LSES],
     pub events: Vec<Event>,
+    /// The tests as they were recorded, whatever retests gave.
     pub tests: Vec<Test>,
+    /// The reduction that a registration's retest gave. A registration has one zone and product, so it
+    /// has one retest at most.
+    pub retested: [Option<u32>; REGISTRATIONS],
+    /// The sellers that had a retest, and of which zone and product.
+    pub retests: Vec<(u8, u8, Product)>,
     /// Months closed.
     pub closed: u8,
     /// The amounts to date at the last close.
@@ -43,6 +49,8 @@ impl Year {
             lses: [None; LSES],
             events: Vec::with_capacity(MOST_EVENTS),
             tests: Vec::with_capacity(MOST_TESTS),
+            retested: [None; REGISTRATIONS],
+            retests: Vec::new(),
             closed: 0,
             owed: Owed::default(),
             is_called: [false; REGISTRATIONS],
@@ -56,6 +64,12 @@ impl Year {
         registration.as_ref().expect("question 10 asks for it")
     }
 
+    /// The test of a zone and product, if there was one.
+    pub fn test_of(&self, zone: u8, product: Product) -> Option<&Test> {
+        let mut tests = self.tests.iter();
+        tests.find(|test| (test.zone, test.product) == (zone, product))
+    }
+
     pub fn add_clearing(&mut self, clearing: &Clearing) {
         self.clearings[usize::from(clearing.registration)].add(clearing);
     }
@@ -67,6 +81,14 @@ impl Year {
             self.on_peak_events[id] += u8::from(!event.off_peak);
         }
         self.events.push(event);
+    }
+
+    pub fn add_retest(&mut self, retest: &Retest) {
+        self.retests
+            .push((retest.seller, retest.zone, retest.product));
+        for entry in &retest.entries {
+            self.retested[usize::from(entry.registration)] = Some(entry.reduction);
+        }
     }
 
     /// Fixes the rates in force at the first close: by then every lender is there, since question 7

@@ -1,14 +1,16 @@
 //! Rates of 0, which borrow their area's: figures by hand, and what generated cases reach.
 
+mod common;
+
 use std::array;
 use std::collections::BTreeSet;
 
+use common::each_record;
 use settlement::cases::plausible_file;
 use settlement::cases::record::{encode, file, Numbers};
-use settlement::layout::MOST_NUMBERS;
 use settlement::rates::{own, Rates};
 use settlement::statement::MOST_BYTES;
-use settlement::{bill_file, read, take_each, Book};
+use settlement::{bill_file, take_each, Book};
 
 const SEEDS: u64 = 300;
 
@@ -29,17 +31,6 @@ fn year(parties: &[&[u64]], calls: &[&[u64]], closes: u64) -> Vec<u8> {
     let mut records: Vec<Numbers> = records.into_iter().map(<[u64]>::to_vec).collect();
     records.extend((1..=closes).map(|month| vec![6, month]));
     file(&records)
-}
-
-/// Hands on the numbers of each record of a file, and the number that it got.
-fn each_record(file: &[u8], mut receive: impl FnMut(&[u64], u64)) {
-    let mut start = 0;
-    take_each(file, |taken, _| {
-        let mut numbers = [0; MOST_NUMBERS];
-        let read = read(&file[start..], &mut numbers);
-        receive(&numbers[..read.count], taken.number);
-        start += taken.consumed;
-    });
 }
 
 /// The book at a file's end.

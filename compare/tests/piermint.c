@@ -1,5 +1,6 @@
 /*
- * Calls the static library on document 01's Year A, on its edges, and on samples of telemetry:
+ * Calls the static library on document 01's Year A, on its edges, on samples of telemetry, and on
+ * retests:
  *
  *     cc -std=c99 -Icompare compare/tests/piermint.c target/staticlib/libpiermint.a -o target/piermint
  *     target/piermint examples/year-a.bin
@@ -195,6 +196,47 @@ static void takes_each(const uint8_t *year, size_t length)
     expect(used == 1 && written == 0, "writes no statement");
 }
 
+/*
+ * Seller 0 has 1,000, 2,000 and 1,001 kW at 10,000. June's test gives 400, 2,100 and 1,001: 500 kW
+ * short, 513 unforced, 184,680 cents. Its retest gives 900 for 400: nothing is short, and July's close
+ * pays it back.
+ */
+static void bills_a_retest(void)
+{
+    static const struct {
+        size_t count;
+        uint64_t numbers[12];
+        uint64_t number;
+    } records[] = {
+        {4, {1, 0, 9500, 10800}, 0},
+        {8, {2, 0, 0, 1, 1, 0, 1000, 10000}, 0},
+        {8, {2, 1, 0, 1, 1, 0, 2000, 10000}, 0},
+        {8, {2, 2, 0, 1, 1, 0, 1001, 10000}, 0},
+        {3, {3, 0, 3000}, 0},
+        {8, {9, 0, 1, 0, 1, 1, 0, 900}, 20}, /* before the test */
+        {12, {5, 1, 0, 1, 0, 3, 0, 400, 1, 2100, 2, 1001}, 0},
+        {2, {6, 1}, 0},
+        {8, {9, 0, 1, 0, 1, 1, 1, 900}, 21}, /* registration 1 did not fail */
+        {8, {9, 0, 1, 0, 1, 1, 0, 900}, 0},
+        {8, {9, 0, 1, 0, 1, 1, 0, 900}, 20}, /* a second one */
+        {2, {6, 2}, 0},
+    };
+    enum { RECORDS = sizeof records / sizeof records[0], LENGTH = 24, TEST = 14 + 4 + 42 };
+    uint64_t numbers[RECORDS];
+    uint8_t file[128], statements[ROOM];
+    size_t length = 0, bit = TEST, used = 99, written = 99;
+
+    for (size_t i = 0; i < RECORDS; i++, length += used)
+        expect(piermint_write(records[i].numbers, records[i].count, file + length, sizeof file - length, &used) == 0, "a record is written");
+    expect(piermint_bill(file, length, numbers, RECORDS, statements, ROOM, &used, &written) == RECORDS, "all are billed");
+    for (size_t i = 0; i < RECORDS; i++)
+        expect(numbers[i] == records[i].number, "a record's number");
+    expect(used == length && written == 2 * LENGTH, "two statements of 24 bytes");
+    expect(field(statements, &bit, 42) == 184680, "the test's amount");
+    bit = TEST;
+    expect(field(statements + LENGTH, &bit, 42) == (UINT64_C(1) << 42) - 184680, "paid back");
+}
+
 int main(int argc, char **argv)
 {
     uint8_t year[1024];
@@ -211,6 +253,7 @@ int main(int argc, char **argv)
     writes_samples(year);
     bills(year, length);
     takes_each(year, length);
+    bills_a_retest();
     printf("%s\n", failures == 0 ? "the static library answers as the documents say" : "the static library differs");
     return failures != 0;
 }

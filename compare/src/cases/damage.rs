@@ -3,7 +3,7 @@
 use super::random::Random;
 use super::record::{encode, layout, Numbers};
 use crate::exact::widen;
-use crate::layout::has_lists;
+use crate::layout::{has_deficits, has_entries};
 
 /// A record of the right length that may not belong here.
 pub fn misfit(random: &mut Random, year: &[Numbers], numbers: &[u64]) -> Vec<u8> {
@@ -51,7 +51,12 @@ fn with_filling(mut record: Vec<u8>) -> Vec<u8> {
 
 /// The places whose number may change without changing the record's length.
 fn free_places(numbers: &[u64]) -> Vec<usize> {
-    let gives_length = |at: usize| at == 0 || has_lists(numbers[0]) && matches!(at, 4 | 5);
+    let gives_length = |at: usize| match at {
+        0 => true,
+        4 => has_deficits(numbers[0]),
+        5 => has_entries(numbers[0]),
+        _ => false,
+    };
     (0..numbers.len()).filter(|at| !gives_length(*at)).collect()
 }
 
@@ -98,50 +103,58 @@ pub fn with_ids_out_of_order(random: &mut Random, numbers: &[u64]) -> Numbers {
     numbers
 }
 
-/// Takes the last entry off an event or a test that has more.
+/// Takes the last entry off an event, a test or a retest that has more.
 fn without_last_entry(numbers: &[u64]) -> Numbers {
     let mut numbers = numbers.to_vec();
-    if has_lists(numbers[0]) && numbers[5] > 1 {
+    if has_entries(numbers[0]) && numbers[5] > 1 {
         numbers[5] -= 1;
         numbers.truncate(numbers.len() - 2);
     }
     numbers
 }
 
-/// Moves an event or a test to any month.
+/// Moves an event, a test or a retest to any month.
 fn with_other_month(random: &mut Random, numbers: &[u64]) -> Numbers {
     let mut numbers = numbers.to_vec();
+    let month = 1 + widen(random.below(12));
     match numbers[0] {
-        4 => numbers[2] = 1 + widen(random.below(12)),
-        5 => numbers[3] = 1 + widen(random.below(12)),
+        4 => numbers[2] = month,
+        5 => numbers[3] = month,
+        9 => numbers[4] = month,
         _ => {}
     }
     numbers
 }
 
-/// Gives an event or a test new lists, of an edge's length.
+/// Gives an event, a test or a retest new lists, of an edge's length.
 pub fn with_edge_counts(random: &mut Random, numbers: &[u64]) -> Numbers {
     let (deficits, entries) = random.pick(&[(0, 0), (16, 64), (17, 64), (16, 65), (31, 127)]);
     with_counts(numbers, deficits, entries)
 }
 
-/// An event or a test with lists of every length that a count can give; none of another record.
+/// An event, a test or a retest with lists of every length that a count can give; none of another
+/// record.
 pub fn all_counts(numbers: &[u64]) -> Vec<Numbers> {
-    if !has_lists(numbers[0]) {
-        return Vec::new();
+    let mut records = Vec::new();
+    if has_deficits(numbers[0]) {
+        records.extend((0..32).map(|deficits| with_counts(numbers, deficits, 2)));
     }
-    let deficits = (0..32).map(|deficits| with_counts(numbers, deficits, 2));
-    let entries = (0..128).map(|entries| with_counts(numbers, 1, entries));
-    deficits.chain(entries).collect()
+    if has_entries(numbers[0]) {
+        records.extend((0..128).map(|entries| with_counts(numbers, 1, entries)));
+    }
+    records
 }
 
-/// Gives an event or a test new lists of these lengths; other records stay.
+/// Gives an event, a test or a retest new lists of these lengths; other records stay.
 fn with_counts(numbers: &[u64], deficits: u64, entries: u64) -> Numbers {
-    if !has_lists(numbers[0]) {
+    if !has_entries(numbers[0]) {
         return numbers.to_vec();
     }
-    let mut numbers = [&numbers[..4], &[deficits, entries]].concat();
-    numbers.extend((0..deficits).flat_map(|seller| [seller % 16, 1]));
+    let mut numbers = [&numbers[..5], &[entries]].concat();
+    if has_deficits(numbers[0]) {
+        numbers[4] = deficits;
+        numbers.extend((0..deficits).flat_map(|seller| [seller % 16, 1]));
+    }
     numbers.extend((0..entries).flat_map(|registration| [registration % 64, 0]));
     numbers
 }
@@ -153,7 +166,7 @@ pub fn with_wrong_number(random: &mut Random, numbers: &[u64]) -> Numbers {
     match random.below(4) {
         0 => numbers.push(0),
         1 => numbers.truncate(at),
-        2 => numbers[at] = random.pick(&[0, 7, 8, 17, 65, 1 << 32, u64::MAX]),
+        2 => numbers[at] = random.pick(&[0, 7, 8, 9, 10, 17, 65, 1 << 32, u64::MAX]),
         _ => numbers[at] += 1 << 32,
     }
     numbers

@@ -3,9 +3,11 @@
 mod clearings;
 pub mod damage;
 mod parties;
+mod performance;
 pub mod plan;
 pub mod random;
 pub mod record;
+mod retests;
 pub mod samples;
 
 use crate::layout::MOST_NUMBERS;
@@ -38,6 +40,7 @@ pub const FORMS: [Form; 6] = [
 ];
 
 /// One call that takes or reads: the bytes, and the length of the lent buffer.
+#[derive(Clone)]
 pub struct Call {
     pub bytes: Vec<u8>,
     pub room: usize,
@@ -58,18 +61,23 @@ pub fn short_file(seed: u64) -> Vec<u8> {
     file(&short_year(&mut Random::new(seed)))
 }
 
-/// A short year; before each record come its variants with a field at an edge or past it.
+/// A short year; before each record come its variants with a field at an edge or past it. In every
+/// second file the parties have none: with a registration more, a test does not list what it must.
 fn file_of_edges(seed: u64) -> Vec<u8> {
     let year = short_year(&mut Random::new(seed));
-    let with_edges = |numbers: &Numbers| [all_edges(numbers), vec![numbers.clone()]].concat();
+    let edges = |numbers: &Numbers| match is_party(numbers) && seed % 2 == 1 {
+        true => Vec::new(),
+        false => all_edges(numbers),
+    };
+    let with_edges = |numbers: &Numbers| [edges(numbers), vec![numbers.clone()]].concat();
     let records: Vec<Numbers> = year.iter().flat_map(with_edges).collect();
     file(&records)
 }
 
-/// A plausible year; before its first event and its first test come lists of every length.
+/// A plausible year; before its first event, test and retest come lists of every length.
 fn file_of_counts(seed: u64) -> Vec<u8> {
     let mut year = year(&mut Random::new(seed));
-    for kind in [4, 5] {
+    for kind in [4, 5, 9] {
         if let Some(at) = year.iter().position(|numbers| numbers[0] == kind) {
             let counts = all_counts(&year[at]);
             year.splice(at..at, counts);
@@ -122,12 +130,17 @@ fn call(bytes: Vec<u8>, room: usize) -> Call {
     Call { bytes, room }
 }
 
-/// Registrations, LSEs and clearings are many, so fewer of them get one.
+/// The parties' records are many, so fewer of them get one.
 fn percent_of_misfits(numbers: &[u64]) -> usize {
-    match numbers[0] {
-        2 | 3 | 7 => 20,
-        _ => 60,
+    match is_party(numbers) {
+        true => 20,
+        false => 60,
     }
+}
+
+/// Registrations, LSEs and clearings.
+fn is_party(numbers: &[u64]) -> bool {
+    matches!(numbers[0], 2 | 3 | 7)
 }
 
 fn is_close(numbers: &[u64]) -> bool {

@@ -32,10 +32,18 @@ pub fn registrations_of_few_places(random: &mut Random, count: usize) -> Vec<Num
     // Of the rates none is made 0, a third, nearly all, so that an area may have one lender, or all,
     // so that only clearings lend.
     let percent_of_zeros = random.pick(&[0, 0, 0, 33, 33, 33, 95, 100]);
-    let sellers = some_ids(random, 16);
+    let mut sellers = some_ids(random, 16);
     let areas = few_places(random);
-    let zones = few_places(random);
-    let products = some_ids(random, 3);
+    let mut zones = few_places(random);
+    let mut products = some_ids(random, 3);
+    // In most years sellers have several in a zone and product, so that a small part may fail a test.
+    if random.chance(60) {
+        sellers.truncate(1 + count / 8);
+        zones.truncate(1);
+        products.truncate(1);
+    }
+    // In some years nearly all commit the same, so that a quarter may fail to the kW.
+    let common = random.chance(25).then(|| random.value(1, 99_999));
     let register = |id: u64, random: &mut Random| {
         vec![
             2,
@@ -44,7 +52,7 @@ pub fn registrations_of_few_places(random: &mut Random, count: usize) -> Vec<Num
             random.pick(&areas),
             random.pick(&zones),
             random.pick(&products),
-            random.value(1, 100_000),
+            committed(random, common),
             rate(random, percent_of_zeros),
         ]
     };
@@ -70,6 +78,14 @@ pub fn registrations_of_all_zones(random: &mut Random) -> Vec<Numbers> {
     };
     let places = zones_and_products().into_iter().cycle();
     (0..64).zip(places).map(register).collect()
+}
+
+/// Committed kW: any, or those that are common, in some cases one more.
+fn committed(random: &mut Random, common: Option<u64>) -> u64 {
+    match common {
+        Some(kw) => kw + u64::from(random.chance(20)),
+        None => random.value(1, 100_000),
+    }
 }
 
 /// A rate, in so many of 100 cases 0.

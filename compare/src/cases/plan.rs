@@ -1,4 +1,4 @@
-//! Plausible years from chance: parties and clearings, then events, tests and closes in order.
+//! Plausible years from chance: parties and clearings, then events, tests, retests and closes.
 
 use std::collections::BTreeSet;
 
@@ -7,8 +7,10 @@ use super::parties::{
     opening_and_parties, registrations_of_all_zones, registrations_of_few_places,
     zones_and_products,
 };
+use super::performance::{alike, entries, few_short, Performed};
 use super::random::Random;
 use super::record::Numbers;
+use super::retests::Results;
 use crate::counter::{event_month_is_open, may_be_called, may_be_tested};
 use crate::exact::{narrow, widen};
 use crate::records::{registration, Product, Registration};
@@ -38,8 +40,11 @@ fn any_year(random: &mut Random, registrations: usize, lses: usize) -> Vec<Numbe
     let mut records = opening_and_parties(random, registrations, lses);
     let busyness = random.pick(&[2, 3, 5]);
     for z in (0..).take(CLOSES) {
-        for _ in 0..random.below(busyness) {
+        // One more in the last month without events, so that a calm year has a test too.
+        let more = usize::from(z + 1 == plan.first_call);
+        for _ in 0..random.below(busyness) + more {
             records.extend(plan.event_or_test(random, z));
+            records.extend(plan.retest(random, z));
         }
         records.push(close_after(z));
     }
@@ -55,13 +60,12 @@ pub fn full_year(random: &mut Random) -> Vec<Numbers> {
     let mut plan = Plan::new(random, &registrations);
     let registrations = all_cleared(random, registrations);
     let mut records = opening_and_parties(random, registrations, 16);
-    let first_call = random.pick(&[0, 1, 2, 3]);
     let mut tests = zones_and_products();
     random.shuffle(&mut tests);
     let mut events = MOST_EVENTS;
     for z in (0..).take(CLOSES) {
         // All tests come before the events, which leave nobody to test.
-        let keep = if z < first_call {
+        let keep = if z < plan.first_call {
             random.below(tests.len() + 1)
         } else {
             0
@@ -69,7 +73,7 @@ pub fn full_year(random: &mut Random) -> Vec<Numbers> {
         for (zone, product) in tests.split_off(keep) {
             records.extend(plan.test_of(random, z, zone, product));
         }
-        let keep = if z < first_call {
+        let keep = if z < plan.first_call {
             events
         } else if z < LAST_CALL {
             random.below(events + 1)
@@ -89,20 +93,13 @@ fn close_after(z: u8) -> Numbers {
     vec![6, u64::from(z) + 1]
 }
 
-/// How well the entries of one event or test perform.
-#[derive(Clone, Copy)]
-enum Performance {
-    Nothing,
-    Short,
-    Over,
-    Mixed,
-}
-
 /// What a year's events and tests so far leave open.
 struct Plan {
     registrations: Vec<Registration>,
     called: BTreeSet<u8>,
-    tested: BTreeSet<(u8, Product)>,
+    results: Results,
+    /// No event comes before so many closes.
+    first_call: u8,
     percent_of_tests: usize,
 }
 
@@ -114,40 +111,50 @@ impl Plan {
         Plan {
             registrations,
             called: BTreeSet::new(),
-            tested: BTreeSet::new(),
+            results: Results::default(),
+            first_call: random.pick(&[0, 1, 2, 4]),
             percent_of_tests: random.pick(&[4, 20, 60]),
         }
     }
 
     /// An event or a test with z months closed, if chance finds one to list.
     fn event_or_test(&mut self, random: &mut Random, z: u8) -> Option<Numbers> {
-        match random.chance(self.percent_of_tests) {
+        match z < self.first_call || random.chance(self.percent_of_tests) {
             true => self.test(random, z),
             false => self.event(random, z),
         }
     }
 
     fn event(&mut self, random: &mut Random, z: u8) -> Option<Numbers> {
-        let month = month(random, |month| event_month_is_open(month, z));
+        let month = random.month(|month| event_month_is_open(month, z));
         let period = random.value(1, 3);
         let area = random.pick(&self.registrations).area;
         let may = |r: &Registration| r.area == area && may_be_called(r.product, month, period == 2);
         let percent = random.pick(&[100, 100, 60, 10]);
         let listed = random.some(&self.those(may), percent);
-        self.called.extend(listed.iter().map(|r| r.id));
-        with_lists(random, [4, area.into(), month.into(), period], &listed)
+        self.event_of(random, [4, area.into(), month.into(), period], &listed)
     }
 
     /// An event that lists all registrations, which are of one area.
     fn event_of_all(&mut self, random: &mut Random, z: u8) -> Option<Numbers> {
-        let month = month(random, |month| {
+        let month = random.month(|month| {
             event_month_is_open(month, z) && may_be_called(Product::Limited, month, false)
         });
         let area = self.registrations[0].area;
         let period = random.pick(&[1, 3]);
-        let listed = &self.registrations;
+        let listed = self.registrations.clone();
+        self.event_of(random, [4, area.into(), month.into(), period], &listed)
+    }
+
+    fn event_of(
+        &mut self,
+        random: &mut Random,
+        head: [u64; 4],
+        listed: &[Registration],
+    ) -> Option<Numbers> {
         self.called.extend(listed.iter().map(|r| r.id));
-        with_lists(random, [4, area.into(), month.into(), period], listed)
+        let performed = alike(random, listed);
+        with_lists(random, head, &performed)
     }
 
     fn test(&mut self, random: &mut Random, z: u8) -> Option<Numbers> {
@@ -162,20 +169,24 @@ impl Plan {
         zone: u8,
         product: Product,
     ) -> Option<Numbers> {
-        let month = month(random, |month| {
-            month <= z + 1 && may_be_tested(product, month)
-        });
+        let month = random.month(|month| month <= z + 1 && may_be_tested(product, month));
         let listed =
             self.those(|r| (r.zone, r.product) == (zone, product) && !self.called.contains(&r.id));
+        let performed = match random.chance(70) {
+            true => few_short(random, &listed),
+            false => alike(random, &listed),
+        };
         // Now and then a zone and product is tested a second time.
-        if !self.tested.insert((zone, product)) && random.chance(70) {
+        let is_first = self.results.add((zone, product), month, &performed);
+        if !is_first && random.chance(70) {
             return None;
         }
-        with_lists(
-            random,
-            [5, zone.into(), product.number(), month.into()],
-            &listed,
-        )
+        let head = [5, zone.into(), product.number(), month.into()];
+        with_lists(random, head, &performed)
+    }
+
+    fn retest(&mut self, random: &mut Random, z: u8) -> Option<Numbers> {
+        self.results.retest(random, z, &self.registrations)
     }
 
     fn those(&self, are: impl Fn(&Registration) -> bool) -> Vec<Registration> {
@@ -187,52 +198,22 @@ impl Plan {
     }
 }
 
-/// An open month, often the first or the last.
-fn month(random: &mut Random, is_open: impl Fn(u8) -> bool) -> u8 {
-    let open: Vec<u8> = (1..=12).filter(|month| is_open(*month)).collect();
-    let any = random.pick(&open);
-    random.pick(&[open[0], any, open[open.len() - 1]])
-}
-
 /// Puts the lists behind the head of an event or a test; none if nobody is listed.
-fn with_lists(random: &mut Random, head: [u64; 4], listed: &[Registration]) -> Option<Numbers> {
-    let sellers: BTreeSet<u8> = listed.iter().map(|r| r.seller).collect();
+fn with_lists(random: &mut Random, head: [u64; 4], performed: &[Performed]) -> Option<Numbers> {
+    let sellers: BTreeSet<u8> = performed.iter().map(|(r, _)| r.seller).collect();
     let sellers: Vec<u8> = sellers.into_iter().collect();
     let percent = random.pick(&[0, 20, 100]);
     let short = random.some(&sellers, percent);
-    let performance = random.pick(&[
-        Performance::Nothing,
-        Performance::Short,
-        Performance::Over,
-        Performance::Mixed,
-        Performance::Mixed,
-        Performance::Mixed,
-    ]);
     let mut numbers = head.to_vec();
-    numbers.extend([widen(short.len()), widen(listed.len())]);
+    numbers.extend([widen(short.len()), widen(performed.len())]);
     for seller in short {
         numbers.extend([seller.into(), deficit(random)]);
     }
-    for registration in listed {
-        let reduction = reduction(random, performance, registration.committed.into());
-        numbers.extend([registration.id.into(), reduction]);
-    }
-    (!listed.is_empty()).then_some(numbers)
+    numbers.extend(entries(performed));
+    (!performed.is_empty()).then_some(numbers)
 }
 
 fn deficit(random: &mut Random) -> u64 {
     let limit = random.pick(&[2, 100, 10_000, 1_000_000]);
     random.value(1, limit)
-}
-
-fn reduction(random: &mut Random, performance: Performance, committed: u64) -> u64 {
-    let any = random.value(0, 100_000);
-    let about = [0, committed - 1, committed, committed + 1, any];
-    let reduction = match performance {
-        Performance::Nothing => 0,
-        Performance::Short => any % committed,
-        Performance::Over => committed + any % 1_000,
-        Performance::Mixed => random.pick(&about),
-    };
-    reduction.min(100_000)
 }

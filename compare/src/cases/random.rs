@@ -83,6 +83,13 @@ impl Random {
         items.iter().filter(keep).copied().collect()
     }
 
+    /// A month that is open, often the first or the last.
+    pub fn month(&mut self, is_open: impl Fn(u8) -> bool) -> u8 {
+        let open: Vec<u8> = (1..=12).filter(|month| is_open(*month)).collect();
+        let any = self.pick(&open);
+        self.pick(&[open[0], any, open[open.len() - 1]])
+    }
+
     /// A permitted value, spread as this year's values are.
     pub fn value(&mut self, low: u64, high: u64) -> u64 {
         let uniform = low + self.next() % (high - low + 1);

@@ -145,7 +145,8 @@ pub fn sample_of(random: &mut Random, kw: u64) -> Sample {
     }
 }
 
-/// The places of an event's or a test's reductions among its numbers; none in another record.
+/// The places of an event's, a test's or a retest's reductions among its numbers; none in another
+/// record.
 pub fn reductions(numbers: &[u64]) -> impl Iterator<Item = usize> {
     let layout = layout(numbers);
     let entries = layout.head.fields.len() + 2 * layout.deficits;

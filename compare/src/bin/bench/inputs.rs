@@ -58,13 +58,16 @@ fn in_june(numbers: &[u64]) -> Numbers {
 
 /// A record of each kind, as its numbers.
 pub fn records() -> Vec<(&'static str, Numbers)> {
-    let lists = |head: [u64; 4], deficits: u64, entries: u64| {
+    let entries = |count: u64| (0..count).flat_map(|id| [id, 50_000 + id]);
+    let lists = |head: [u64; 4], deficits: u64, count: u64| {
         let mut numbers = head.to_vec();
-        numbers.extend([deficits, entries]);
+        numbers.extend([deficits, count]);
         numbers.extend((0..deficits).flat_map(|seller| [seller, 1_000 + seller]));
-        numbers.extend((0..entries).flat_map(|id| [id, 50_000 + id]));
+        numbers.extend(entries(count));
         numbers
     };
+    let mut retest = vec![9, 1, 1, 0, 1, 64];
+    retest.extend(entries(64));
     vec![
         ("an opening", vec![1, 0, 9_500, 10_800]),
         ("a registration", vec![2, 63, 15, 7, 7, 2, 99_999, 12_345]),
@@ -74,5 +77,6 @@ pub fn records() -> Vec<(&'static str, Numbers)> {
         ("a test of 64 entries", lists([5, 1, 0, 1], 16, 64)),
         ("a close", vec![6, 15]),
         ("a clearing", vec![7, 63, 12_345, 99_999]),
+        ("a retest of 64 entries", retest),
     ]
 }

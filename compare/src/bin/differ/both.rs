@@ -10,8 +10,8 @@ use settlement::{piermint, statement, Billed, Taken, Written, MOST_STATEMENTS};
 /// Nothing, or what differs, to be printed.
 pub type Compared<T = ()> = Result<T, String>;
 
-/// The numbers: 0, of a record's refusal 1 to 17, and of a sample's 18 and 19.
-const NUMBERS: usize = 20;
+/// The numbers: 0, of a record's refusal 1 to 17, 20 and 21, and of a sample's 18 and 19.
+const NUMBERS: usize = 22;
 
 /// The kinds that four bits give, also those that are no record's.
 const KINDS: usize = 16;

@@ -15,8 +15,8 @@ pub fn compare_samples(both: &mut Both, seed: u64) -> Compared {
     Ok(())
 }
 
-/// Makes the reductions of a file's events and tests anew, each from a sample that gives the same kW,
-/// and writes these records.
+/// Makes the reductions of a file's events, tests and retests anew, each from a sample that gives the
+/// same kW, and writes these records.
 pub fn compare_made(both: &mut Both, file: &[u8], seed: u64) -> Compared {
     let mut random = Random::new(seed);
     for (start, length) in records_of(file) {
