@@ -13,6 +13,7 @@ ghost use Rattle.entries.specs.Entries.{everyListed};
 ghost use Rattle.questions.specs.Questions.{inTime, questions};
 use cells::Cells;
 use entries::Condition;
+use entries::Selection;
 use entries::entries_pass;
 use entries::every_listed;
 use entries::lists_exactly;
@@ -90,7 +91,7 @@ pub fn test_number(year: &Cells, t: TestHead, listing: &[u64]) -> u64
     if cells::test_taken(year, (3 * t.zone + t.product) as usize) {
         return 13;
     }
-    if lists_exactly(year, listing, Condition::Uncalled(t.zone, t.product)) {
+    if lists_exactly(year, listing, Selection::Uncalled(t.zone, t.product)) {
         0
     } else {
         14

@@ -2,23 +2,29 @@
 mod conditions;
 mod listings;
 mod registrations;
+mod selections;
 
 pub use listings::entries_pass;
 pub use listings::every_listed;
 pub use listings::lists_exactly;
 pub use registrations::any_lse;
-pub use registrations::any_meets;
+pub use registrations::any_selected;
 pub use registrations::committed_kw;
 
-// What may be asked of a registration (specs/Meets.antt): is it known; in an area; of a zone and product; a seller's;
-// may its product be called in a month and period; is it of a zone and product and listed by no accepted event; and
-// of the test of a place: has it an entry there that is a seller's, one that failed, one that is retested?
+// What may be asked of a registration's terms (specs/Meets.antt): is it known and in an area; known and of a zone and
+// product; a seller's; may its product be called in a month and period?
 pub enum Condition {
-    Known,
     InArea(u64),
     InGroup(u64, u64),
     OfSeller(u64),
     Callable(u64, u64),
+}
+
+// Which registrations of a year are meant (specs/Selects.antt): those that are known; those of a zone and product that
+// no accepted event lists; and, of the test of a place, a seller's entries, those of them that failed, those that are
+// retested.
+pub enum Selection {
+    Known,
     Uncalled(u64, u64),
     Tested(u64, u64),
     Failed(u64, u64),

@@ -9,13 +9,15 @@ ghost use Rattle.year.specs.Year.{listed, seller, size};
 ghost use Rattle.cells.specs.Layout.{listingAt, yearIn, Held};
 ghost use Rattle.entries.specs.Entries.{everyListed, deficitsListed, listsExactly};
 ghost use Rattle.entries.specs.Meets.{fulfils};
+ghost use Rattle.entries.specs.Selects.{selects};
 use crate::Condition;
+use crate::Selection;
 use crate::conditions::meets;
+use crate::selections::is_selected;
 use cells::Cells;
 
 // Does a registration meet the condition, if it is listed?
 fn passes(year: &Cells, listing: &[u64], condition: Condition, i: usize) -> bool
-    requires { ⌜ Held (now year) ⌝ }
     requires { ⌜ length (now listing) ≡ 144 ⌝ }
     requires { ⌜ i < 64 ⌝ }
     ensures { λ r. ⌜ r ≡ (not (listed (listingAt (at (now (listing .entry)))) i) || fulfils (yearIn (now (year .entry))) condition i) ⌝ }
@@ -87,16 +89,16 @@ pub fn entries_pass(year: &Cells, listing: &[u64], condition: Condition) -> bool
     every_listed(year, listing, condition) && deficits_listed(year, listing)
 }
 
-// Are exactly those listed that meet the condition?
-pub fn lists_exactly(year: &Cells, listing: &[u64], condition: Condition) -> bool
+// Are exactly those listed that are selected?
+pub fn lists_exactly(year: &Cells, listing: &[u64], selection: Selection) -> bool
     requires { ⌜ Held (now year) ⌝ }
     requires { ⌜ length (now listing) ≡ 144 ⌝ }
-    ensures { λ r. ⌜ r ≡ (let y = yearIn (now (year .entry)) in listsExactly (y .terms) (listingAt (at (now (listing .entry)))) (fulfils y condition)) ⌝ }
+    ensures { λ r. ⌜ r ≡ (let y = yearIn (now (year .entry)) in listsExactly (y .terms) (listingAt (at (now (listing .entry)))) (selects y selection)) ⌝ }
 {
     let mut i: usize = 0;
     while i < 64 {
         let listed = listing[i] != 0;
-        if listed != meets(year, i, condition) {
+        if listed != is_selected(year, i, selection) {
             return false;
         }
         i += 1;

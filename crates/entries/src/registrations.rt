@@ -5,20 +5,20 @@ ghost use Prim.Native.Nat.{_<_};
 ghost use Rattle.ids.specs.Ids.{sumTo, anyTo, only};
 ghost use Rattle.year.specs.Year.{committed, obligation, lses};
 ghost use Rattle.cells.specs.Layout.{yearIn, Held};
-ghost use Rattle.entries.specs.Meets.{fulfils};
-use crate::Condition;
-use crate::conditions::meets;
+ghost use Rattle.entries.specs.Selects.{selects};
+use crate::Selection;
+use crate::selections::is_selected;
 use cells::Cells;
 use units::Nominated;
 
-// Is there a registration that meets the condition?
-pub fn any_meets(year: &Cells, condition: Condition) -> bool
+// Is there a registration that meets the selection?
+pub fn any_selected(year: &Cells, selection: Selection) -> bool
     requires { ⌜ Held (now year) ⌝ }
-    ensures { λ r. ⌜ r ≡ anyTo 64 (fulfils (yearIn (now (year .entry))) condition) ⌝ }
+    ensures { λ r. ⌜ r ≡ anyTo 64 (selects (yearIn (now (year .entry))) selection) ⌝ }
 {
     let mut i: usize = 0;
     while i < 64 {
-        if meets(year, i, condition) {
+        if is_selected(year, i, selection) {
             return true;
         }
         i += 1;
@@ -26,30 +26,30 @@ pub fn any_meets(year: &Cells, condition: Condition) -> bool
     false
 }
 
-// What a registration commits, if it meets the condition.
-fn committed_by(year: &Cells, i: usize, condition: Condition) -> u64
+// What a registration commits, if it meets the selection.
+fn committed_by(year: &Cells, i: usize, selection: Selection) -> u64
     requires { ⌜ Held (now year) ⌝ }
     requires { ⌜ i < 64 ⌝ }
-    ensures { λ r. ⌜ r ≡ (let y = yearIn (now (year .entry)) in only (fulfils y condition) (committed (y .terms)) i) ⌝ }
+    ensures { λ r. ⌜ r ≡ (let y = yearIn (now (year .entry)) in only (selects y selection) (committed (y .terms)) i) ⌝ }
 {
     let r = cells::registration_at(year, i);
     let committed = r.committed;
-    if meets(year, i, condition) {
+    if is_selected(year, i, selection) {
         committed.0
     } else {
         0
     }
 }
 
-// What the registrations that meet the condition commit.
-pub fn committed_kw(year: &Cells, condition: Condition) -> Nominated
+// What the registrations that meet the selection commit.
+pub fn committed_kw(year: &Cells, selection: Selection) -> Nominated
     requires { ⌜ Held (now year) ⌝ }
-    ensures { λ r. ⌜ r .0 ≡ (let y = yearIn (now (year .entry)) in sumTo 64 (only (fulfils y condition) (committed (y .terms)))) ⌝ }
+    ensures { λ r. ⌜ r .0 ≡ (let y = yearIn (now (year .entry)) in sumTo 64 (only (selects y selection) (committed (y .terms)))) ⌝ }
 {
     let mut sum: u64 = 0;
     let mut i: usize = 0;
     while i < 64 {
-        sum += committed_by(year, i, condition);
+        sum += committed_by(year, i, selection);
         i += 1;
     }
     Nominated::sum(sum)

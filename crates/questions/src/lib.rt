@@ -7,9 +7,9 @@ ghost use Rattle.layouts.specs.Questions.{firstFailed};
 ghost use Rattle.cells.specs.Layout.{yearIn, Held};
 ghost use Rattle.questions.specs.Questions.{mayTest, hasParties};
 use cells::Cells;
-use entries::Condition;
+use entries::Selection;
 use entries::any_lse;
-use entries::any_meets;
+use entries::any_selected;
 
 // Question 6 of any record but an opening.
 pub fn is_open(year: &Cells) -> bool
@@ -23,7 +23,7 @@ fn has_parties(year: &Cells) -> bool
     requires { ⌜ Held (now year) ⌝ }
     ensures { λ r. ⌜ r ≡ hasParties (yearIn (now (year .entry)) .terms) ⌝ }
 {
-    any_meets(year, Condition::Known) && any_lse(year)
+    any_selected(year, Selection::Known) && any_lse(year)
 }
 
 // Questions 6 and 8 of an event, a test, a retest or a close: the number of the first that fails, or 0.

@@ -15,7 +15,8 @@ ghost use Rattle.entries.specs.Entries.{inGroup, everyListed};
 ghost use Rattle.questions.specs.Questions.{inTime, mayTest, questions};
 use cells::Cells;
 use entries::Condition;
-use entries::any_meets;
+use entries::Selection;
+use entries::any_selected;
 use entries::committed_kw;
 use entries::every_listed;
 use entries::lists_exactly;
@@ -78,11 +79,11 @@ fn may_retest(year: &Cells, t: RetestHead) -> bool
     if !cells::test_taken(year, place as usize) {
         return false;
     }
-    if any_meets(year, Condition::Retested(place, t.seller)) {
+    if any_selected(year, Selection::Retested(place, t.seller)) {
         return false;
     }
-    let failed = committed_kw(year, Condition::Failed(place, t.seller));
-    let tested = committed_kw(year, Condition::Tested(place, t.seller));
+    let failed = committed_kw(year, Selection::Failed(place, t.seller));
+    let tested = committed_kw(year, Selection::Tested(place, t.seller));
     below_quarter(failed, tested)
 }
 
@@ -107,7 +108,7 @@ pub fn retest_number(year: &Cells, t: RetestHead, listing: &[u64]) -> u64
         return 20;
     }
     let place = place_of(t);
-    if lists_exactly(year, listing, Condition::Failed(place, t.seller)) {
+    if lists_exactly(year, listing, Selection::Failed(place, t.seller)) {
         0
     } else {
         21

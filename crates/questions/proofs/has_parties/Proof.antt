@@ -5,13 +5,13 @@ use Rattle.year.specs.Limits.{size-is}
 use Rattle.questions.proofs.has_parties.Statement.{statement}
 use Rattle.questions.proofs.has_parties.Tie as tie
 use Rattle.entries.proofs.any_lse.Reads as any-lse-reads
-use Rattle.entries.proofs.any_meets.Reads as any-meets-reads
+use Rattle.entries.proofs.any_selected.Reads as any-selected-reads
 
 returns : tie.Need-returns
-returns c = rw (size-is (c .before .before .before .pre .sound .terms), sym (c .before .before .any-meets .ensures), c .before .if1 .taken) (c .any-lse .ensures)
+returns c = rw (size-is (c .before .before .before .pre .sound .terms), sym (c .before .before .any-selected .ensures), c .before .if1 .taken) (c .any-lse .ensures)
 
 returns-2 : tie.Need-returns-2
-returns-2 c = rw (size-is (c .before .before .pre .sound .terms), sym (c .before .any-meets .ensures), c .if1 .left)
+returns-2 c = rw (size-is (c .before .before .pre .sound .terms), sym (c .before .any-selected .ensures), c .if1 .left)
 
 pub has-parties-spec : {M : Type 1} → statement M
 has-parties-spec =

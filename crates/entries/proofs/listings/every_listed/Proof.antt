@@ -54,7 +54,7 @@ every-listed-spec =
     Inv-loop
     μ-loop
     loop-holds
-    (λ c κs. (c .before .before .before .pre .0, (c .before .before .before .pre .1, omega arith)))
+    (λ c κs. omega arith)
     returns
     (λ c. omega arith)
     (λ c. omega arith)

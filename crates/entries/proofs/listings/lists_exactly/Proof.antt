@@ -11,17 +11,17 @@ use Rattle.year.specs.Limits.{size-is}
 use Rattle.cells.specs.Layout.{flag, listingAt, cellTerms, yearIn}
 use Rattle.cells.specs.Regions.{row-listed}
 use Rattle.entries.specs.Entries.{listsExactly}
-use Rattle.entries.specs.Meets.{fulfils}
+use Rattle.entries.specs.Selects.{selects}
 use Rattle.entries.proofs.listings.lists_exactly.Statement.{statement}
 use Rattle.entries.proofs.listings.lists_exactly.Tie as tie
-use Rattle.entries.proofs.conditions.meets.Reads as meets-reads
+use Rattle.entries.proofs.selections.is_selected.Reads as is-selected-reads
 
 abbrev Inv-loop : tie.InvT-loop
-Inv-loop year listing condition i₀ i =
-    (i ≤ 64) × (allTo i (λ k. Bool·beq (listed (listingAt (at listing)) k) (fulfils (yearIn year) condition k)) ≡ true)
+Inv-loop year listing selection i₀ i =
+    (i ≤ 64) × (allTo i (λ k. Bool·beq (listed (listingAt (at listing)) k) (selects (yearIn year) selection k)) ≡ true)
 
 abbrev μ-loop : tie.MeasureT-loop
-μ-loop year listing condition i₀ i = 64 - i
+μ-loop year listing selection i₀ i = 64 - i
 
 loop-holds : tie.Need-loop-holds Inv-loop μ-loop
 unfolding allTo
@@ -34,8 +34,8 @@ returns c =
     let year = start .args .year .now in
     let row = start .args .listing .now in
     let i = c .before .before .before .before .loop .i in
-    let m = c .before .meets in
-    sym (all-fails (size (cellTerms year)) (λ k. Bool·beq (listed (listingAt (at row)) k) (fulfils (yearIn year) (start .args .condition) k)) i (omega (arith, size-is (start .pre .0 .sound .terms)))
+    let m = c .before .is-selected in
+    sym (all-fails (size (cellTerms year)) (λ k. Bool·beq (listed (listingAt (at row)) k) (selects (yearIn year) (start .args .selection) k)) i (omega (arith, size-is (start .pre .0 .sound .terms)))
     (rw (row-listed row {i = i} (omega arith), sym (m .ensures)) (not-true (Bool·beq (flag (at row i)) (m .result)) (c .if1 .taken))))
 
 loop-again : tie.Need-loop-again Inv-loop μ-loop
@@ -44,9 +44,9 @@ loop-again c =
     let year = start .args .year .now in
     let row = start .args .listing .now in
     let l = c .before .before .before .before .loop in
-    let m = c .before .meets in (
+    let m = c .before .is-selected in (
       omega arith,
-      all-more (l .i) (λ k. Bool·beq (listed (listingAt (at row)) k) (fulfils (yearIn year) (start .args .condition) k)) (l .inv .1)
+      all-more (l .i) (λ k. Bool·beq (listed (listingAt (at row)) k) (selects (yearIn year) (start .args .selection) k)) (l .inv .1)
           (rw (row-listed row {i = l .i} (omega arith), sym (m .ensures)) (not-false (Bool·beq (flag (at row (l .i))) (m .result)) (c .if1 .left))),
     )
 

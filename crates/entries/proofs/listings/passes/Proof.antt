@@ -11,13 +11,13 @@ returns : tie.Need-returns
 returns c =
     let start = c .before .before .before in
     let row = start .args .listing .now in
-    rw (row-listed row (start .pre .1 .1), eq-eqb (at row (start .args .i)) 0 (c .if1 .taken))
+    rw (row-listed row (start .pre .1), eq-eqb (at row (start .args .i)) 0 (c .if1 .taken))
 
 returns-2 : tie.Need-returns-2
 returns-2 c =
     let start = c .before .before .before .before in
     let row = start .args .listing .now in
-    rw (row-listed row (start .pre .1 .1), ne-eqb (at row (start .args .i)) 0 (c .before .if1 .left)) (c .meets .ensures)
+    rw (row-listed row (start .pre .1), ne-eqb (at row (start .args .i)) 0 (c .before .if1 .left)) (c .meets .ensures)
 
 pub passes-spec : {M : Type 1} → statement M
 passes-spec =

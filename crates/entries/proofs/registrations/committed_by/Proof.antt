@@ -5,14 +5,14 @@ use Rattle.year.specs.Year.{committed}
 use Rattle.entries.proofs.registrations.committed_by.Statement.{statement}
 use Rattle.entries.proofs.registrations.committed_by.Tie as tie
 use Rattle.cells.proofs.registration_at.Reads as registration-at-reads
-use Rattle.entries.proofs.conditions.meets.Reads as meets-reads
+use Rattle.entries.proofs.selections.is_selected.Reads as is-selected-reads
 
 returns : tie.Need-returns
 unfolding committed
-returns c = rw (sym (c .before .meets .ensures), c .if1 .taken, c .before .before .before .registration-at .ensures)
+returns c = rw (sym (c .before .is-selected .ensures), c .if1 .taken, c .before .before .before .registration-at .ensures)
 
 returns-2 : tie.Need-returns-2
-returns-2 c = rw (sym (c .before .meets .ensures), c .if1 .left)
+returns-2 c = rw (sym (c .before .is-selected .ensures), c .if1 .left)
 
 pub committed-by-spec : {M : Type 1} → statement M
 committed-by-spec =

@@ -8,17 +8,17 @@ use Rattle.ids.specs.Tests.{cond-le}
 use Rattle.year.specs.Year.{committed}
 use Rattle.year.specs.Limits.{committed-most, committed-sum}
 use Rattle.cells.specs.Layout.{cellTerms, yearIn}
-use Rattle.entries.specs.Meets.{fulfils}
+use Rattle.entries.specs.Selects.{selects}
 use Rattle.entries.proofs.registrations.committed_kw.Statement.{statement}
 use Rattle.entries.proofs.registrations.committed_kw.Tie as tie
 use Rattle.entries.proofs.registrations.committed_by.Reads as committed-by-reads
 use Rattle.units.proofs.Nominated.sum.Reads as sum-reads
 
 abbrev Inv-loop : tie.InvT-loop
-Inv-loop year condition sum₀ i₀ sum i = (i ≤ 64) × (sum ≡ sumTo i (only (fulfils (yearIn year) condition) (committed (cellTerms year))))
+Inv-loop year selection sum₀ i₀ sum i = (i ≤ 64) × (sum ≡ sumTo i (only (selects (yearIn year) selection) (committed (cellTerms year))))
 
 abbrev μ-loop : tie.MeasureT-loop
-μ-loop year condition sum₀ i₀ sum i = 64 - i
+μ-loop year selection sum₀ i₀ sum i = 64 - i
 
 loop-holds : tie.Need-loop-holds Inv-loop μ-loop
 unfolding sumTo
@@ -28,13 +28,13 @@ loop-holds c = (omega arith, refl)
 sum-most : (c : tie.At-loop Inv-loop μ-loop) → c .loop .sum ≤ c .loop .i * 100000
 sum-most c =
     let s = c .before in
-    rw (c .loop .inv .1) (committed-sum (s .pre .sound .terms) (fulfils (yearIn (s .args .year .now)) (s .args .condition)) (c .loop .i))
+    rw (c .loop .inv .1) (committed-sum (s .pre .sound .terms) (selects (yearIn (s .args .year .now)) (s .args .selection)) (c .loop .i))
 
 one-most : (c : tie.After-committed-by Inv-loop μ-loop) → c .committed-by .result ≤ 100000
 one-most c =
     let s = c .before .before .before in
     let i = c .before .before .loop .i in
-    rw (c .committed-by .ensures) (cond-le (fulfils (yearIn (s .args .year .now)) (s .args .condition) i) (committed-most (s .pre .sound .terms) i))
+    rw (c .committed-by .ensures) (cond-le (selects (yearIn (s .args .year .now)) (s .args .selection) i) (committed-most (s .pre .sound .terms) i))
 
 loop-again : tie.Need-loop-again Inv-loop μ-loop
 loop-again c =

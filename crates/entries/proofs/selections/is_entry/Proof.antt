@@ -1,10 +1,10 @@
--- `entries::conditions::is_entry` meets its contract. Assumes nothing.
+-- `entries::selections::is_entry` meets its contract. Assumes nothing.
 use borrow.Author.Needs.{needs}
 use mathlib.Core.Path.{sym}
 use Rattle.year.specs.Year.{seller}
 use Rattle.owed.specs.Retests.{entryOf}
-use Rattle.entries.proofs.conditions.is_entry.Statement.{statement}
-use Rattle.entries.proofs.conditions.is_entry.Tie as tie
+use Rattle.entries.proofs.selections.is_entry.Statement.{statement}
+use Rattle.entries.proofs.selections.is_entry.Tie as tie
 use Rattle.cells.proofs.registration_at.Reads as registration-at-reads
 use Rattle.cells.proofs.tested_in.Reads as tested-in-reads
 

@@ -1,10 +1,10 @@
--- `entries::conditions::is_retested` meets its contract. Assumes nothing.
+-- `entries::selections::is_retested` meets its contract. Assumes nothing.
 use borrow.Author.Needs.{needs}
 use mathlib.Core.Path.{sym}
-use Rattle.entries.proofs.conditions.is_retested.Statement.{statement}
-use Rattle.entries.proofs.conditions.is_retested.Tie as tie
+use Rattle.entries.proofs.selections.is_retested.Statement.{statement}
+use Rattle.entries.proofs.selections.is_retested.Tie as tie
 use Rattle.cells.proofs.retest_at.Reads as retest-at-reads
-use Rattle.entries.proofs.conditions.is_entry.Reads as is-entry-reads
+use Rattle.entries.proofs.selections.is_entry.Reads as is-entry-reads
 
 returns : tie.Need-returns
 returns c = rw (sym (c .before .is-entry .ensures), c .if1 .taken, c .before .before .retest-at .ensures)

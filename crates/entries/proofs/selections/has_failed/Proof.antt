@@ -1,13 +1,13 @@
--- `entries::conditions::has_failed` meets its contract. Assumes nothing.
+-- `entries::selections::has_failed` meets its contract. Assumes nothing.
 use borrow.Author.Needs.{needs}
 use mathlib.Core.Path.{sym}
 use Rattle.year.specs.Year.{committed}
 use Rattle.owed.specs.Retests.{failed}
-use Rattle.entries.proofs.conditions.has_failed.Statement.{statement}
-use Rattle.entries.proofs.conditions.has_failed.Tie as tie
+use Rattle.entries.proofs.selections.has_failed.Statement.{statement}
+use Rattle.entries.proofs.selections.has_failed.Tie as tie
 use Rattle.cells.proofs.first_in.Reads as first-in-reads
 use Rattle.cells.proofs.registration_at.Reads as registration-at-reads
-use Rattle.entries.proofs.conditions.is_entry.Reads as is-entry-reads
+use Rattle.entries.proofs.selections.is_entry.Reads as is-entry-reads
 
 returns : tie.Need-returns
 unfolding failed committed

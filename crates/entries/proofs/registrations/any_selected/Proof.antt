@@ -1,4 +1,4 @@
--- `entries::registrations::any_meets` meets its contract. The invariant: none so far meets the condition. Assumes nothing.
+-- `entries::registrations::any_selected` meets its contract. The invariant: none so far meets the selection. Assumes nothing.
 use Prim.Native.Nat.{_≤_, _-_}
 use mathlib.Core.Path.{_≡_, refl, sym, _∙_}
 use mathlib.Core.Bool.{false}
@@ -6,16 +6,16 @@ use native.Mathlib.Omega.{arith}
 use Rattle.ids.specs.Ids.{anyTo}
 use Rattle.ids.specs.Tests.{any-at, any-none}
 use Rattle.cells.specs.Layout.{yearIn}
-use Rattle.entries.specs.Meets.{fulfils}
-use Rattle.entries.proofs.registrations.any_meets.Statement.{statement}
-use Rattle.entries.proofs.registrations.any_meets.Tie as tie
-use Rattle.entries.proofs.conditions.meets.Reads as meets-reads
+use Rattle.entries.specs.Selects.{selects}
+use Rattle.entries.proofs.registrations.any_selected.Statement.{statement}
+use Rattle.entries.proofs.registrations.any_selected.Tie as tie
+use Rattle.entries.proofs.selections.is_selected.Reads as is-selected-reads
 
 abbrev Inv-loop : tie.InvT-loop
-Inv-loop year condition i₀ i = (i ≤ 64) × (anyTo i (fulfils (yearIn year) condition) ≡ false)
+Inv-loop year selection i₀ i = (i ≤ 64) × (anyTo i (selects (yearIn year) selection) ≡ false)
 
 abbrev μ-loop : tie.MeasureT-loop
-μ-loop year condition i₀ i = 64 - i
+μ-loop year selection i₀ i = 64 - i
 
 loop-holds : tie.Need-loop-holds Inv-loop μ-loop
 unfolding anyTo
@@ -24,18 +24,18 @@ loop-holds c = (omega arith, refl)
 returns : tie.Need-returns Inv-loop μ-loop
 returns c =
     let a = c .before .before .before .before .args in
-    sym (any-at 64 (fulfils (yearIn (a .year .now)) (a .condition)) (c .before .before .before .loop .i) (omega arith) (sym (c .before .meets .ensures) ∙ c .if1 .taken))
+    sym (any-at 64 (selects (yearIn (a .year .now)) (a .selection)) (c .before .before .before .loop .i) (omega arith) (sym (c .before .is-selected .ensures) ∙ c .if1 .taken))
 
 loop-again : tie.Need-loop-again Inv-loop μ-loop
-loop-again c = (omega arith, any-none _ _ (c .before .before .before .loop .inv .1) (sym (c .before .meets .ensures) ∙ c .if1 .left))
+loop-again c = (omega arith, any-none _ _ (c .before .before .before .loop .inv .1) (sym (c .before .is-selected .ensures) ∙ c .if1 .left))
 
 returns-2 : tie.Need-returns-2 Inv-loop μ-loop
 returns-2 c =
     let all : c .before .loop .i ≡ 64 = omega arith in
     sym (rw all at (c .before .loop .inv .1))
 
-pub any-meets-spec : {M : Type 1} → statement M
-any-meets-spec =
+pub any-selected-spec : {M : Type 1} → statement M
+any-selected-spec =
     tie.close
     (tie.spec
     Inv-loop

@@ -1,4 +1,4 @@
--- `entries::conditions::is_called` meets its contract. The invariant: none of the events so far lists it. Assumes nothing.
+-- `entries::selections::is_called` meets its contract. The invariant: none of the events so far lists it. Assumes nothing.
 use Prim.Native.Nat.{_≤_, _-_}
 use mathlib.Core.Path.{_≡_, refl, sym, _∙_}
 use mathlib.Core.Bool.{false}
@@ -9,8 +9,8 @@ use Rattle.ids.specs.Tests.{any-at, any-none}
 use Rattle.year.specs.Year.{listed, pastEvent}
 use Rattle.cells.specs.Layout.{cellEvents}
 use Rattle.owed.specs.Owed.{called}
-use Rattle.entries.proofs.conditions.is_called.Statement.{statement}
-use Rattle.entries.proofs.conditions.is_called.Tie as tie
+use Rattle.entries.proofs.selections.is_called.Statement.{statement}
+use Rattle.entries.proofs.selections.is_called.Tie as tie
 use Rattle.cells.proofs.held.Reads as held-reads
 use Rattle.cells.proofs.listed_in.Reads as listed-in-reads
 
