@@ -11,7 +11,7 @@ use crate::selections::is_selected;
 use cells::Cells;
 use units::Nominated;
 
-// Is there a registration that meets the selection?
+// Is there a registration that is selected?
 pub fn any_selected(year: &Cells, selection: Selection) -> bool
     requires { ⌜ Held (now year) ⌝ }
     ensures { λ r. ⌜ r ≡ anyTo 64 (selects (yearIn (now (year .entry))) selection) ⌝ }
@@ -26,7 +26,7 @@ pub fn any_selected(year: &Cells, selection: Selection) -> bool
     false
 }
 
-// What a registration commits, if it meets the selection.
+// What a registration commits, if it is selected.
 fn committed_by(year: &Cells, i: usize, selection: Selection) -> u64
     requires { ⌜ Held (now year) ⌝ }
     requires { ⌜ i < 64 ⌝ }
@@ -41,7 +41,7 @@ fn committed_by(year: &Cells, i: usize, selection: Selection) -> u64
     }
 }
 
-// What the registrations that meet the selection commit.
+// What the selected registrations commit.
 pub fn committed_kw(year: &Cells, selection: Selection) -> Nominated
     requires { ⌜ Held (now year) ⌝ }
     ensures { λ r. ⌜ r .0 ≡ (let y = yearIn (now (year .entry)) in sumTo 64 (only (selects y selection) (committed (y .terms)))) ⌝ }

@@ -1,4 +1,4 @@
--- `entries::registrations::any_selected` meets its contract. The invariant: none so far meets the selection. Assumes nothing.
+-- `entries::registrations::any_selected` meets its contract. The invariant: none so far is selected. Assumes nothing.
 use Prim.Native.Nat.{_≤_, _-_}
 use mathlib.Core.Path.{_≡_, refl, sym, _∙_}
 use mathlib.Core.Bool.{false}
