@@ -14,12 +14,12 @@ ghost use Rattle.questions.specs.Questions.{inTime, questions};
 use cells::Cells;
 use entries::Condition;
 use entries::Selection;
-use entries::entries_pass;
-use entries::every_listed;
-use entries::lists_exactly;
 use heads::EventHead;
 use heads::Head;
 use heads::TestHead;
+use listings::entries_pass;
+use listings::every_listed;
+use listings::lists_exactly;
 use questions::may_test;
 use questions::open_number;
 

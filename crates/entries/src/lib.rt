@@ -1,15 +1,9 @@
-// What is asked of a record's entries and deficits, and of the registrations and LSEs at large.
+// What is asked of one registration by its terms, and is it among those of the year that are meant?
 mod conditions;
-mod listings;
-mod registrations;
 mod selections;
 
-pub use listings::entries_pass;
-pub use listings::every_listed;
-pub use listings::lists_exactly;
-pub use registrations::any_lse;
-pub use registrations::any_selected;
-pub use registrations::committed_kw;
+pub use conditions::meets;
+pub use selections::is_selected;
 
 // What may be asked of a registration's terms (specs/Meets.antt): is it known and in an area; known and of a zone and
 // product; a seller's; may its product be called in a month and period?

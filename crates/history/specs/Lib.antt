@@ -19,8 +19,6 @@ pub mod Same
 pub mod Alike
 pub mod Blind
 pub mod OwnRetests
-pub mod Retried
-pub mod HadRetest
 pub mod Paired
 pub mod TwoRuns
 pub mod Independence

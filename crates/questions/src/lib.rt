@@ -8,8 +8,8 @@ ghost use Rattle.cells.specs.Layout.{yearIn, Held};
 ghost use Rattle.questions.specs.Questions.{mayTest, hasParties};
 use cells::Cells;
 use entries::Selection;
-use entries::any_lse;
-use entries::any_selected;
+use listings::any_lse;
+use listings::any_selected;
 
 // Question 6 of any record but an opening.
 pub fn is_open(year: &Cells) -> bool

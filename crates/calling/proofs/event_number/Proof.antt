@@ -12,7 +12,7 @@ use Rattle.questions.specs.Answers.{yes, no, both-pass, one-fails}
 use Rattle.calling.proofs.event_number.Statement.{statement}
 use Rattle.calling.proofs.event_number.Tie as tie
 use Rattle.cells.proofs.held.Reads as held-reads
-use Rattle.entries.proofs.entries_pass.Reads as entries-pass-reads
+use Rattle.listings.proofs.entries_pass.Reads as entries-pass-reads
 use Rattle.questions.proofs.open_number.Reads as open-number-reads
 use Rattle.calling.proofs.may_call.Reads as may-call-reads
 

@@ -5,7 +5,7 @@ use Rattle.year.specs.Year.{product}
 use Rattle.calling.proofs.may_call.Statement.{statement}
 use Rattle.calling.proofs.may_call.Tie as tie
 use Rattle.cells.proofs.closed.Reads as closed-reads
-use Rattle.entries.proofs.every_listed.Reads as every-listed-reads
+use Rattle.listings.proofs.every_listed.Reads as every-listed-reads
 use Rattle.calling.proofs.in_time.Reads as in-time-reads
 
 returns : tie.Need-returns

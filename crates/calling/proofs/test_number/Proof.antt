@@ -11,8 +11,8 @@ use Rattle.questions.specs.Answers.{yes, no, both-pass, one-fails}
 use Rattle.calling.proofs.test_number.Statement.{statement}
 use Rattle.calling.proofs.test_number.Tie as tie
 use Rattle.cells.proofs.test_taken.Reads as test-taken-reads
-use Rattle.entries.proofs.entries_pass.Reads as entries-pass-reads
-use Rattle.entries.proofs.lists_exactly.Reads as lists-exactly-reads
+use Rattle.listings.proofs.entries_pass.Reads as entries-pass-reads
+use Rattle.listings.proofs.lists_exactly.Reads as lists-exactly-reads
 use Rattle.questions.proofs.may_test.Reads as may-test-reads
 use Rattle.questions.proofs.open_number.Reads as open-number-reads
 

@@ -4,8 +4,8 @@ use mathlib.Core.Path.{sym}
 use Rattle.year.specs.Limits.{size-is}
 use Rattle.questions.proofs.has_parties.Statement.{statement}
 use Rattle.questions.proofs.has_parties.Tie as tie
-use Rattle.entries.proofs.any_lse.Reads as any-lse-reads
-use Rattle.entries.proofs.any_selected.Reads as any-selected-reads
+use Rattle.listings.proofs.any_lse.Reads as any-lse-reads
+use Rattle.listings.proofs.any_selected.Reads as any-selected-reads
 
 returns : tie.Need-returns
 returns c = rw (size-is (c .before .before .before .pre .sound .terms), sym (c .before .before .any-selected .ensures), c .before .if1 .taken) (c .any-lse .ensures)

@@ -3,7 +3,7 @@ use borrow.Author.Needs.{needs}
 use mathlib.Core.Path.{sym}
 use Rattle.retesting.proofs.lists_own.Statement.{statement}
 use Rattle.retesting.proofs.lists_own.Tie as tie
-use Rattle.entries.proofs.every_listed.Reads as every-listed-reads
+use Rattle.listings.proofs.every_listed.Reads as every-listed-reads
 
 returns : tie.Need-returns
 returns c = rw (sym (c .before .before .every-listed .ensures), c .before .if1 .taken) (c .every-listed2 .ensures)

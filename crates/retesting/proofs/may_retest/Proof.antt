@@ -10,8 +10,8 @@ use Rattle.owed.specs.Retests.{testedKw, failedKw, hadRetest}
 use Rattle.retesting.proofs.may_retest.Statement.{statement}
 use Rattle.retesting.proofs.may_retest.Tie as tie
 use Rattle.cells.proofs.test_taken.Reads as test-taken-reads
-use Rattle.entries.proofs.any_selected.Reads as any-selected-reads
-use Rattle.entries.proofs.committed_kw.Reads as committed-kw-reads
+use Rattle.listings.proofs.any_selected.Reads as any-selected-reads
+use Rattle.listings.proofs.committed_kw.Reads as committed-kw-reads
 use Rattle.retesting.proofs.below_quarter.Reads as below-quarter-reads
 use Rattle.retesting.proofs.place_of.Reads as place-of-reads
 

@@ -10,7 +10,7 @@ use Rattle.questions.specs.Questions.{inTime, q6, q7, q8, q9, q10, q17, q11, q2
 use Rattle.questions.specs.Answers.{yes, no, both-pass, one-fails}
 use Rattle.retesting.proofs.retest_number.Statement.{statement}
 use Rattle.retesting.proofs.retest_number.Tie as tie
-use Rattle.entries.proofs.lists_exactly.Reads as lists-exactly-reads
+use Rattle.listings.proofs.lists_exactly.Reads as lists-exactly-reads
 use Rattle.questions.proofs.open_number.Reads as open-number-reads
 use Rattle.retesting.proofs.in_time.Reads as in-time-reads
 use Rattle.retesting.proofs.lists_own.Reads as lists-own-reads

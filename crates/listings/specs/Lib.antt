@@ -1,0 +1,2 @@
+-- How the loops over listed registrations and deficits go.
+pub mod Passes

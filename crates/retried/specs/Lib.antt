@@ -1,0 +1,3 @@
+-- Question 20's "this seller's retest already", read off the accepted records.
+pub mod Retried
+pub mod HadRetest
