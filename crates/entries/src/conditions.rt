@@ -9,6 +9,7 @@ use crate::Condition;
 use cells::Cells;
 use year::Registration;
 
+// Is a registration known, and of a zone and product?
 pub fn in_group(r: Registration, zone: u64, product: u64) -> bool
     ensures { λ b. ⌜ b ≡ (r .known && (eqb (r .zone) zone && eqb (r .product) product)) ⌝ }
 {

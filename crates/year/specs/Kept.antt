@@ -102,7 +102,7 @@ module _ {y : Year} (s : Sound y) where
   sound-test place {t} h =
       record { closed = s .closed; held = s .held; terms = s .terms; clearings = s .clearings; events = s .events; places = length-set (y .tests) place t ∙ s .places; tests = kept-set (λ k u. k < 24 → SoundTest (y .terms) k u) pastTest (y .tests) place (λ l. h) (s .tests); retests = s .retests; billed = s .billed; fresh = λ e. false-true e refl }
 
-  -- after a test
+  -- a retest comes after a test, so the year has begun
   pub sound-retest : y .started ≡ true → {l : Listing} → SoundListing l → Sound (withRetest y l)
   unfolding reduction
   sound-retest e {l} h =
