@@ -55,7 +55,7 @@ fn ask_event(year: &Year, event: &Event) -> Asked {
             && deficits_have_entries(year, &event.lists),
         10,
     )?;
-    ask(is_event_in_time(year, event), 11)?;
+    ask(may_call(year, event), 11)?;
     ask(year.events.len() < MOST_EVENTS, 12)
 }
 
@@ -66,7 +66,7 @@ fn ask_test(year: &Year, test: &Test) -> Asked {
         all_known(year, test.lists.entries(), tests) && deficits_have_entries(year, &test.lists),
         10,
     )?;
-    ask(is_test_in_time(year, test.product, test.month), 11)?;
+    ask(may_test(year, test.product, test.month), 11)?;
     ask(year.test_of(test.zone, test.product).is_none(), 13)?;
     ask(lists_exactly_the_uncalled(year, test, tests), 14)
 }
@@ -91,7 +91,7 @@ fn ask_retest(year: &Year, retest: &Retest) -> Asked {
     ask(all_known(year, &retest.entries, belongs), 10)?;
     let test = year.test_of(retest.zone, retest.product);
     ask(
-        is_test_in_time(year, retest.product, retest.month)
+        may_test(year, retest.product, retest.month)
             && test.is_none_or(|test| test.month <= retest.month),
         11,
     )?;
@@ -124,21 +124,22 @@ fn deficits_have_entries(year: &Year, lists: &Lists) -> bool {
     sellers.all(|(deficit, has_entry)| *deficit == 0 || has_entry)
 }
 
-fn is_event_in_time(year: &Year, event: &Event) -> bool {
-    event_month_is_open(event.month, year.closed)
+/// May the event call what it lists? It may long after its month, since its review may end late.
+fn may_call(year: &Year, event: &Event) -> bool {
+    month_has_begun(event.month, year.closed)
         && event.lists.entries().iter().all(|entry| {
             let product = year.registration(entry).product;
             may_be_called(product, event.month, event.off_peak)
         })
 }
 
-fn is_test_in_time(year: &Year, product: Product, month: u8) -> bool {
-    month <= year.closed + 1 && may_be_tested(product, month)
+fn may_test(year: &Year, product: Product, month: u8) -> bool {
+    month_has_begun(month, year.closed) && may_be_tested(product, month)
 }
 
-/// With z months closed, may an event of this month still come?
-pub fn event_month_is_open(month: u8, z: u8) -> bool {
-    month <= z + 1 && z < (month + 3).max(5)
+/// With z months closed, has this month begun?
+pub fn month_has_begun(month: u8, z: u8) -> bool {
+    month <= z + 1
 }
 
 pub fn may_be_called(product: Product, month: u8, off_peak: bool) -> bool {

@@ -87,12 +87,19 @@ fn event_of_june_repriced_by_september() {
 }
 
 #[test]
-fn event_of_june_too_late() {
-    let closes: [&[u64]; 5] = [&[6, 1], &[6, 2], &[6, 3], &[6, 4], &[6, 5]];
-    let with_4 = bill(&[&closes[..4], &[JUNE_EVENT]].concat());
-    let with_5 = bill(&[&closes[..], &[JUNE_EVENT]].concat());
-    assert!(!with_4.contains('N'));
-    assert!(with_5.ends_with("N 11 11\n"));
+fn event_of_june_in_time_and_late() {
+    let closes: [&[u64]; 6] = [&[6, 1], &[6, 2], &[6, 3], &[6, 4], &[6, 5], &[6, 6]];
+    let with = |z: usize| bill(&[&closes[..z], &[JUNE_EVENT], &closes[z..]].concat());
+    assert!(with(4).ends_with(
+        "M 5\nS 0 313650 0 0\nS 1 0 0 45900\nL 0 200812\nL 1 66938\n\
+         M 6\nS 0 61500 0 0\nS 1 0 0 9000\nL 0 39375\nL 1 13125\n"
+    ));
+    // Close 6 has the whole to date: 2,050,000 × 183 / 1,000 = 375,150 charged, of which
+    // 100 × 15,000 / 5 × 183 / 1,000 = 54,900 credited to seller 1, and 320,250 left to the LSEs.
+    assert!(with(5).ends_with(
+        "M 5\nS 0 0 0 0\nS 1 0 0 0\nL 0 0\nL 1 0\n\
+         M 6\nS 0 375150 0 0\nS 1 0 0 54900\nL 0 240187\nL 1 80063\n"
+    ));
 }
 
 #[test]

@@ -2,6 +2,7 @@
 
 mod clearings;
 pub mod damage;
+pub mod late;
 mod parties;
 mod performance;
 pub mod plan;

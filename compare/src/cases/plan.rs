@@ -3,6 +3,7 @@
 use std::collections::BTreeSet;
 
 use super::clearings::{all_cleared, some_cleared};
+use super::late::comes_late;
 use super::parties::{
     opening_and_parties, registrations_of_all_zones, registrations_of_few_places,
     zones_and_products,
@@ -11,13 +12,13 @@ use super::performance::{alike, entries, few_short, Performed};
 use super::random::Random;
 use super::record::Numbers;
 use super::retests::Results;
-use crate::counter::{event_month_is_open, may_be_called, may_be_tested};
+use crate::counter::{may_be_called, may_be_tested, month_has_begun};
 use crate::exact::{narrow, widen};
 use crate::records::{registration, Product, Registration};
 use crate::year::{CLOSES, MOST_EVENTS};
 
-/// The last count of closed months with which a Limited registration may be called.
-const LAST_CALL: u8 = 6;
+/// The last count of closed months with which an event that lists a Limited registration comes in time.
+const LAST_IN_TIME: u8 = 6;
 
 /// The records of a plausible year, and one more after its end.
 pub fn year(random: &mut Random) -> Vec<Numbers> {
@@ -35,7 +36,10 @@ pub fn short_year(random: &mut Random) -> Vec<Numbers> {
 
 fn any_year(random: &mut Random, registrations: usize, lses: usize) -> Vec<Numbers> {
     let registrations = registrations_of_few_places(random, registrations);
-    let mut plan = Plan::new(random, &registrations);
+    // With 7, tests are charged for months before an event may list what they tested.
+    let first_call = random.pick(&[0, 1, 2, 4, 7]);
+    let percent_late = random.pick(&[0, 50, 100]);
+    let mut plan = Plan::new(random, &registrations, first_call, percent_late);
     let registrations = some_cleared(random, registrations);
     let mut records = opening_and_parties(random, registrations, lses);
     let busyness = random.pick(&[2, 3, 5]);
@@ -48,16 +52,17 @@ fn any_year(random: &mut Random, registrations: usize, lses: usize) -> Vec<Numbe
         }
         records.push(close_after(z));
     }
-    let late = random.below(records.len());
-    records.push(records[late].clone());
+    let again = random.below(records.len());
+    records.push(records[again].clone());
     records
 }
 
 /// A year with no room left: 64 registrations of 4 clearings each, 16 LSEs, 24 tests, 16 events of
-/// 64 entries.
+/// 64 entries. No event comes late, so that an engine from before C-16 takes the year too.
 pub fn full_year(random: &mut Random) -> Vec<Numbers> {
     let registrations = registrations_of_all_zones(random);
-    let mut plan = Plan::new(random, &registrations);
+    let first_call = random.pick(&[0, 1, 2, 4]);
+    let mut plan = Plan::new(random, &registrations, first_call, 0);
     let registrations = all_cleared(random, registrations);
     let mut records = opening_and_parties(random, registrations, 16);
     let mut tests = zones_and_products();
@@ -75,7 +80,7 @@ pub fn full_year(random: &mut Random) -> Vec<Numbers> {
         }
         let keep = if z < plan.first_call {
             events
-        } else if z < LAST_CALL {
+        } else if z < LAST_IN_TIME {
             random.below(events + 1)
         } else {
             0
@@ -100,11 +105,18 @@ struct Plan {
     results: Results,
     /// No event comes before so many closes.
     first_call: u8,
+    /// Of 100 events so many may come late.
+    percent_late: usize,
     percent_of_tests: usize,
 }
 
 impl Plan {
-    fn new(random: &mut Random, registrations: &[Numbers]) -> Self {
+    fn new(
+        random: &mut Random,
+        registrations: &[Numbers],
+        first_call: u8,
+        percent_late: usize,
+    ) -> Self {
         let parse = |numbers: &Numbers| registration(numbers[..].try_into().expect("8 numbers"));
         let mut registrations: Vec<Registration> = registrations.iter().map(parse).collect();
         registrations.sort_by_key(|r| r.id);
@@ -112,7 +124,8 @@ impl Plan {
             registrations,
             called: BTreeSet::new(),
             results: Results::default(),
-            first_call: random.pick(&[0, 1, 2, 4]),
+            first_call,
+            percent_late,
             percent_of_tests: random.pick(&[4, 20, 60]),
         }
     }
@@ -126,7 +139,9 @@ impl Plan {
     }
 
     fn event(&mut self, random: &mut Random, z: u8) -> Option<Numbers> {
-        let month = random.month(|month| event_month_is_open(month, z));
+        let may_be_late = random.chance(self.percent_late);
+        let month = random
+            .month(|month| month_has_begun(month, z) && (may_be_late || !comes_late(month, z)));
         let period = random.value(1, 3);
         let area = random.pick(&self.registrations).area;
         let may = |r: &Registration| r.area == area && may_be_called(r.product, month, period == 2);
@@ -135,10 +150,12 @@ impl Plan {
         self.event_of(random, [4, area.into(), month.into(), period], &listed)
     }
 
-    /// An event that lists all registrations, which are of one area.
+    /// An event in time that lists all registrations, which are of one area.
     fn event_of_all(&mut self, random: &mut Random, z: u8) -> Option<Numbers> {
         let month = random.month(|month| {
-            event_month_is_open(month, z) && may_be_called(Product::Limited, month, false)
+            month_has_begun(month, z)
+                && !comes_late(month, z)
+                && may_be_called(Product::Limited, month, false)
         });
         let area = self.registrations[0].area;
         let period = random.pick(&[1, 3]);
@@ -169,7 +186,8 @@ impl Plan {
         zone: u8,
         product: Product,
     ) -> Option<Numbers> {
-        let month = random.month(|month| month <= z + 1 && may_be_tested(product, month));
+        let month =
+            random.month(|month| month_has_begun(month, z) && may_be_tested(product, month));
         let listed =
             self.those(|r| (r.zone, r.product) == (zone, product) && !self.called.contains(&r.id));
         let performed = match random.chance(70) {

@@ -83,11 +83,11 @@ impl Random {
         items.iter().filter(keep).copied().collect()
     }
 
-    /// A month that is open, often the first or the last.
-    pub fn month(&mut self, is_open: impl Fn(u8) -> bool) -> u8 {
-        let open: Vec<u8> = (1..=12).filter(|month| is_open(*month)).collect();
-        let any = self.pick(&open);
-        self.pick(&[open[0], any, open[open.len() - 1]])
+    /// One of the months that may be chosen, often the first or the last.
+    pub fn month(&mut self, may: impl Fn(u8) -> bool) -> u8 {
+        let months: Vec<u8> = (1..=12).filter(|month| may(*month)).collect();
+        let any = self.pick(&months);
+        self.pick(&[months[0], any, months[months.len() - 1]])
     }
 
     /// A permitted value, spread as this year's values are.

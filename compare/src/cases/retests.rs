@@ -6,7 +6,7 @@ use std::collections::{BTreeMap, BTreeSet};
 use super::performance::{alike, entries, Performed};
 use super::random::Random;
 use super::record::Numbers;
-use crate::counter::may_be_tested;
+use crate::counter::{may_be_tested, month_has_begun};
 use crate::exact::widen;
 use crate::records::{Product, Registration};
 
@@ -105,7 +105,9 @@ impl Results {
     fn month(&self, random: &mut Random, z: u8, zone: u8, product: Product) -> u8 {
         let tested = self.months.get(&(zone, product)).copied();
         let first = tested.filter(|_| random.chance(70)).unwrap_or(1);
-        random.month(|month| (first..=z + 1).contains(&month) && may_be_tested(product, month))
+        random.month(|month| {
+            first <= month && month_has_begun(month, z) && may_be_tested(product, month)
+        })
     }
 
     /// What failed, now and then one less or one more; at least one.

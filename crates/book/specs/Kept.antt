@@ -1,19 +1,18 @@
 -- Every call leaves a sound year sound.
-use Prim.Native.Nat.{ℕ, _+_, _*_, _≤_, _<_}
+use Prim.Native.Nat.{ℕ, _+_, _*_, _<_}
 use mathlib.Core.Bool.{Bool, true, false, not, _&&_, _||_, cond}
 use mathlib.Core.List.{List}
 use mathlib.Core.Path.{_≡_, refl, ap, subst, _∙_}
 use native.Mathlib.Omega.{arith}
 use lib.Dec.{eqb}
-use lib.ListN.{getD}
 use borrow.Author.Tests.{eqb-true}
 use Rattle.ids.specs.Tests.{and-parts, all-at}
 use Rattle.layouts.specs.Questions.{firstFailed, numbersOf, row}
 use Rattle.year.specs.declared.Listing.{Listing}
 use Rattle.year.specs.declared.Terms.{Terms}
 use Rattle.year.specs.declared.Year.{Year}
-use Rattle.year.specs.Year.{clearingsOf, pastTest, testPlace, listed, known, zone, product, size}
-use Rattle.year.specs.Sound.{SoundRegistration, SoundListing, SoundEvent, SoundTest, SoundTerms, Factors, Sound}
+use Rattle.year.specs.Year.{testPlace, listed, known, zone, product, size}
+use Rattle.year.specs.Sound.{SoundListing, SoundTerms, Sound}
 use Rattle.year.specs.Limits.{clearings-sound, size-is}
 use Rattle.year.specs.Kept.{sound-opening, sound-registration, sound-lse, sound-clearing, sound-event, sound-test, sound-retest, sound-close}
 use Rattle.heads.specs.declared.Head.{Head}
@@ -21,28 +20,17 @@ use Rattle.heads.specs.declared.Head.the-variants.{Opening, Registration, Lse, 
 use Rattle.heads.specs.Record.{Record, recordOf}
 use Rattle.heads.specs.RecordLaws.{record-row}
 use Rattle.heads.specs.Listed.{sound-listed}
-use Rattle.heads.specs.Within.{ClearingWithin, Within}
+use Rattle.heads.specs.Within.{Within}
 use Rattle.owed_laws.specs.Limits.{limits}
 use Rattle.owed_laws.specs.Totals.{sound-amounts}
 use Rattle.entries.specs.Entries.{inGroup, everyListed}
-use Rattle.recorded.specs.After.{registrationOf, eventOf, testOf, yearBy, yearWith}
-use Rattle.questions.specs.Questions.{inTime, q7, questions}
+use Rattle.recorded.specs.After.{yearBy, yearWith}
+use Rattle.questions.specs.Questions.{monthBegun, q7, questions}
 use Rattle.questions.specs.Admitted.{Admitted, admitted, not-started, event-held, test-group, test-free, retest-started, clearings-few, not-finished, next-month}
+use Rattle.accepting.specs.Suits.{Suits}
 use Rattle.book.specs.Outcome.{recordIn, postNumber, yearAfter}
 use Rattle.book.specs.Numbers.{all-passed}
 use Rattle.book.specs.Made.{within, permits}
-
--- what an accepted record makes is sound in the year
-unfoldable pub Suits : Year → Listing → Head → Type 0
-Suits y l (Opening o) = Factors (o .leap) (o .factor) (o .requirement)
-Suits y l (Registration r) = (y .started ≡ false) × (r .id < 64) × SoundRegistration (registrationOf r)
-Suits y l (Lse j) = (j .id < 16) × (j .obligation ≤ 1000000)
-Suits y l (Event e) = (y .held < 16) × SoundEvent (eventOf e l)
-Suits y l (Test t) =
-    (testPlace (t .zone) (t .product) < 24) × (getD (y .tests) (testPlace (t .zone) (t .product)) pastTest .taken ≡ false) × SoundTest (y .terms) (testPlace (t .zone) (t .product)) (testOf t l)
-Suits y l (Close c) = (y .closed < 15) × (c .month ≡ y .closed + 1)
-Suits y l (Clearing c) = ClearingWithin c × (clearingsOf y (c .registration) .count < 4)
-Suits y l (Retest t) = (y .started ≡ true) × SoundListing l
 
 -- the listed registrations of a test are of its place
 own-place : {T : Terms} → SoundTerms T → (l : Listing) (z p : ℕ) → everyListed T l (inGroup T z p) ≡ true
@@ -55,7 +43,7 @@ own-place {T} s l z p e i m t =
     omega (arith, eqb-true (zone T i) z (both .0), eqb-true (product T i) p (both .1))
 
 module _ {y : Year} (s : Sound y) where
-  pub suits : {l : Listing} → SoundListing l → {room : ℕ} (h : Head) → Within h → Admitted inTime y (record { head = h; listing = l }) room → Suits y l h
+  pub suits : {l : Listing} → SoundListing l → {room : ℕ} (h : Head) → Within h → Admitted monthBegun y (record { head = h; listing = l }) room → Suits y l h
   unfolding Suits Within q7
   suits sl (Opening o) w a = w
   suits sl (Registration r) w a =
@@ -91,5 +79,5 @@ module _ {y : Year} (s : Sound y) where
           let named : r ≡ recordIn bytes = record-row (numbersOf bytes) in
           subst (λ (q : Record). Sound (yearWith y q)) named
           (sound-by (r .listing) (r .head)
-          (suits (sound-listed (permits bytes (all .0))) (r .head) (within bytes (all .0)) (admitted inTime y r room (ap (λ (q : Record). firstFailed (questions inTime y q room)) named ∙ all .1))))
+          (suits (sound-listed (permits bytes (all .0))) (r .head) (within bytes (all .0)) (admitted monthBegun y r room (ap (λ (q : Record). firstFailed (questions monthBegun y q room)) named ∙ all .1))))
       go false e = s

@@ -8,12 +8,12 @@ use borrow.Author.Tests.{eqb-true, eqb-false}
 use Rattle.layouts.specs.Questions.{firstFailed, recordNumber}
 use Rattle.records.specs.Accepted.{Accepted, accepted, number-first, number-later, number-none}
 use Rattle.year.specs.declared.Year.{Year}
-use Rattle.questions.specs.Questions.{inTime, questions}
-use Rattle.book.specs.Outcome.{recordIn, postNumber}
+use Rattle.questions.specs.Questions.{monthBegun, questions}
+use Rattle.book.specs.Outcome.{recordIn, numberUnder, postNumber}
 
 module _ (y : Year) (bytes : List ℕ) (room : ℕ) where
   abbrev laterNumber : ℕ
-  laterNumber = firstFailed (questions inTime y (recordIn bytes) room)
+  laterNumber = firstFailed (questions monthBegun y (recordIn bytes) room)
 
   pub record-refused : (recordNumber bytes ≡ 0 → ⊥) → postNumber y bytes room ≡ recordNumber bytes
   unfolding postNumber
@@ -30,14 +30,19 @@ module _ (y : Year) (bytes : List ℕ) (room : ℕ) where
       let n = number-none bytes _ e in
       (accepted bytes (n .0), n .1)
 
--- the number is the same where questions 1 to 5 answer alike and the later ones too
-pub same-post : (y z : Year) (xs ys : List ℕ) (m n : ℕ) → recordNumber xs ≡ recordNumber ys → laterNumber y xs m ≡ laterNumber z ys n → postNumber y xs m ≡ postNumber z ys n
-same-post y z xs ys m n e later = go (eqb (recordNumber ys) 0) refl
+-- the number is the same, by whatever time rules, where questions 1 to 5 answer alike and, if none of these fails, the later ones too
+pub same-number : (rule other : ℕ → ℕ → Bool) (y z : Year) (xs ys : List ℕ) (m n : ℕ) → recordNumber xs ≡ recordNumber ys
+    → (recordNumber ys ≡ 0 → firstFailed (questions rule y (recordIn xs) m) ≡ firstFailed (questions other z (recordIn ys) n)) → numberUnder rule y xs m ≡ numberUnder other z ys n
+same-number rule other y z xs ys m n e later = go (eqb (recordNumber ys) 0) refl
   where
-    go : (b : Bool) → eqb (recordNumber ys) 0 ≡ b → postNumber y xs m ≡ postNumber z ys n
+    go : (b : Bool) → eqb (recordNumber ys) 0 ≡ b → numberUnder rule y xs m ≡ numberUnder other z ys n
     go true q =
         let zero = eqb-true (recordNumber ys) 0 q in
-        record-accepted y xs m (e ∙ zero) ∙ later ∙ sym (record-accepted z ys n zero)
+        number-later xs _ (e ∙ zero) ∙ later zero ∙ sym (number-later ys _ zero)
     go false q =
         let some = eqb-false (recordNumber ys) 0 q in
-        record-refused y xs m (λ w. some (sym e ∙ w)) ∙ e ∙ sym (record-refused z ys n some)
+        number-first xs _ (λ w. some (sym e ∙ w)) ∙ e ∙ sym (number-first ys _ some)
+
+pub same-post : (y z : Year) (xs ys : List ℕ) (m n : ℕ) → recordNumber xs ≡ recordNumber ys → laterNumber y xs m ≡ laterNumber z ys n → postNumber y xs m ≡ postNumber z ys n
+unfolding postNumber
+same-post y z xs ys m n e later = same-number monthBegun monthBegun y z xs ys m n e (λ _. later)

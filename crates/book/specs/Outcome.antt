@@ -1,47 +1,41 @@
 -- The outcome of a call that takes a record: number, bytes consumed, year after, and buffer after.
 use Prim.Native.Nat.{ℕ}
-use mathlib.Core.Bool.{cond}
+use mathlib.Core.Bool.{Bool, cond}
 use mathlib.Core.List.{List, _++_}
 use mathlib.Core.Path.{_≡_}
-use lib.ListN.{length, drop}
+use lib.ListN.{length}
 use lib.Dec.{eqb}
 use Rattle.layouts.specs.Questions.{firstFailed, numbersOf, recordQuestions, consumed}
 use Rattle.year.specs.declared.Year.{Year}
-use Rattle.owed.specs.Facts.{factsOf}
-use Rattle.owed.specs.Owed.{amounts}
-use Rattle.statement.specs.Statement.{statementOf}
-use Rattle.heads.specs.Record.{Record, recordOf, isClose, monthOf}
+use Rattle.heads.specs.Record.{Record, recordOf}
 use Rattle.recorded.specs.After.{yearWith}
-use Rattle.questions.specs.Questions.{inTime, questions}
+use Rattle.questions.specs.Questions.{monthBegun, questions}
+use Rattle.accepting.specs.Leaves.{bufferWith, writtenWith}
 
 -- the record that the bytes hold
 abbrev pub recordIn : List ℕ → Record
 recordIn bytes = recordOf (numbersOf bytes)
 
--- the number of the first question that fails, 0 where none does
+-- the number of the first question that fails, 0 where none does: by a time rule for events, and by the one in force
+abbrev pub numberUnder : (ℕ → ℕ → Bool) → Year → List ℕ → ℕ → ℕ
+numberUnder rule y bytes room = firstFailed (recordQuestions bytes ++ questions rule y (recordIn bytes) room)
+
 unfoldable pub postNumber : Year → List ℕ → ℕ → ℕ
-postNumber y bytes room = firstFailed (recordQuestions bytes ++ questions inTime y (recordIn bytes) room)
+postNumber y bytes room = numberUnder monthBegun y bytes room
 
--- the statement of a close
-abbrev pub closing : Year → ℕ → List ℕ
-closing y month = statementOf (y .terms) month (amounts (factsOf y) month) (y .billed)
+-- what a call with this number leaves: a refusal changes neither year nor buffer
+abbrev pub yearLeft : ℕ → Year → List ℕ → Year
+yearLeft number y bytes = cond (eqb number 0) (yearWith y (recordIn bytes)) y
 
--- what an accepted record leaves in the buffer: a close its statement, with the rest as it was; and the statement's bytes
-unfoldable pub bufferWith : Year → Record → List ℕ → List ℕ
-bufferWith y r buffer =
-    let s = closing y (monthOf (r .head)) in
-    cond (isClose (r .head)) (s ++ drop (length s) buffer) buffer
+abbrev pub bufferLeft : ℕ → Year → List ℕ → List ℕ → List ℕ
+bufferLeft number y bytes buffer = cond (eqb number 0) (bufferWith y (recordIn bytes) buffer) buffer
 
-unfoldable pub writtenWith : Year → Record → ℕ
-writtenWith y r = cond (isClose (r .head)) (length (closing y (monthOf (r .head)))) 0
-
--- a refusal changes neither, and writes nothing
+-- what a call leaves, with the number that it has; a refusal writes nothing
 unfoldable pub yearAfter : Year → List ℕ → ℕ → Year
-yearAfter y bytes room = cond (eqb (postNumber y bytes room) 0) (yearWith y (recordIn bytes)) y
+yearAfter y bytes room = yearLeft (postNumber y bytes room) y bytes
 
 unfoldable pub bufferAfter : Year → List ℕ → List ℕ → List ℕ
-bufferAfter y bytes buffer =
-    cond (eqb (postNumber y bytes (length buffer)) 0) (bufferWith y (recordIn bytes) buffer) buffer
+bufferAfter y bytes buffer = bufferLeft (postNumber y bytes (length buffer)) y bytes buffer
 
 unfoldable pub writtenAfter : Year → List ℕ → ℕ → ℕ
 writtenAfter y bytes room = cond (eqb (postNumber y bytes room) 0) (writtenWith y (recordIn bytes)) 0

@@ -8,7 +8,8 @@ use Rattle.ids.specs.Tests.{cond-true, cond-false}
 use Rattle.layouts.specs.Questions.{consumed}
 use Rattle.year.specs.declared.Year.{Year}
 use Rattle.recorded.specs.After.{yearWith}
-use Rattle.book.specs.Outcome.{recordIn, postNumber, bufferWith, writtenWith, yearAfter, bufferAfter, writtenAfter, Posts}
+use Rattle.accepting.specs.Leaves.{bufferWith, writtenWith}
+use Rattle.book.specs.Outcome.{recordIn, postNumber, yearAfter, bufferAfter, writtenAfter, Posts}
 
 module _ (y : Year) (bytes before : List ℕ) where
   -- neither the year nor the buffer is changed

@@ -1,7 +1,7 @@
 // The questions put to what calls registrations up: an event, a test.
 ghost use mathlib.Core.Path.{_≡_};
 ghost use mathlib.Core.Bool.{_&&_};
-ghost use Prim.Native.Nat.{ℕ, _+_, _≤_, max};
+ghost use Prim.Native.Nat.{ℕ};
 ghost use lib.ListN.{length};
 ghost use Rattle.ids.specs.Ids.{at};
 ghost use Rattle.layouts.specs.Questions.{firstFailed};
@@ -10,7 +10,7 @@ ghost use Rattle.calendar.specs.Calendar.{callable};
 ghost use Rattle.cells.specs.Layout.{listingAt, yearIn, Held};
 ghost use Rattle.heads.specs.Within.{GroupWithin};
 ghost use Rattle.entries.specs.Entries.{everyListed};
-ghost use Rattle.questions.specs.Questions.{inTime, questions};
+ghost use Rattle.questions.specs.Questions.{monthBegun, questions};
 use cells::Cells;
 use entries::Condition;
 use entries::Selection;
@@ -21,42 +21,24 @@ use listings::entries_pass;
 use listings::every_listed;
 use listings::lists_exactly;
 use questions::may_test;
+use questions::month_begun;
 use questions::open_number;
-
-// The first month with which events of a month are no longer taken.
-fn event_end(month: u64) -> u64
-    requires { ⌜ month ≤ 12 ⌝ }
-    ensures { λ r. ⌜ r ≡ max 5 (month + 3) ⌝ }
-{
-    if month < 2 { 5 } else { month + 3 }
-}
-
-// May an event of the month be taken?
-fn in_time(closed: u64, month: u64) -> bool
-    requires { ⌜ closed ≤ 15 ⌝ }
-    requires { ⌜ month ≤ 12 ⌝ }
-    ensures { λ r. ⌜ r ≡ inTime closed month ⌝ }
-{
-    month <= closed + 1 && closed < event_end(month)
-}
 
 // Question 11 of an event.
 fn may_call(year: &Cells, e: EventHead, listing: &[u64]) -> bool
     requires { ⌜ Held (now year) ⌝ }
-    requires { ⌜ e .month ≤ 12 ⌝ }
     requires { ⌜ length (now listing) ≡ 144 ⌝ }
-    ensures { λ r. ⌜ r ≡ (let y = yearIn (now (year .entry)) in inTime (y .closed) (e .month) && everyListed (y .terms) (listingAt (at (now (listing .entry)))) (λ i. callable (product (y .terms) i) (e .month) (e .period))) ⌝ }
+    ensures { λ r. ⌜ r ≡ (let y = yearIn (now (year .entry)) in monthBegun (y .closed) (e .month) && everyListed (y .terms) (listingAt (at (now (listing .entry)))) (λ i. callable (product (y .terms) i) (e .month) (e .period))) ⌝ }
 {
-    in_time(cells::closed(year), e.month)
+    month_begun(year, e.month)
         && every_listed(year, listing, Condition::Callable(e.month, e.period))
 }
 
 // Of an event.
 pub fn event_number(year: &Cells, e: EventHead, listing: &[u64]) -> u64
     requires { ⌜ Held (now year) ⌝ }
-    requires { ⌜ e .month ≤ 12 ⌝ }
     requires { ⌜ length (now listing) ≡ 144 ⌝ }
-    ensures { λ n. ⌜ ((room : ℕ) → n ≡ firstFailed (questions inTime (yearIn (now (year .entry))) (record { head = Head.Event e; listing = listingAt (at (now (listing .entry))) }) room)) ⌝ }
+    ensures { λ n. ⌜ ((room : ℕ) → n ≡ firstFailed (questions monthBegun (yearIn (now (year .entry))) (record { head = Head.Event e; listing = listingAt (at (now (listing .entry))) }) room)) ⌝ }
 {
     let first = open_number(year);
     if first != 0 {
@@ -76,7 +58,7 @@ pub fn test_number(year: &Cells, t: TestHead, listing: &[u64]) -> u64
     requires { ⌜ Held (now year) ⌝ }
     requires { ⌜ GroupWithin (t .zone) (t .product) ⌝ }
     requires { ⌜ length (now listing) ≡ 144 ⌝ }
-    ensures { λ n. ⌜ ((room : ℕ) → n ≡ firstFailed (questions inTime (yearIn (now (year .entry))) (record { head = Head.Test t; listing = listingAt (at (now (listing .entry))) }) room)) ⌝ }
+    ensures { λ n. ⌜ ((room : ℕ) → n ≡ firstFailed (questions monthBegun (yearIn (now (year .entry))) (record { head = Head.Test t; listing = listingAt (at (now (listing .entry))) }) room)) ⌝ }
 {
     let first = open_number(year);
     if first != 0 {

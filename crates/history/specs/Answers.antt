@@ -10,7 +10,7 @@ use Rattle.year.specs.Year.{newYear}
 use Rattle.heads.specs.Record.{Record}
 use Rattle.recorded.specs.Recorded.{recorded}
 use Rattle.recorded.specs.Booked.{booked, facts-booked}
-use Rattle.questions.specs.Questions.{inTime, q6, q7, q8, q9, q10, q17, q11, q20, q21, q12, q13, q14, q15, questions}
+use Rattle.questions.specs.Questions.{monthBegun, q6, q7, q8, q9, q10, q17, q11, q20, q21, q12, q13, q14, q15, questions}
 use Rattle.book.specs.Outcome.{recordIn, postNumber}
 use Rattle.history.specs.Runs.{Call, Answered, acceptedIn}
 use Rattle.history.specs.Taking.{shown, step, answered, answers, run}
@@ -40,7 +40,7 @@ split y (c ∷ cs) (b ∷ bs) x after e =
     record { earlier = c ∷ s .earlier; own = s .own; before-is = cc (s .before-is); own-is = s .own-is }
 
 -- no question reads what is billed, or the places behind the events
-same-questions : (rs : List Record) (r : Record) (room : ℕ) → questions inTime (booked rs) r room ≡ questions inTime (recorded rs) r room
+same-questions : (rs : List Record) (r : Record) (room : ℕ) → questions monthBegun (booked rs) r room ≡ questions monthBegun (recorded rs) r room
 unfolding questions q6 q7 q8 q9 q10 q17 q11 q20 q21 q12 q13 q14 q15 booked
 same-questions rs r room = rw (facts-booked rs)
 

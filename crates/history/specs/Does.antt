@@ -25,7 +25,7 @@ use Rattle.heads.specs.declared.Head.{Head}
 use Rattle.heads.specs.declared.Head.the-variants as head
 use Rattle.heads.specs.Record.{isClose}
 use Rattle.recorded.specs.After.{registrationOf, yearBy}
-use Rattle.questions.specs.Questions.{inTime, q6, q7, q8, q10}
+use Rattle.questions.specs.Questions.{monthBegun, q6, q7, q8, q10}
 use Rattle.entries.specs.Entries.{inArea, inGroup, everyListed, deficitsListed}
 use Rattle.questions.specs.Admitted.{Admitted, not-started, test-group}
 
@@ -39,7 +39,7 @@ pub record Sets (h : Head) : Type 0 where
   pub new : Terms → Terms
   pub clearings : List Clearings → List Clearings
   pub is : (y : Year) (l : Listing) → yearBy y l h ≡ withTerms y (opened (y .opened)) (new (y .terms)) (clearings (y .clearings))
-  pub fresh : {y : Year} {l : Listing} {room : ℕ} → (y .started ≡ true → y .opened ≡ true) → Admitted inTime y (record { head = h; listing = l }) room → y .started ≡ false
+  pub fresh : {y : Year} {l : Listing} {room : ℕ} → (y .started ≡ true → y .opened ≡ true) → Admitted monthBegun y (record { head = h; listing = l }) room → y .started ≡ false
   pub other : isClose h ≡ false
 
 -- the others add an event, a test, a close or a retest
@@ -72,7 +72,7 @@ is-open y e = and-parts (y .opened) (ltb (y .closed) 15) e .0
 
 module _ {y : Year} {l : Listing} {room : ℕ} where
   -- the terms change before the first event, test or close alone: a year that is not opened is not begun
-  unopened : {o : OpeningHead} → (y .started ≡ true → y .opened ≡ true) → Admitted inTime y (record { head = head.Opening o; listing = l }) room → y .started ≡ false
+  unopened : {o : OpeningHead} → (y .started ≡ true → y .opened ≡ true) → Admitted monthBegun y (record { head = head.Opening o; listing = l }) room → y .started ≡ false
   unfolding q6
   unopened b a = go (y .started) b (not-true (y .opened) (a .six))
     where
@@ -81,7 +81,7 @@ module _ {y : Year} {l : Listing} {room : ℕ} where
       go true h q = absurd (let z : _≡_ {A = ℕ} 0 1 = cc (h refl) in omega arith)
 
   -- an event, a test and a close are of a year that is opened; what they list is known, and a close has an LSE to credit
-  module _ {e : EventHead} (a : Admitted inTime y (record { head = head.Event e; listing = l }) room) where
+  module _ {e : EventHead} (a : Admitted monthBegun y (record { head = head.Event e; listing = l }) room) where
     pub event-open : y .opened ≡ true
     unfolding q6
     event-open = is-open y (a .six)
@@ -92,7 +92,7 @@ module _ {y : Year} {l : Listing} {room : ℕ} where
         every-known (y .terms) l (inArea (y .terms) (e .area)) (in-area-known (y .terms) (e .area))
         (and-parts (everyListed (y .terms) l (inArea (y .terms) (e .area))) (deficitsListed (y .terms) l) (a .ten) .0)
 
-  module _ {t : TestHead} (a : Admitted inTime y (record { head = head.Test t; listing = l }) room) where
+  module _ {t : TestHead} (a : Admitted monthBegun y (record { head = head.Test t; listing = l }) room) where
     pub test-open : y .opened ≡ true
     unfolding q6
     test-open = is-open y (a .six)
@@ -101,7 +101,7 @@ module _ {y : Year} {l : Listing} {room : ℕ} where
     test-knows =
         every-known (y .terms) l (inGroup (y .terms) (t .zone) (t .product)) (in-group-known (y .terms) (t .zone) (t .product)) (test-group a)
 
-  module _ {c : CloseHead} (a : Admitted inTime y (record { head = head.Close c; listing = l }) room) where
+  module _ {c : CloseHead} (a : Admitted monthBegun y (record { head = head.Close c; listing = l }) room) where
     pub close-open : y .opened ≡ true
     unfolding q6
     close-open = is-open y (a .six)

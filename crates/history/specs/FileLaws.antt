@@ -22,7 +22,7 @@ use Rattle.statement.specs.Sizes.{bits-counted, statement-length}
 use Rattle.statement.specs.ReadBack.{sellersIn, lsesIn}
 use Rattle.statement.specs.Starts.{starts}
 use Rattle.heads.specs.Record.{Record, monthOf}
-use Rattle.questions.specs.Questions.{inTime, questions}
+use Rattle.questions.specs.Questions.{monthBegun, questions}
 use Rattle.recorded.specs.After.{yearWith}
 use Rattle.recorded.specs.Recorded.{gather, alone}
 use Rattle.book.specs.Outcome.{recordIn, postNumber, yearAfter, bufferAfter}
@@ -71,7 +71,7 @@ ends-post y bytes room = go (eqb (recordNumber bytes) 0) refl
     go : (b : Bool) → eqb (recordNumber bytes) 0 ≡ b → ends (postNumber y bytes room) ≡ ends (recordNumber bytes)
     go true q =
         let zero = eqb-true (recordNumber bytes) 0 q in
-        rw (record-accepted y bytes room zero, zero) (later (questions inTime y (recordIn bytes) room) refl)
+        rw (record-accepted y bytes room zero, zero) (later (questions monthBegun y (recordIn bytes) room) refl)
     go false q = rw (record-refused y bytes room (eqb-false (recordNumber bytes) 0 q))
 
 -- the statement of an accepted close stands in the front of its buffer, and its counts say its length

@@ -19,7 +19,7 @@ use Rattle.heads.specs.RecordLaws.{is-retest}
 use Rattle.recorded.specs.After.{yearBy, yearWith}
 use Rattle.recorded.specs.Recorded.{gather, alone, termsIn, recorded}
 use Rattle.recorded.specs.Booked.{booked, booked-new}
-use Rattle.questions.specs.Questions.{inTime}
+use Rattle.questions.specs.Questions.{monthBegun}
 use Rattle.questions.specs.Admitted.{Admitted, event-held}
 use Rattle.questions.specs.Blind.{records-blind}
 use Rattle.book.specs.Outcome.{recordIn}
@@ -47,7 +47,7 @@ record Related (s : ℕ) (y z : Year) : Type 0 where
 
 module _ {s : ℕ} {y z : Year} (h : Related s y z) where
   -- accepted records that are alike
-  same-record : {l m : Listing} {room : ℕ} {k : Head} → Does k → Admitted inTime y (record { head = k; listing = l }) room → SameListing (y .terms) s l m → Same s (yearBy y l k) (yearBy z m k)
+  same-record : {l m : Listing} {room : ℕ} {k : Head} → Does k → Admitted monthBegun y (record { head = k; listing = l }) room → SameListing (y .terms) s l m → Same s (yearBy y l k) (yearBy z m k)
   unfolding yearBy
   same-record {l} {m} (terms x) = λ a q.
       rw (x .is y l, x .is z m, ← (h .same .terms), ← (h .same .clearings), ← (h .same .opened)) (same-terms (h .same) (h .left .sound) (h .right .sound) (x .fresh (h .left .begun) a) _ _ _)
@@ -61,8 +61,8 @@ module _ {s : ℕ} {y z : Year} (h : Related s y z) where
     same-accepts : isOwnRetest s c ≡ false → accepts y c ≡ accepts z d
     unfolding isAccepted
     same-accepts o =
-        let records = records-blind inTime (length (c .buffer)) y (recordIn (c .bytes)) (recordIn (d .bytes)) (p .alike .heads) (p .alike .listings .listed) (p .alike .listings .deficits) in
-        let years = years-blind (h .same) inTime (length (d .buffer)) (recordIn (d .bytes)) (rw (p .alike .heads) at o) in
+        let records = records-blind monthBegun (length (c .buffer)) y (recordIn (c .bytes)) (recordIn (d .bytes)) (p .alike .heads) (p .alike .listings .listed) (p .alike .listings .deficits) in
+        let years = years-blind (h .same) monthBegun (length (d .buffer)) (recordIn (d .bytes)) (rw (p .alike .heads) at o) in
         ap (λ n. eqb n 0) (same-post y z (c .bytes) (d .bytes) (length (c .buffer)) (length (d .buffer)) (p .number) (ap firstFailed (records ∙ rw (p .room) years)))
 
     same-step : isOwnRetest s c ≡ false → Same s (step y c) (step z d)

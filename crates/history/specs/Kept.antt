@@ -21,7 +21,7 @@ use Rattle.year.specs.Limits.{each-anywhere, size-is, lses-is}
 use Rattle.owed.specs.Facts.{factsOf, registrations, places}
 use Rattle.owed_laws.specs.Parties.{Known}
 use Rattle.heads.specs.declared.Head.{Head}
-use Rattle.questions.specs.Questions.{inTime}
+use Rattle.questions.specs.Questions.{monthBegun}
 use Rattle.questions.specs.Admitted.{Admitted, event-held}
 use Rattle.recorded.specs.After.{eventOf, yearBy, yearWith}
 use Rattle.book.specs.Outcome.{recordIn, yearAfter}
@@ -72,7 +72,7 @@ accepted-sound S c e = rw e at (sound-after S (c .bytes) (length (c .buffer)))
 
 -- an accepted record keeps it
 module _ {y : Year} (k : Kept y) {l : Listing} {room : ℕ} where
-  kept-by : {h : Head} → Does h → Admitted inTime y (record { head = h; listing = l }) room → Sound (yearBy y l h) → Kept (yearBy y l h)
+  kept-by : {h : Head} → Does h → Admitted monthBegun y (record { head = h; listing = l }) room → Sound (yearBy y l h) → Kept (yearBy y l h)
   unfolding yearBy
   kept-by (terms x) = λ a s.
       let T = x .new (y .terms) in
@@ -124,7 +124,7 @@ module _ {y : Year} (k : Kept y) {l : Listing} {room : ℕ} where
       })
 
   -- once begun, the terms stay
-  frozen-by : {h : Head} → Does h → Admitted inTime y (record { head = h; listing = l }) room → y .started ≡ true
+  frozen-by : {h : Head} → Does h → Admitted monthBegun y (record { head = h; listing = l }) room → y .started ≡ true
       → (yearBy y l h .started ≡ true) × (yearBy y l h .terms ≡ y .terms)
   unfolding yearBy
   frozen-by (terms x) a b = never (x .fresh (k .begun) a) b

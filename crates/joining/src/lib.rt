@@ -7,7 +7,7 @@ ghost use Rattle.layouts.specs.Questions.{firstFailed};
 ghost use Rattle.year.specs.declared.Listing.{Listing};
 ghost use Rattle.cells.specs.Layout.{yearIn};
 ghost use Rattle.heads.specs.Within.{RegistrationWithin, LseWithin, ClearingWithin};
-ghost use Rattle.questions.specs.Questions.{inTime, questions};
+ghost use Rattle.questions.specs.Questions.{monthBegun, questions};
 use cells::Cells;
 use heads::ClearingHead;
 use heads::Head;
@@ -38,7 +38,7 @@ fn id_number(taken: bool) -> u64
 // Of a registration.
 pub fn registration_number(year: &Cells, r: RegistrationHead) -> u64
     requires { ⌜ RegistrationWithin r ⌝ }
-    ensures { λ n. ⌜ ((l : Listing) (room : ℕ) → n ≡ firstFailed (questions inTime (yearIn (now (year .entry))) (record { head = Head.Registration r; listing = l }) room)) ⌝ }
+    ensures { λ n. ⌜ ((l : Listing) (room : ℕ) → n ≡ firstFailed (questions monthBegun (yearIn (now (year .entry))) (record { head = Head.Registration r; listing = l }) room)) ⌝ }
 {
     let old = cells::registration_at(year, r.id as usize);
     let later = id_number(old.known);
@@ -48,7 +48,7 @@ pub fn registration_number(year: &Cells, r: RegistrationHead) -> u64
 // Of an LSE.
 pub fn lse_number(year: &Cells, j: LseHead) -> u64
     requires { ⌜ LseWithin j ⌝ }
-    ensures { λ n. ⌜ ((l : Listing) (room : ℕ) → n ≡ firstFailed (questions inTime (yearIn (now (year .entry))) (record { head = Head.Lse j; listing = l }) room)) ⌝ }
+    ensures { λ n. ⌜ ((l : Listing) (room : ℕ) → n ≡ firstFailed (questions monthBegun (yearIn (now (year .entry))) (record { head = Head.Lse j; listing = l }) room)) ⌝ }
 {
     let obligation = cells::obligation_of(year, j.id as usize);
     let later = id_number(obligation != 0);
@@ -68,7 +68,7 @@ fn first_failed(first: bool, number: u64, second: bool, other: u64) -> u64
 // Of a clearing.
 pub fn clearing_number(year: &Cells, c: ClearingHead) -> u64
     requires { ⌜ ClearingWithin c ⌝ }
-    ensures { λ n. ⌜ ((l : Listing) (room : ℕ) → n ≡ firstFailed (questions inTime (yearIn (now (year .entry))) (record { head = Head.Clearing c; listing = l }) room)) ⌝ }
+    ensures { λ n. ⌜ ((l : Listing) (room : ℕ) → n ≡ firstFailed (questions monthBegun (yearIn (now (year .entry))) (record { head = Head.Clearing c; listing = l }) room)) ⌝ }
 {
     let registration = cells::registration_at(year, c.registration as usize);
     let clearings = cells::clearings_at(year, c.registration as usize);

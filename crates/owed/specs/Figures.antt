@@ -1,4 +1,4 @@
--- Figures of the definitions: document 01's starred ones in one table, those of document 02's C-11 to C-13 and C-15, and more that were worked by hand.
+-- Figures of the definitions: document 01's starred ones in one table, those of document 02's C-11 to C-13, C-15 and C-16, and more that were worked by hand.
 use Prim.Native.Nat.{ℕ, _+_, _*_}
 use mathlib.Core.List.{List, [], _∷_}
 use mathlib.Core.Bool.{Bool, true, false, _&&_}
@@ -91,6 +91,11 @@ days-figure : (charge (yearA limited 1 (1 ∷ 1 ∷ 1 ∷ []) (true ∷ true ∷
     × (charge (yearA limited 1 (1 ∷ 1 ∷ 1 ∷ []) (true ∷ true ∷ []) 600) 4 0 0 ≡ 0)
 unfolding sumTo convert days due share beforeCap unforced own ofArea areaRate rate ofSeller shareOf calls shortfallOver u cap daily spent charge
 days-figure = (refl, refl)
+
+-- A's event at close 6, past its due month, whether it came before close 5 or after: 2,050,000 × 183 / 1,000 to date
+late-figure : charge A 6 0 0 ≡ 375150
+unfolding sumTo convert days due share beforeCap unforced own ofArea areaRate rate ofSeller shareOf calls shortfallOver u cap daily spent charge
+late-figure = refl
 
 -- A with both registrations seller 0's, which is short: registration 1 has no excess, though it gives 100 more
 abbrev bothOfOne : Facts

@@ -1,4 +1,4 @@
--- Questions 6 to 17, 20 and 21 (document 01, 'Questions at the counter'; document 02, C-11 and C-15), of a year and a record. A record that a question is not put to passes it.
+-- Questions 6 to 17, 20 and 21 (document 01, 'Questions at the counter'; document 02, C-11, C-15 and C-16), of a year and a record. A record that a question is not put to passes it.
 use Prim.Native.Nat.{ℕ, _+_, max}
 use mathlib.Core.Bool.{Bool, true, not, _&&_, _||_}
 use mathlib.Core.List.{List, [], _∷_}
@@ -18,13 +18,17 @@ use Rattle.heads.specs.declared.Head.{Head}
 use Rattle.heads.specs.Record.{Record, forOpening, forRegistration, forLse, forEvent, forTest, forClose, forClearing, forRetest}
 use Rattle.entries.specs.Entries.{inArea, inGroup, everyListed, deficitsListed, listsExactly}
 
--- may an event of month m be taken with z months closed: the time rule in force
+-- has month m begun with z months closed: the time rule for events that is in force (C-16)
+unfoldable pub monthBegun : ℕ → ℕ → Bool
+monthBegun z m = leb m (z + 1)
+
+-- document 01's time rule: events of a month were taken until its due month for Limited was closed
 unfoldable pub inTime : ℕ → ℕ → Bool
-inTime z m = leb m (z + 1) && ltb z (max 5 (m + 3))
+inTime z m = monthBegun z m && ltb z (max 5 (m + 3))
 
 -- may a product be tested in month m with z months closed
 abbrev pub mayTest : ℕ → ℕ → ℕ → Bool
-mayTest z product m = leb m (z + 1) && testable product m
+mayTest z product m = monthBegun z m && testable product m
 
 -- are there a registration and an LSE
 abbrev pub hasParties : Terms → Bool
@@ -69,7 +73,7 @@ module _ (y : Year) where
   unfoldable pub q17 : Head → Bool
   q17 = forClearing (λ c. ltb (clearingsOf y (c .registration) .count) 4) passed
 
-  -- is an event in time by the rule, a test's and a retest's month begun, and may each product be called or tested then? Where there was a test, is a retest's month not before its?
+  -- does an event's month pass the time rule, has a test's and a retest's begun, and may each product be called or tested then? Where there was a test, is a retest's month not before its?
   unfoldable pub q11 : (ℕ → ℕ → Bool) → Listing → Head → Bool
   q11 rule l =
       forEvent (λ e. rule (y .closed) (e .month) && everyListed T l (λ i. callable (product T i) (e .month) (e .period)))

@@ -1,11 +1,11 @@
-// The questions that records of several kinds are asked: 6 and 8, and a test's 11.
+// The questions that records of several kinds are asked: 6 and 8, and of 11 whether the month has begun, and a test's.
 ghost use mathlib.Core.Path.{_≡_};
 ghost use mathlib.Core.Bool.{_&&_};
 ghost use mathlib.Core.List.{[], _∷_};
 ghost use lib.Dec.{ltb};
 ghost use Rattle.layouts.specs.Questions.{firstFailed};
 ghost use Rattle.cells.specs.Layout.{yearIn, Held};
-ghost use Rattle.questions.specs.Questions.{mayTest, hasParties};
+ghost use Rattle.questions.specs.Questions.{monthBegun, mayTest, hasParties};
 use cells::Cells;
 use entries::Selection;
 use listings::any_lse;
@@ -37,10 +37,19 @@ pub fn open_number(year: &Cells) -> u64
     if has_parties(year) { 0 } else { 8 }
 }
 
+// Has the month begun? Question 11 of an event, a test and a retest.
+pub fn month_begun(year: &Cells, month: u64) -> bool
+    requires { ⌜ Held (now year) ⌝ }
+    ensures { λ r. ⌜ r ≡ monthBegun (yearIn (now (year .entry)) .closed) month ⌝ }
+{
+    let closed = cells::closed(year);
+    month <= closed + 1
+}
+
 // A test's question 11.
 pub fn may_test(year: &Cells, product: u64, month: u64) -> bool
     requires { ⌜ Held (now year) ⌝ }
     ensures { λ r. ⌜ r ≡ mayTest (yearIn (now (year .entry)) .closed) product month ⌝ }
 {
-    month <= cells::closed(year) + 1 && calendar::testable(product, month)
+    month_begun(year, month) && calendar::testable(product, month)
 }

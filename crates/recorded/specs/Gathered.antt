@@ -18,6 +18,11 @@ module _ {A : Type 0} where
   gather-more f [] x = append-nil (f x)
   gather-more f (y ∷ xs) x = rw (gather-more f xs x) (sym (append-assoc (f y) (gather f xs) (f x)))
 
+  pub gather-each : (xs : List A) → gather (λ x. x ∷ []) xs ≡ xs
+  unfolding gather
+  gather-each [] = refl
+  gather-each (x ∷ xs) = ap (λ l. x ∷ l) (gather-each xs)
+
   pub some-more : (xs : List A) (x : A) → ltb 0 (length (xs ++ x ∷ [])) ≡ true
   some-more xs x = lt-ltb 0 (length (xs ++ x ∷ [])) (omega (arith, length-append xs (x ∷ [])))
 

@@ -12,7 +12,7 @@ ghost use Rattle.owed.specs.Retests.{belowQuarter, testedKw, failedKw, hadRetes
 ghost use Rattle.cells.specs.Layout.{listingAt, yearIn, Held};
 ghost use Rattle.heads.specs.Within.{GroupWithin};
 ghost use Rattle.entries.specs.Entries.{inGroup, everyListed};
-ghost use Rattle.questions.specs.Questions.{inTime, mayTest, questions};
+ghost use Rattle.questions.specs.Questions.{monthBegun, mayTest, questions};
 use cells::Cells;
 use entries::Condition;
 use entries::Selection;
@@ -92,7 +92,7 @@ pub fn retest_number(year: &Cells, t: RetestHead, listing: &[u64]) -> u64
     requires { ⌜ Held (now year) ⌝ }
     requires { ⌜ GroupWithin (t .zone) (t .product) ⌝ }
     requires { ⌜ length (now listing) ≡ 144 ⌝ }
-    ensures { λ n. ⌜ ((room : ℕ) → n ≡ firstFailed (questions inTime (yearIn (now (year .entry))) (record { head = Head.Retest t; listing = listingAt (at (now (listing .entry))) }) room)) ⌝ }
+    ensures { λ n. ⌜ ((room : ℕ) → n ≡ firstFailed (questions monthBegun (yearIn (now (year .entry))) (record { head = Head.Retest t; listing = listingAt (at (now (listing .entry))) }) room)) ⌝ }
 {
     let first = open_number(year);
     if first != 0 {

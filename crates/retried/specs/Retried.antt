@@ -31,7 +31,7 @@ use Rattle.heads.specs.Record.{forRetest}
 use Rattle.heads.specs.RecordLaws.{retest-or-not}
 use Rattle.entries.specs.Entries.{listsExactly}
 use Rattle.recorded.specs.After.{testOf, yearBy}
-use Rattle.questions.specs.Questions.{inTime, q20, q21}
+use Rattle.questions.specs.Questions.{monthBegun, q20, q21}
 use Rattle.questions.specs.Admitted.{Admitted, test-free, retest-started}
 use Rattle.history.specs.Kept.{Kept, never}
 use Rattle.history.specs.Does.{Does, terms, event, test, close, retest}
@@ -102,7 +102,7 @@ blank S e i =
 
 module _ {y : Year} (k : Kept y) (b : InTest y) {l : Listing} {room : ℕ} where
   -- a test comes where none of its registrations is retested
-  module _ {t : TestHead} (a : Admitted inTime y (record { head = head.Test t; listing = l }) room) (S : Sound (yearBy y l (head.Test t))) where
+  module _ {t : TestHead} (a : Admitted monthBegun y (record { head = head.Test t; listing = l }) room) (S : Sound (yearBy y l (head.Test t))) where
     abbrev q : ℕ
     q = testPlace (t .zone) (t .product)
 
@@ -124,7 +124,7 @@ module _ {y : Year} (k : Kept y) (b : InTest y) {l : Listing} {room : ℕ} where
         go i m false e = and-false (entryOf (factsOf y) p s i) ∙ sym (and-false (entryOf (factsOf (yearBy y l (head.Test t))) p s i))
 
   -- a retest lists exactly the entries that failed, of which there are some
-  module _ {t : RetestHead} (a : Admitted inTime y (record { head = head.Retest t; listing = l }) room) where
+  module _ {t : RetestHead} (a : Admitted monthBegun y (record { head = head.Retest t; listing = l }) room) where
     abbrev r : ℕ
     r = testPlace (t .zone) (t .product)
 
@@ -227,7 +227,7 @@ module _ {y : Year} (k : Kept y) (b : InTest y) {l : Listing} {room : ℕ} where
             (rw (taken-is (f .0) (f .1), f .2, ← place, mine .0, eq-eqb (factsOf y .seller (f .0)) s (mine .1 ∙ seller)))
 
   -- what an accepted record makes of it
-  pub had-by : {h : Head} → Does h → Admitted inTime y (record { head = h; listing = l }) room → Sound (yearBy y l h)
+  pub had-by : {h : Head} → Does h → Admitted monthBegun y (record { head = h; listing = l }) room → Sound (yearBy y l h)
       → InTest (yearBy y l h) × ((p s : ℕ) → hadRetest (factsOf (yearBy y l h)) p s ≡ (hadRetest (factsOf y) p s || isRetestAt p s h))
   unfolding yearBy hadRetest entryOf
   had-by {h} (terms x) = λ a S.

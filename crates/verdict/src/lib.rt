@@ -6,7 +6,7 @@ ghost use Rattle.layouts.specs.Questions.{firstFailed};
 ghost use Rattle.year.specs.declared.Listing.{Listing};
 ghost use Rattle.cells.specs.Layout.{listingAt, yearIn, Held};
 ghost use Rattle.heads.specs.Within.{Within};
-ghost use Rattle.questions.specs.Questions.{inTime, questions};
+ghost use Rattle.questions.specs.Questions.{monthBegun, questions};
 use calling::event_number;
 use calling::test_number;
 use cells::Cells;
@@ -21,7 +21,7 @@ use retesting::retest_number;
 // Of a close.
 fn close_number(year: &Cells, c: CloseHead, room: usize) -> u64
     requires { ⌜ Held (now year) ⌝ }
-    ensures { λ n. ⌜ ((l : Listing) → n ≡ firstFailed (questions inTime (yearIn (now (year .entry))) (record { head = Head.Close c; listing = l }) room)) ⌝ }
+    ensures { λ n. ⌜ ((l : Listing) → n ≡ firstFailed (questions monthBegun (yearIn (now (year .entry))) (record { head = Head.Close c; listing = l }) room)) ⌝ }
 {
     let first = open_number(year);
     if first != 0 {
@@ -38,7 +38,7 @@ pub fn number_of(year: &Cells, head: Head, listing: &[u64], room: usize) -> u64
     requires { ⌜ Held (now year) ⌝ }
     requires { ⌜ Within head ⌝ }
     requires { ⌜ length (now listing) ≡ 144 ⌝ }
-    ensures { λ n. ⌜ n ≡ firstFailed (questions inTime (yearIn (now (year .entry))) (record { head = head; listing = listingAt (at (now (listing .entry))) }) room) ⌝ }
+    ensures { λ n. ⌜ n ≡ firstFailed (questions monthBegun (yearIn (now (year .entry))) (record { head = head; listing = listingAt (at (now (listing .entry))) }) room) ⌝ }
 {
     match head {
         Head::Opening(_) => { if cells::opened(year) { 6 } else { 0 } }

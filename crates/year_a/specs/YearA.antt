@@ -3,12 +3,12 @@ use Prim.Native.Nat.{ℕ}
 use Prim.Native.Char.{code}
 use Prim.Native.String.{String, [] as none, _∷_ as _then_}
 use mathlib.Core.List.{List, [], _∷_, _++_, map}
-use mathlib.Core.Bool.{true, cond}
-use mathlib.Core.Path.{_≡_, refl, ap}
+use mathlib.Core.Bool.{true, false, cond}
+use mathlib.Core.Path.{_≡_, refl, ap, sym, _∙_}
 use native.Mathlib.Omega.{arith}
 use lib.Dec.{lit≤}
 use lib.ListN.{replicate}
-use Rattle.ids.specs.Ids.{holds, sumTo, anyTo, allTo, tabulate}
+use Rattle.ids.specs.Ids.{at, holds, sumTo, anyTo, allTo, tabulate}
 use Rattle.units.specs.Units.{convert}
 use Rattle.calendar.specs.Calendar.{days, due, callable, testable}
 use Rattle.allotment.specs.Allot.{share}
@@ -24,11 +24,12 @@ use Rattle.owed.specs.Retests.{belowQuarter, entryOf, failed, testedKw, failedK
 use Rattle.statement.specs.Statement.{difference, hasRegistration, hasObligation, sellerColumns, lineFields, linesTo, statementFields, statementOf}
 use Rattle.statement.specs.Value42.{value42}
 use Rattle.heads.specs.Record.{headOf as namedHead, withItem, withItems, listingTo, listingIn}
-use Rattle.questions.specs.Questions.{inTime, q6, q7, q8, q9, q10, q17, q11, q20, q21, q12, q13, q14, q15, q16, questions}
+use Rattle.questions.specs.Questions.{monthBegun, inTime, q6, q7, q8, q9, q10, q17, q11, q20, q21, q12, q13, q14, q15, q16, questions}
 use Rattle.entries.specs.Entries.{inArea, inGroup, everyListed, deficitsListed, listsExactly}
 use Rattle.recorded.specs.After.{yearBy}
 use Rattle.recorded.specs.Recorded.{gather, lastOr, sumOver, summed, termsIn, clearingsIn, eventsIn, testsIn, retestsIn, recorded, factsIn}
-use Rattle.book.specs.Outcome.{postNumber, bufferWith, yearAfter, bufferAfter}
+use Rattle.accepting.specs.Leaves.{bufferWith}
+use Rattle.book.specs.Outcome.{postNumber, yearAfter, bufferAfter}
 use Rattle.text.specs.Lines.{digitsTo, decimal}
 use Rattle.file.specs.Walk.{recordsTo}
 use Rattle.reductions.specs.Reductions.{reducesIn, isReduction, withReductions}
@@ -39,6 +40,7 @@ use Rattle.history.specs.Along.{answers-more}
 use Rattle.history.specs.Itself.{chosen, variant-one}
 use Rattle.history.specs.Proof.{demand3}
 use Rattle.history.specs.Files.{callsOf, numbers}
+use Rattle.late.specs.Late.{noneLate, answersUnder}
 use Rattle.answer.specs.Answer.{answerText, textOf, calls as callsIn, billText}
 use Rattle.report.specs.Text.{cents, refusalLine, linesFrom, monthLine, partyLine, statementLines, answerLines}
 
@@ -104,7 +106,7 @@ withEvents = parties ++ ((0x61 ∷ 0x62 ∷ 0x63 ∷ 0x64 ∷ []) ++ (juneEvent 
 
 -- what the bill program prints of a file. What computes it is named here, once for all figures.
 bill : List ℕ → List ℕ
-unfolding sumTo anyTo allTo tabulate convert days due callable testable share bitAt number bitsOf spell byteOf bytesOf pack encode itemsIn times rulesTo rulesFor recordQuestions firstFailed kindOf headOf rulesOf numbersOf isKind isWhole permits permitted isFilled rises idsRise listed reduction deficit known seller area zone product committed fieldRate obligation beforeCap raised unforced own ofArea areaRate rate ofSeller shareOf called calls shortfallOver u cap daily spent charge excess e creditShare creditLimit creditOf result belowQuarter entryOf failed testedKw failedKw hadRetest B testOf compliance test credit charges credits lse amounts difference hasRegistration hasObligation sellerColumns lineFields linesTo statementFields statementOf value42 namedHead withItem withItems listingTo listingIn inArea inGroup everyListed deficitsListed listsExactly inTime q6 q7 q8 q9 q10 q17 q11 q20 q21 q12 q13 q14 q15 q16 questions postNumber yearBy bufferWith yearAfter bufferAfter digitsTo decimal cents refusalLine linesFrom monthLine partyLine statementLines answerLines bytes recordNumber consumed recordsTo isAccepted isClosing buffered step run answered gather lastOr sumOver summed termsIn clearingsIn eventsIn testsIn retestsIn recorded callsOf answerText textOf
+unfolding sumTo anyTo allTo tabulate convert days due callable testable share bitAt number bitsOf spell byteOf bytesOf pack encode itemsIn times rulesTo rulesFor recordQuestions firstFailed kindOf headOf rulesOf numbersOf isKind isWhole permits permitted isFilled rises idsRise listed reduction deficit known seller area zone product committed fieldRate obligation beforeCap raised unforced own ofArea areaRate rate ofSeller shareOf called calls shortfallOver u cap daily spent charge excess e creditShare creditLimit creditOf result belowQuarter entryOf failed testedKw failedKw hadRetest B testOf compliance test credit charges credits lse amounts difference hasRegistration hasObligation sellerColumns lineFields linesTo statementFields statementOf value42 namedHead withItem withItems listingTo listingIn inArea inGroup everyListed deficitsListed listsExactly monthBegun q6 q7 q8 q9 q10 q17 q11 q20 q21 q12 q13 q14 q15 q16 questions postNumber yearBy bufferWith yearAfter bufferAfter digitsTo decimal cents refusalLine linesFrom monthLine partyLine statementLines answerLines bytes recordNumber consumed recordsTo isAccepted isClosing buffered step run answered gather lastOr sumOver summed termsIn clearingsIn eventsIn testsIn retestsIn recorded callsOf answerText textOf
 bill file = billText file blank
 
 -- Year A: each record's number, the buffer that each is lent (as the one before left it; one record more shows what the last leaves), the
@@ -127,6 +129,32 @@ event-figures : bill withEvents
     ++ bytes "M 6\nS 0 -63551 0 0\nS 1 0 0 9000\nL 0 -54413\nL 1 -18138\n"
 unfolding bill
 event-figures = refl
+
+-- Year A's June event taken after close 5 (C-16; document 01 gives it 11 there): close 6 has the whole of its amount to date. 2,050,000 × 183 / 1,000 is 375,150; seller 1 is credited
+-- at most 100 × 15,000 / 5, 300,000 a day, × 183 / 1,000, 54,900; LSE 0 has three quarters of the other 320,250.
+abbrev withLate : List ℕ
+withLate = parties ++ ((0x61 ∷ 0x62 ∷ 0x63 ∷ 0x64 ∷ 0x65 ∷ []) ++ (juneEvent ++ (0x66 ∷ [])))
+
+late-figures : bill withLate
+    ≡ bytes "M 1\nS 0 0 0 0\nS 1 0 0 0\nL 0 0\nL 1 0\nM 2\nS 0 0 0 0\nS 1 0 0 0\nL 0 0\nL 1 0\nM 3\nS 0 0 0 0\nS 1 0 0 0\nL 0 0\nL 1 0\n"
+    ++ bytes "M 4\nS 0 0 0 0\nS 1 0 0 0\nL 0 0\nL 1 0\nM 5\nS 0 0 0 0\nS 1 0 0 0\nL 0 0\nL 1 0\n"
+    ++ bytes "M 6\nS 0 375150 0 0\nS 1 0 0 54900\nL 0 240187\nL 1 80063\n"
+unfolding bill
+late-figures = refl
+
+-- No event of the list before comes late, so it is answered as by document 01's question 11; here one does, and gets 11 by that.
+before-and-late : (noneLate [] (answers newYear (callsIn withEvents blank)) ≡ true) × (noneLate [] (answers newYear (callsIn withLate blank)) ≡ false)
+    × (numbers (answersUnder inTime newYear (callsIn withLate blank)) ≡ 0 ∷ 0 ∷ 0 ∷ 0 ∷ 0 ∷ 0 ∷ 0 ∷ 0 ∷ 0 ∷ 0 ∷ 11 ∷ 0 ∷ [])
+    × (numbers (answers newYear (callsIn withLate blank)) ≡ 0 ∷ 0 ∷ 0 ∷ 0 ∷ 0 ∷ 0 ∷ 0 ∷ 0 ∷ 0 ∷ 0 ∷ 0 ∷ 0 ∷ [])
+unfolding bill noneLate inTime
+before-and-late = (refl, refl, refl, refl)
+
+-- So that no event comes late cannot be left out.
+answered-otherwise : ((H : List Call) → answersUnder inTime newYear H ≡ answers newYear H) → ⊥
+answered-otherwise same =
+    let e = ap (λ xs. at (numbers xs) 10) (same (callsIn withLate blank)) in
+    let n : _≡_ {A = ℕ} 11 0 = sym (ap (λ ns. at ns 10) (before-and-late .2)) ∙ e ∙ ap (λ ns. at ns 10) (before-and-late .3) in
+    omega (arith, n)
 
 -- Clearings of registration 0, 1 kW at 100 and 3 kW at 201, make its rate 703 / 4, 175; one of registration 2, which is not known, is refused
 -- with 10. At close 1 the test costs 410 × (175 + 2,000) × 30 / 1,000, 26,752.

@@ -2,7 +2,9 @@
 
 use std::fmt::{self, Debug, Display, Formatter};
 
+use settlement::cases::late::comes_late;
 use settlement::exact::narrow;
+use settlement::layout::MOST_NUMBERS;
 use settlement::lines::to_hex;
 use settlement::telemetry::{self, Reduction, Sample};
 use settlement::{piermint, statement, Billed, Taken, Written, MOST_STATEMENTS};
@@ -40,6 +42,8 @@ pub struct Both {
     files: u64,
     /// Of the records billed with ample buffers.
     by_kind: [Seen; KINDS],
+    /// Of the events among them that came late.
+    late_events: Seen,
     bills: u64,
     of_bills: Seen,
     reads: Seen,
@@ -57,8 +61,12 @@ impl Both {
         let (mut rust, mut rattle) = (settlement::Book::new(), piermint::Book::new());
         let mut rest = file;
         while !rest.is_empty() {
+            let is_late = is_late_event(&rust, rest);
             let taken = take(&mut rust, &mut rattle, rest, statement::MOST_BYTES)?;
             self.by_kind[usize::from(rest[0] >> 4)].add(taken.number);
+            if is_late {
+                self.late_events.add(taken.number);
+            }
             rest = match taken.consumed {
                 0 => &[],
                 consumed => &rest[consumed..],
@@ -141,6 +149,14 @@ fn bill(file: &[u8], numbers: usize, statements: usize) -> Compared<(Billed, Vec
     Ok((billed, numbers[PAST..][..billed.records].to_vec()))
 }
 
+/// Is the record at the front an event that can be read and comes late?
+fn is_late_event(book: &settlement::Book, bytes: &[u8]) -> bool {
+    let mut numbers = [0; MOST_NUMBERS];
+    settlement::read(bytes, &mut numbers);
+    let z = book.year().map_or(0, |year| year.closed);
+    matches!(numbers, [4, _, month, ..] if comes_late(narrow(month), z))
+}
+
 /// Takes the record at the front with a book of each; one that is refused leaves the cells as they were.
 fn take(
     rust: &mut settlement::Book,
@@ -193,8 +209,10 @@ impl Display for Both {
         let [files, bills, records] = [self.files, self.bills, self.records()];
         let [reads, writes, samples] =
             [self.reads, self.writes, self.samples].map(|seen| seen.all());
+        let [late, accepted] = [self.late_events.all(), self.late_events.accepted()];
         let made = self.made;
         writeln!(f, "{files} files of {records} records, ample buffers")?;
+        writeln!(f, "{late} events came late, {accepted} of them accepted")?;
         writeln!(f, "{bills} bills with other buffers")?;
         writeln!(f, "{reads} reads, {writes} writes")?;
         writeln!(f, "{samples} samples, {made} records made from samples\n")?;

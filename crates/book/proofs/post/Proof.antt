@@ -13,17 +13,18 @@ use Rattle.heads.specs.Record.{Record}
 use Rattle.heads.specs.RecordLaws.{record-row}
 use Rattle.heads.specs.Listed.{sound-listed}
 use Rattle.heads.specs.Within.{Within}
-use Rattle.questions.specs.Questions.{inTime, questions}
+use Rattle.questions.specs.Questions.{monthBegun, questions}
 use Rattle.questions.specs.Admitted.{admitted}
 use Rattle.recorded.specs.After.{yearWith}
-use Rattle.book.specs.Outcome.{postNumber, bufferWith, writtenWith}
+use Rattle.accepting.specs.Leaves.{bufferWith, writtenWith}
+use Rattle.book.specs.Outcome.{postNumber}
 use Rattle.book.specs.Numbers.{record-refused, record-accepted}
 use Rattle.book.specs.Made.{values-long, within, permits}
 use Rattle.book.specs.Kept.{suits}
 use Rattle.book.specs.Posting.{refuses, accepts}
 use Rattle.book.proofs.post.Statement.{statement}
 use Rattle.book.proofs.post.Tie as tie
-use Rattle.book.proofs.take.Reads as take-reads
+use Rattle.accepting.proofs.take.Reads as take-reads
 use Rattle.heads.proofs.head_of.Reads as head-of-reads
 use Rattle.heads.proofs.spread.Reads as spread-reads
 use Rattle.verdict.proofs.number_of.Reads as number-of-reads
@@ -45,7 +46,7 @@ answered c =
     let a = c .before .before .before .before .before .before .before .before .before .before .before .before .before .before .before .args in
     let one = c .before .before .before .before .before .before .before .before in
     rw (c .before .before .before .before .before .before .head-of .ensures, c .before .before .before .spread .ensures .lists, rows one) at (c .number-of .ensures)
-    ∙ ap (λ (r : Record). firstFailed (questions inTime (yearIn (a .year .now)) r (length (a .buffer .now)))) (record-row (numbersOf (a .bytes .now)))
+    ∙ ap (λ (r : Record). firstFailed (questions monthBegun (yearIn (a .year .now)) r (length (a .buffer .now)))) (record-row (numbersOf (a .bytes .now)))
     ∙ sym (record-accepted (yearIn (a .year .now)) (a .bytes .now) (length (a .buffer .now)) (quiet one))
 
 returns : tie.Need-returns
@@ -87,7 +88,7 @@ take-requires c κs =
     let bytes = start .args .bytes .now in
     let a = accepted bytes (quiet one) in
     let l = listingAt (at (c .before .before .before .before .before .before .before .spread .last .1 .0)) in
-    let passes = admitted inTime (yearIn (start .args .year .now)) (record { head = named .result; listing = l }) (length (start .args .buffer .now)) (sym (c .before .before .before .before .number-of .ensures) ∙ c .before .before .before .if2 .left) in
+    let passes = admitted monthBegun (yearIn (start .args .year .now)) (record { head = named .result; listing = l }) (length (start .args .buffer .now)) (sym (c .before .before .before .before .number-of .ensures) ∙ c .before .before .before .if2 .left) in
     let limits : Within (named .result) = rw (named .ensures, rows one) (within bytes a) in
     let listing : SoundListing l = rw (spread .lists, rows one) (sound-listed (permits bytes a)) in
     (start .pre, (spread .long, (suits (start .pre .sound) listing (named .result) limits passes, passes .sixteen)))

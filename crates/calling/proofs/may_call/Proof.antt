@@ -4,22 +4,20 @@ use mathlib.Core.Path.{sym}
 use Rattle.year.specs.Year.{product}
 use Rattle.calling.proofs.may_call.Statement.{statement}
 use Rattle.calling.proofs.may_call.Tie as tie
-use Rattle.cells.proofs.closed.Reads as closed-reads
 use Rattle.listings.proofs.every_listed.Reads as every-listed-reads
-use Rattle.calling.proofs.in_time.Reads as in-time-reads
+use Rattle.questions.proofs.month_begun.Reads as month-begun-reads
 
 returns : tie.Need-returns
 unfolding product
-returns c = rw (sym (c .before .before .before .closed .ensures), sym (c .before .before .in-time .ensures), c .before .if1 .taken) (c .every-listed .ensures)
+returns c = rw (sym (c .before .before .month-begun .ensures), c .before .if1 .taken) (c .every-listed .ensures)
 
 returns-2 : tie.Need-returns-2
-returns-2 c = rw (sym (c .before .before .closed .ensures), sym (c .before .in-time .ensures), c .if1 .left)
+returns-2 c = rw (sym (c .before .month-begun .ensures), c .if1 .left)
 
 pub may-call-spec : {M : Type 1} → statement M
 may-call-spec =
     tie.close
     (tie.spec
-    (λ c κs. search needs)
     (λ c κs. search needs)
     (λ c κs. search needs)
     returns

@@ -6,7 +6,7 @@ use Rattle.layouts.specs.Questions.{firstFailed}
 use Rattle.ids.specs.Ids.{at}
 use Rattle.cells.specs.Layout.{listingAt, yearIn}
 use Rattle.heads.specs.declared.Head.the-variants.{Retest}
-use Rattle.questions.specs.Questions.{inTime, q6, q7, q8, q9, q10, q17, q11, q20, q21, q12, q13, q14, q15, q16, questions}
+use Rattle.questions.specs.Questions.{monthBegun, q6, q7, q8, q9, q10, q17, q11, q20, q21, q12, q13, q14, q15, q16, questions}
 use Rattle.questions.specs.Answers.{yes, no, both-pass, one-fails}
 use Rattle.retesting.proofs.retest_number.Statement.{statement}
 use Rattle.retesting.proofs.retest_number.Tie as tie
@@ -29,11 +29,11 @@ ten c = c .lists-own .ensures
 ten-passes : (c : tie.Else2) → let a = c .before .before .before .before .before .args in q10 (yearIn (a .year .now)) (listingAt (at (a .listing .now))) (Retest (a .t)) ≡ true
 ten-passes c = yes (ten (c .before)) (c .if2 .left)
 
-eleven : (c : tie.After-in-time) → let a = c .before .before .before .before .before .before .args in c .in-time .result ≡ q11 (yearIn (a .year .now)) inTime (listingAt (at (a .listing .now))) (Retest (a .t))
+eleven : (c : tie.After-in-time) → let a = c .before .before .before .before .before .before .args in c .in-time .result ≡ q11 (yearIn (a .year .now)) monthBegun (listingAt (at (a .listing .now))) (Retest (a .t))
 unfolding q11
 eleven c = c .in-time .ensures
 
-eleven-passes : (c : tie.Else3) → let a = c .before .before .before .before .before .before .before .args in q11 (yearIn (a .year .now)) inTime (listingAt (at (a .listing .now))) (Retest (a .t)) ≡ true
+eleven-passes : (c : tie.Else3) → let a = c .before .before .before .before .before .before .before .args in q11 (yearIn (a .year .now)) monthBegun (listingAt (at (a .listing .now))) (Retest (a .t)) ≡ true
 eleven-passes c = yes (eleven (c .before)) (c .if3 .left)
 
 twenty : (c : tie.After-may-retest) → let a = c .before .before .before .before .before .before .before .before .args in c .may-retest .result ≡ q20 (yearIn (a .year .now)) (Retest (a .t))

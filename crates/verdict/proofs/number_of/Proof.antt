@@ -10,7 +10,7 @@ use Rattle.year.specs.declared.Year.{Year}
 use Rattle.heads.specs.declared.OpeningHead.{OpeningHead}
 use Rattle.heads.specs.declared.Head.the-variants.{Opening}
 use Rattle.heads.specs.Within.{Within}
-use Rattle.questions.specs.Questions.{inTime, q6, q7, q8, q9, q10, q17, q11, q20, q21, q12, q13, q14, q15, q16, questions}
+use Rattle.questions.specs.Questions.{monthBegun, q6, q7, q8, q9, q10, q17, q11, q20, q21, q12, q13, q14, q15, q16, questions}
 use Rattle.verdict.proofs.number_of.Statement.{statement}
 use Rattle.verdict.proofs.number_of.Tie as tie
 use Rattle.cells.proofs.opened.Reads as opened-reads
@@ -30,12 +30,6 @@ lse-number-requires : tie.Need-lse-number-requires
 unfolding Within
 lse-number-requires c κs = rw (c .before .head2 .given .1) at (c .before .before .before .before .pre .1 .0)
 
-event-number-requires : tie.Need-event-number-requires
-unfolding Within
-event-number-requires c κs =
-    let start = c .before .before .before .before in
-    (start .pre .0, (rw (c .before .head3 .given .1) at (start .pre .1 .0), start .pre .1 .1))
-
 test-number-requires : tie.Need-test-number-requires
 unfolding Within
 test-number-requires c κs =
@@ -53,7 +47,7 @@ retest-number-requires c κs =
     (start .pre .0, (rw (c .before .head7 .given .1) at (start .pre .1 .0), start .pre .1 .1))
 
 -- an opening is asked 6 alone
-opening-number : (y : Year) (o : OpeningHead) (l : Listing) (room : ℕ) → cond (y .opened) 6 0 ≡ firstFailed (questions inTime y (record { head = Opening o; listing = l }) room)
+opening-number : (y : Year) (o : OpeningHead) (l : Listing) (room : ℕ) → cond (y .opened) 6 0 ≡ firstFailed (questions monthBegun y (record { head = Opening o; listing = l }) room)
 unfolding firstFailed questions q6 q7 q8 q9 q10 q17 q11 q20 q21 q12 q13 q14 q15 q16
 opening-number y o l room = go (y .opened)
   where
@@ -99,7 +93,7 @@ number-of-spec =
     (λ c. search needs)
     lse-number-requires
     (λ c. search needs)
-    event-number-requires
+    (λ c κs. search needs)
     (λ c. search needs)
     test-number-requires
     (λ c. search needs)

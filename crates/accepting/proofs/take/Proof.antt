@@ -1,15 +1,15 @@
--- `book::take` meets its contract, by kind. Assumes nothing.
+-- `accepting::take` meets its contract, by kind. Assumes nothing.
 use borrow.Author.Needs.{needs}
 use native.Mathlib.Omega.{arith}
 use borrow.Author.Tests.{leb-true}
 use Rattle.questions.specs.Questions.{q16}
 use Rattle.recorded.specs.After.{yearBy}
-use Rattle.book.specs.Outcome.{bufferWith, writtenWith}
-use Rattle.book.specs.Kept.{Suits}
-use Rattle.book.proofs.take.Statement.{statement}
-use Rattle.book.proofs.take.Tie as tie
-use Rattle.book.proofs.close.Reads as close-reads
-use Rattle.book.proofs.registration_of.Reads as registration-of-reads
+use Rattle.accepting.specs.Leaves.{bufferWith, writtenWith}
+use Rattle.accepting.specs.Suits.{Suits}
+use Rattle.accepting.proofs.take.Statement.{statement}
+use Rattle.accepting.proofs.take.Tie as tie
+use Rattle.accepting.proofs.close.Reads as close-reads
+use Rattle.accepting.proofs.registration_of.Reads as registration-of-reads
 use Rattle.steps.proofs.call.Reads as call-reads
 use Rattle.steps.proofs.clear.Reads as clear-reads
 use Rattle.steps.proofs.oblige.Reads as oblige-reads

@@ -1,4 +1,4 @@
--- `book::close` meets its contract: what is billed are the amounts to date. Assumes nothing.
+-- `accepting::close` meets its contract: what is billed are the amounts to date. Assumes nothing.
 use mathlib.Core.Path.{ap}
 use borrow.Author.Needs.{needs}
 use native.Mathlib.Omega.{arith}
@@ -6,8 +6,8 @@ use Rattle.year.specs.declared.Terms.{Terms}
 use Rattle.year.specs.Sound.{SoundTerms, SoundAmounts}
 use Rattle.owed_laws.specs.Limits.{limits}
 use Rattle.owed_laws.specs.Totals.{sound-amounts}
-use Rattle.book.proofs.close.Statement.{statement}
-use Rattle.book.proofs.close.Tie as tie
+use Rattle.accepting.proofs.close.Statement.{statement}
+use Rattle.accepting.proofs.close.Tie as tie
 use Rattle.settlement.proofs.amounts_of.Reads as amounts-of-reads
 use Rattle.snapshot.proofs.terms_of.Reads as terms-of-reads
 use Rattle.snapshot.proofs.billed_of.Reads as billed-of-reads

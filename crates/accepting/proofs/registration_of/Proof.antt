@@ -1,8 +1,8 @@
--- `registration_of` meets its contract.
+-- `accepting::registration_of` meets its contract.
 use mathlib.Core.Path.{sym}
 use borrow.Author.Needs.{needs}
-use Rattle.book.proofs.registration_of.Statement.{statement}
-use Rattle.book.proofs.registration_of.Tie as tie
+use Rattle.accepting.proofs.registration_of.Statement.{statement}
+use Rattle.accepting.proofs.registration_of.Tie as tie
 
 returns : tie.Need-returns
 returns c = rw (sym (c .new .ensures))

@@ -1,0 +1,3 @@
+-- What an accepted record leaves, and what it fulfils.
+pub mod Leaves
+pub mod Suits
