@@ -186,7 +186,7 @@ fn value_of(word: &[u8]) -> f32 {
     let mut bytes = [0u8; 4];
     scan::hex_bytes(word, &mut bytes);
     let pattern = Cursor::first().take(&bytes, 32);
-    telemetry::from_pattern(pattern.value as u32)
+    eighths::from_pattern(pattern.value as u32)
 }
 
 fn reduce(sample: Sample) {

@@ -4,7 +4,7 @@ ghost use Prim.Native.Nat.{_≤_};
 ghost use Rattle.cells.specs.Layout.{Held};
 ghost use Rattle.owed.specs.Owed.{amounts};
 ghost use Rattle.looks.specs.Looks.{facts};
-ghost use Rattle.rating.specs.Entering.{Begun};
+ghost use Rattle.lending.specs.Entering.{Begun};
 use cells::Cells;
 use snapshot::numbers_at;
 use table::Work;

@@ -90,8 +90,8 @@ pub extern "C" fn piermint_bill(
 pub extern "C" fn piermint_reduction(expected: u32, metered: u32, kw: &mut u64) -> u64
     ensures { λ r. ⌜ Answers (Pair (ofBits binary32 expected) (ofBits binary32 metered)) r (now (kw .exit)) ⌝ }
 {
-    let expected = telemetry::from_pattern(expected);
-    let metered = telemetry::from_pattern(metered);
+    let expected = eighths::from_pattern(expected);
+    let metered = eighths::from_pattern(metered);
     telemetry::answer(Sample::Pair(expected, metered), kw)
 }
 
@@ -100,5 +100,5 @@ pub extern "C" fn piermint_reduction(expected: u32, metered: u32, kw: &mut u64) 
 pub extern "C" fn piermint_direct_reduction(reduction: u32, kw: &mut u64) -> u64
     ensures { λ r. ⌜ Answers (Direct (ofBits binary32 reduction)) r (now (kw .exit)) ⌝ }
 {
-    telemetry::answer(Sample::Direct(telemetry::from_pattern(reduction)), kw)
+    telemetry::answer(Sample::Direct(eighths::from_pattern(reduction)), kw)
 }

@@ -1,3 +1,2 @@
--- Registrations in the working table: as they are entered, and with their rates in force.
-pub mod Entering
+-- The rates in force and the caps, in the working table.
 pub mod Rating

@@ -14,7 +14,7 @@ use Rattle.looks.specs.Looks.{facts}
 use Rattle.table.specs.Columns.{Columns}
 use Rattle.table.specs.Places.{size, sellerRow, productRow, committedRow, rateRow, capRow, callsRow, placeRow, areaRow, lentRow, worthRow, areaRateRow, freshPlaces}
 use Rattle.table.specs.Rows.{Stored, Aside, Row, Renewed, none, aside-none, aside-more, row-aside, row-same, renewed-first, renewed-kept, renewed-more, renewed-none}
-use Rattle.rating.specs.Entering.{ownCap, lentAt, worthAt, Entered, Lending, Begun}
+use Rattle.lending.specs.Entering.{ownCap, lentAt, worthAt, Entered, Lending, Begun}
 
 -- the average of what is lent in an area
 abbrev pub averageIn : List ℕ → ℕ → ℕ

@@ -15,7 +15,7 @@ use Rattle.reductions.specs.Reductions.{reducesIn, isReduction, withReductions}
 use Rattle.records.specs.Calls.{bytesBy}
 use Rattle.telemetry.specs.declared.Sample.{Sample}
 use Rattle.telemetry.specs.declared.Sample.the-variants.{Pair, Direct}
-use Rattle.telemetry.specs.Eighths.{counts, eighthsOf}
+use Rattle.eighths.specs.Eighths.{counts, eighthsOf}
 use Rattle.telemetry.specs.Reduction.{limited, reductionOf}
 use Rattle.sampled.specs.Sampled.{made}
 

@@ -16,7 +16,7 @@ pub fn settle(registrations: &[Registration], year: &Cells, k: u64) -> Amounts
     let mut work = [0u64; 1080];
     let mut i: usize = 0;
     while i < 64 {
-        rating::enter(year, &mut work, i, registrations[i]);
+        lending::enter(year, &mut work, i, registrations[i]);
         i += 1;
     }
     closing::close(year, &mut work, k)

@@ -1,8 +1,3 @@
--- When a value counts and what a sample is answered, with figures; laws of values in eighths and their exact difference.
-pub mod Eighths
+-- What a sample is answered, with figures, and laws of it.
 pub mod Reduction
-pub mod Values
-pub mod Compared
-pub mod Differences
-pub mod Casts
 pub mod Limits

@@ -8,9 +8,9 @@ use lib.Dec.{ltb}
 use lib.Ieee.{Float, nan, inf, fin, binary32, up, down, round, neg, sum, add, sub, lt}
 use borrow.Author.Tests.{le-ltb}
 use Rattle.ids.specs.Tests.{and-parts}
-use Rattle.telemetry.specs.Eighths.{edge, counts, eighthsOf, Less}
-use Rattle.telemetry.specs.Values.{Is, rounded, of-counts, to-counts, eighths-is}
-use Rattle.telemetry.specs.Compared.{Over, over, none, le-over, lt-eighths}
+use Rattle.eighths.specs.Eighths.{edge, counts, eighthsOf, Less}
+use Rattle.eighths.specs.Values.{Is, rounded, of-counts, to-counts, eighths-is}
+use Rattle.eighths.specs.Compared.{Over, over, none, le-over, lt-eighths}
 
 module _ {A B c a b : ℕ} (o : Over A B c a b) (N : a < edge) where
   difference : b ≤ a → (A - B) * 8 ≡ (a - b) * c

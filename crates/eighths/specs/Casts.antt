@@ -1,4 +1,4 @@
--- The cast that drops a value's fraction, and the three tests by which `telemetry::counts` tells whether a value counts.
+-- The cast that drops a value's fraction, and the three tests by which `eighths::counts` tells whether a value counts.
 use mathlib.Core.Path.{_≡_, refl, sym, ap, _∙_, subst}
 use Prim.Native.Nat.{ℕ, _+_, _-_, _*_, _/_, _^_, _<_, min}
 use native.Mathlib.Nat.{mul-one, mul-pos, mul-div-cancel, zero-mul, mul-le-mul-right, lt-of-lt-of-le, div-lt-iff-lt-mul}
@@ -11,9 +11,9 @@ use lib.Ieee.Fits.{down-pos}
 use lib.Ieee.Nearest.{div-same}
 use borrow.Author.Tests.{ltb-true, eqb-true}
 use Rattle.ids.specs.Tests.{and-parts}
-use Rattle.telemetry.specs.Eighths.{edge, counts, eighthsOf}
-use Rattle.telemetry.specs.Values.{nought, eight, bound, Is, times8, eighth, of-counts, to-counts}
-use Rattle.telemetry.specs.Compared.{lt-of, le-of, eq-of, is-of-eq}
+use Rattle.eighths.specs.Eighths.{edge, counts, eighthsOf}
+use Rattle.eighths.specs.Values.{nought, eight, bound, Is, times8, eighth, of-counts, to-counts}
+use Rattle.eighths.specs.Compared.{lt-of, le-of, eq-of, is-of-eq}
 
 -- the cast is defined from 0 up to the bound, and its result is below the bound
 above : (y : Float) → le nought y ≡ true → lt y bound ≡ true → T (lt (fin true 1 (pos 0)) y)
@@ -72,7 +72,7 @@ module _ (x : Float) (n : ℕ) (p : Is x n) (N : n < 2 ^ 23) where
   is-high : lt x bound ≡ true
   is-high = lt-of x bound n (2 ^ 23) p (refl, λ g. absurd (true≢false (sym g))) N
 
--- a value that counts can be cast, which drops its eighths; and it passes the tests of `telemetry::counts`
+-- a value that counts can be cast, which drops its eighths; and it passes the tests of `eighths::counts`
 module _ (x : Float) (t : counts x ≡ true) where
   is : Is x (eighthsOf x)
   is = of-counts x t .0

@@ -7,8 +7,8 @@ use lib.Dec.{T, ltb, lt→ltb, ltb→lt, not-T}
 use native.Mathlib.Nat.{not-le-of-lt}
 use lib.Ieee.{Float, nan, inf, fin, binary32, ofBits, nanBits, isNan, div}
 use lib.Ieee.Bits.{nanBits-above, nanBits-is}
-use Rattle.telemetry.proofs.from_pattern.Statement.{statement}
-use Rattle.telemetry.proofs.from_pattern.Tie as tie
+use Rattle.eighths.proofs.from_pattern.Statement.{statement}
+use Rattle.eighths.proofs.from_pattern.Tie as tie
 
 no-nan : (n : ℕ) → n % 0x8000_0000 ≤ 0x7f80_0000 → T (not (nanBits binary32 n))
 no-nan n h =

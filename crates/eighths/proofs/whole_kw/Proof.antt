@@ -1,9 +1,9 @@
 -- The cast drops the fraction, which is the eighths.
 use mathlib.Core.Path.{_≡_, _∙_}
 use lib.Ieee.{toUnsigned}
-use Rattle.telemetry.specs.Casts.{kw-castable, kw-cast}
-use Rattle.telemetry.proofs.whole_kw.Statement.{statement}
-use Rattle.telemetry.proofs.whole_kw.Tie as tie
+use Rattle.eighths.specs.Casts.{kw-castable, kw-cast}
+use Rattle.eighths.proofs.whole_kw.Statement.{statement}
+use Rattle.eighths.proofs.whole_kw.Tie as tie
 
 returns : tie.Need-returns
 returns c =

@@ -1,8 +1,8 @@
--- `rating::lent_by` meets its contract: both answers to the test.
+-- `lending::lent_by` meets its contract: both answers to the test.
 use native.Mathlib.Omega.{arith}
 use borrow.Author.Tests.{lt-ltb}
-use Rattle.rating.proofs.lent_by.Statement.{statement}
-use Rattle.rating.proofs.lent_by.Tie as tie
+use Rattle.lending.proofs.lent_by.Statement.{statement}
+use Rattle.lending.proofs.lent_by.Tie as tie
 
 returns : tie.Need-returns
 returns c = rw (c .if1 .taken)

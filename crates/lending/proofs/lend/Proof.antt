@@ -1,4 +1,4 @@
--- `rating::lend` meets its contract: two sums of its area grow by what the registration lends.
+-- `lending::lend` meets its contract: two sums of its area grow by what the registration lends.
 use Prim.Native.Nat.{_+_, _≤_}
 use mathlib.Core.Path.{_≡_}
 use native.Mathlib.Omega.{arith}
@@ -9,9 +9,9 @@ use Rattle.year.specs.Sound.{SoundRegistration}
 use Rattle.looks.specs.Looks.{facts}
 use Rattle.owed_laws.specs.Limits.{limits}
 use Rattle.table.specs.Places.{worthRow}
-use Rattle.rating.specs.Entering.{lentAt, worth-is, lent-le, lent-room, worth-room, lending-more, lending-aside}
-use Rattle.rating.proofs.lend.Statement.{statement}
-use Rattle.rating.proofs.lend.Tie as tie
+use Rattle.lending.specs.Entering.{lentAt, worth-is, lent-le, lent-room, worth-room, lending-more, lending-aside}
+use Rattle.lending.proofs.lend.Statement.{statement}
+use Rattle.lending.proofs.lend.Tie as tie
 
 sound : (s : tie.Start) → SoundRegistration (s .args .r)
 sound s = rw (s .pre .1 .0 .1) (s .pre .0 .sound .terms .registrations .at (s .args .i) (s .pre .1 .0 .0))

@@ -4,10 +4,10 @@ use Prim.Native.Nat.{_<_}
 use native.Mathlib.Omega.{arith}
 use lib.Ieee.{Float, ofBits, binary32}
 use borrow.Author.Tests.{ltb-true, ltb-false}
-use Rattle.telemetry.specs.Eighths.{counts, eighthsOf, Less}
-use Rattle.telemetry.specs.Differences.{sub-exact, lt-counts}
-use Rattle.telemetry.proofs.less.Statement.{statement}
-use Rattle.telemetry.proofs.less.Tie as tie
+use Rattle.eighths.specs.Eighths.{counts, eighthsOf, Less}
+use Rattle.eighths.specs.Differences.{sub-exact, lt-counts}
+use Rattle.eighths.proofs.less.Statement.{statement}
+use Rattle.eighths.proofs.less.Tie as tie
 
 none : (x y : Float) → eighthsOf x < eighthsOf y → Less x y (ofBits binary32 0)
 unfolding counts eighthsOf ofBits

@@ -13,7 +13,7 @@ use lib.Ieee.Exact.{HasValue, round-exact}
 use lib.Ieee.Fits.{down-pos, up-pos}
 use borrow.Author.Tests.{eqb-true, ltb-true, eq-eqb, lt-ltb}
 use Rattle.ids.specs.Tests.{and-parts}
-use Rattle.telemetry.specs.Eighths.{edge, counts, eighthsOf}
+use Rattle.eighths.specs.Eighths.{edge, counts, eighthsOf}
 
 -- the floats that the code has as 0.0, 8.0 and 1048576.0, which is `edge`
 abbrev pub nought : Float

@@ -1,4 +1,4 @@
--- `rating::enter` meets its contract: what the registration lends, and seven stores, each its own.
+-- `lending::enter` meets its contract: what the registration lends, and seven stores, each its own.
 use Prim.Native.Nat.{_≤_}
 use native.Mathlib.Omega.{arith}
 use native.Mathlib.Nat.{mul-le-mul}
@@ -8,9 +8,9 @@ use Rattle.year.specs.Sound.{SoundRegistration}
 use Rattle.cells.specs.Layout.{placeIn}
 use Rattle.owed_laws.specs.Limits.{limits}
 use Rattle.owed_laws.specs.Bounds.{unforced-one}
-use Rattle.rating.specs.Entering.{begun-more}
-use Rattle.rating.proofs.enter.Statement.{statement}
-use Rattle.rating.proofs.enter.Tie as tie
+use Rattle.lending.specs.Entering.{begun-more}
+use Rattle.lending.proofs.enter.Statement.{statement}
+use Rattle.lending.proofs.enter.Tie as tie
 
 sound : (s : tie.Start) → SoundRegistration (s .args .r)
 sound s = rw (s .pre .2) (s .pre .0 .sound .terms .registrations .at (s .args .i) (s .pre .1))

@@ -5,11 +5,11 @@ use native.Mathlib.Omega.{arith}
 use lib.Dec.{le→leb}
 use lib.IntN.{pos}
 use lib.Ieee.{binary32, ofBits, mul, div, ofInt, lt, le, eq, inFloat}
-use Rattle.telemetry.specs.Eighths.{edge}
-use Rattle.telemetry.specs.Values.{nought, eight, bound}
-use Rattle.telemetry.specs.Casts.{castable, cut-lt, passes-low, passes-high, told, fails}
-use Rattle.telemetry.proofs.counts.Statement.{statement}
-use Rattle.telemetry.proofs.counts.Tie as tie
+use Rattle.eighths.specs.Eighths.{edge}
+use Rattle.eighths.specs.Values.{nought, eight, bound}
+use Rattle.eighths.specs.Casts.{castable, cut-lt, passes-low, passes-high, told, fails}
+use Rattle.eighths.proofs.counts.Statement.{statement}
+use Rattle.eighths.proofs.counts.Tie as tie
 
 -- the literals 0.0, 8.0 and 1048576.0 stand in the goals by their patterns, which are `nought`, `eight` and `bound` under `unfolding ofBits`
 returns : tie.Need-returns

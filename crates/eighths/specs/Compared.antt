@@ -11,7 +11,7 @@ use lib.Ieee.{Float, nan, inf, fin, up, down, lt, le, eq}
 use lib.Ieee.Fits.{down-pos}
 use borrow.Author.Tests.{lt-ltb, le-ltb, eqb-true, eq-eqb}
 use Rattle.ids.specs.Tests.{and-parts}
-use Rattle.telemetry.specs.Values.{Is}
+use Rattle.eighths.specs.Values.{Is}
 
 -- a value over a larger denominator
 scaled : (p c d a : ℕ) → p * 8 ≡ a * c → p * d * 8 ≡ a * (c * d)
