@@ -142,7 +142,7 @@ late-figures : bill withLate
 unfolding bill
 late-figures = refl
 
--- No event of the list before comes late, so it is answered as by document 01's question 11; here one does, and gets 11 by that.
+-- No event of `withEvents` comes late, so that list is answered as by document 01's question 11; in `withLate` one does, which that gives 11.
 before-and-late : (noneLate [] (answers newYear (callsIn withEvents blank)) ≡ true) × (noneLate [] (answers newYear (callsIn withLate blank)) ≡ false)
     × (numbers (answersUnder inTime newYear (callsIn withLate blank)) ≡ 0 ∷ 0 ∷ 0 ∷ 0 ∷ 0 ∷ 0 ∷ 0 ∷ 0 ∷ 0 ∷ 0 ∷ 11 ∷ 0 ∷ [])
     × (numbers (answers newYear (callsIn withLate blank)) ≡ 0 ∷ 0 ∷ 0 ∷ 0 ∷ 0 ∷ 0 ∷ 0 ∷ 0 ∷ 0 ∷ 0 ∷ 0 ∷ 0 ∷ [])
