@@ -142,6 +142,24 @@ late-figures : bill withLate
 unfolding bill
 late-figures = refl
 
+-- What a late event does to what is billed. In a June test registration 0 gives all of its 1,000 kW, registration 1 1,600 of 2,000: 410 × 18,000 is 7,380,000 a day. Events of July and August list
+-- registration 0 with 600; at close 5 that of July is due, 313,650. Then comes the June event: at close 6 the three cost 1,366,666 × 183 / 1,000 = 250,099 each, nothing is left of the test's 1,129,140, and
+-- seller 1 is credited 54,900. The LSEs have 695,397 to date after 1,442,790, LSE 0 521,547 after 1,082,092.
+abbrev withEarlier : List ℕ
+withEarlier =
+    parties
+    ++ ((0x52 ∷ 0x08 ∷ 0x01 ∷ 0x00 ∷ 0x03 ∷ 0xE8 ∷ 0x04 ∷ 0x0C ∷ 0x80 ∷ 0x61 ∷ 0x62 ∷ 0x63 ∷ 0x64 ∷ [])
+    ++ ((0x42 ∷ 0x48 ∷ 0x00 ∷ 0x80 ∷ 0x02 ∷ 0x58 ∷ 0x42 ∷ 0x68 ∷ 0x00 ∷ 0x80 ∷ 0x02 ∷ 0x58 ∷ 0x65 ∷ [])
+    ++ (juneEvent ++ (0x66 ∷ []))))
+
+repriced-figures : bill withEarlier
+    ≡ bytes "M 1\nS 0 0 0 0\nS 1 0 221400 0\nL 0 166050\nL 1 55350\nM 2\nS 0 0 0 0\nS 1 0 228780 0\nL 0 171585\nL 1 57195\n"
+    ++ bytes "M 3\nS 0 0 0 0\nS 1 0 228780 0\nL 0 171585\nL 1 57195\nM 4\nS 0 0 0 0\nS 1 0 221400 0\nL 0 166050\nL 1 55350\n"
+    ++ bytes "M 5\nS 0 313650 0 0\nS 1 0 228780 0\nL 0 406822\nL 1 135608\n"
+    ++ bytes "M 6\nS 0 436647 0 0\nS 1 0 -1129140 54900\nL 0 -560545\nL 1 -186848\n"
+unfolding bill
+repriced-figures = refl
+
 -- No event of `withEvents` comes late, so that list is answered as by document 01's question 11; in `withLate` one does, which that gives 11.
 before-and-late : (noneLate [] (answers newYear (callsIn withEvents blank)) ≡ true) × (noneLate [] (answers newYear (callsIn withLate blank)) ≡ false)
     × (numbers (answersUnder inTime newYear (callsIn withLate blank)) ≡ 0 ∷ 0 ∷ 0 ∷ 0 ∷ 0 ∷ 0 ∷ 0 ∷ 0 ∷ 0 ∷ 0 ∷ 11 ∷ 0 ∷ [])
