@@ -19,6 +19,7 @@ use Rattle.layouts.specs.Layout.{itemsIn, rulesTo, rulesFor}
 use Rattle.layouts.specs.Questions.{recordQuestions, firstFailed, kindOf, headOf, rulesOf, numbersOf, isKind, isWhole, permits, permitted, isFilled, rises, idsRise, recordNumber, consumed, rulesBy}
 use Rattle.records.specs.Calls.{bytesBy}
 use Rattle.year.specs.Year.{newYear, listed, reduction, deficit, known, seller, area, zone, product, committed, fieldRate, obligation}
+use Rattle.owed.specs.Facts.{Facts}
 use Rattle.owed.specs.Owed.{beforeCap, raised, unforced, own, ofArea, areaRate, rate, ofSeller, shareOf, called, calls, shortfallOver, u, cap, daily, spent, charge, excess, e, creditShare, creditLimit, creditOf, result, B, testOf, compliance, test, credit, charges, credits, lse, amounts}
 use Rattle.owed.specs.Retests.{belowQuarter, entryOf, failed, testedKw, failedKw, hadRetest}
 use Rattle.statement.specs.Statement.{difference, hasRegistration, hasObligation, sellerColumns, lineFields, linesTo, statementFields, statementOf}
@@ -109,6 +110,10 @@ bill : List ℕ → List ℕ
 unfolding sumTo anyTo allTo tabulate convert days due callable testable share bitAt number bitsOf spell byteOf bytesOf pack encode itemsIn times rulesTo rulesFor recordQuestions firstFailed kindOf headOf rulesOf numbersOf isKind isWhole permits permitted isFilled rises idsRise listed reduction deficit known seller area zone product committed fieldRate obligation beforeCap raised unforced own ofArea areaRate rate ofSeller shareOf called calls shortfallOver u cap daily spent charge excess e creditShare creditLimit creditOf result belowQuarter entryOf failed testedKw failedKw hadRetest B testOf compliance test credit charges credits lse amounts difference hasRegistration hasObligation sellerColumns lineFields linesTo statementFields statementOf value42 namedHead withItem withItems listingTo listingIn inArea inGroup everyListed deficitsListed listsExactly monthBegun q6 q7 q8 q9 q10 q17 q11 q20 q21 q12 q13 q14 q15 q16 questions postNumber yearBy bufferWith yearAfter bufferAfter digitsTo decimal cents refusalLine linesFrom monthLine partyLine statementLines answerLines bytes recordNumber consumed recordsTo isAccepted isClosing buffered step run answered gather lastOr sumOver summed termsIn clearingsIn eventsIn testsIn retestsIn recorded callsOf answerText textOf
 bill file = billText file blank
 
+-- what the rules read of the records that are accepted of a file
+abbrev owedBy : List ℕ → Facts
+owedBy file = factsIn (acceptedIn (answers newYear (callsIn file blank)))
+
 -- Year A: each record's number, the buffer that each is lent (as the one before left it; one record more shows what the last leaves), the
 -- statement, and the printed lines. Of the others: 400 kW convert to 396, less 100 is 296:
 -- × 10,000 / 52 = 56,923 a day, × 366 / 1,000 = 20,833; 500 kW convert to 495, less 50 is 445: × 18,000 × 366 / 1,000 = 2,931,660.
@@ -117,7 +122,7 @@ figures : (numbers (answers newYear (callsIn yearA blank)) ≡ 0 ∷ 0 ∷ 0 ∷
     × (statements (answers newYear (callsIn yearA blank)) ≡ stated ∷ [])
     × (bill yearA ≡ bytes "M 1\nS 0 0 147600 0\nS 1 0 0 0\nL 0 110700\nL 1 36900\nN 8 15\n")
     × (bill others ≡ [])
-    × (compliance (factsIn (acceptedIn (answers newYear (callsIn others blank)))) 13 3 ≡ 20833) × (test (factsIn (acceptedIn (answers newYear (callsIn others blank)))) 13 4 ≡ 2931660) × (lse (factsIn (acceptedIn (answers newYear (callsIn others blank)))) 13 5 ≡ 2952493)
+    × (compliance (owedBy others) 13 3 ≡ 20833) × (test (owedBy others) 13 4 ≡ 2931660) × (lse (owedBy others) 13 5 ≡ 2952493)
 unfolding bill
 figures = (refl, refl, refl, refl, refl, refl, refl, refl)
 
@@ -142,23 +147,20 @@ late-figures : bill withLate
 unfolding bill
 late-figures = refl
 
--- What a late event does to what is billed. In a June test registration 0 gives all of its 1,000 kW, registration 1 1,600 of 2,000: 410 × 18,000 is 7,380,000 a day. Events of July and August list
--- registration 0 with 600; at close 5 that of July is due, 313,650. Then comes the June event: at close 6 the three cost 1,366,666 × 183 / 1,000 = 250,099 each, nothing is left of the test's 1,129,140, and
--- seller 1 is credited 54,900. The LSEs have 695,397 to date after 1,442,790, LSE 0 521,547 after 1,082,092.
+-- What a late event does to what is billed. In a June test registration 0 gives all of its 1,000 kW, registration 1 1,600 of 2,000: 410 × 18,000 is 7,380,000 a day, × 153 / 1,000 = 1,129,140 at close 5.
+-- Events of July and August list registration 0 with 600; that of July is due then, 313,650. Then comes the June event: at close 6 the three cost 1,366,666 × 183 / 1,000 = 250,099 each, nothing is left of
+-- the test, and seller 1 is credited 54,900. LSE 0 has three quarters of 1,442,790, then of 695,397.
 abbrev withEarlier : List ℕ
 withEarlier =
     parties
     ++ ((0x52 ∷ 0x08 ∷ 0x01 ∷ 0x00 ∷ 0x03 ∷ 0xE8 ∷ 0x04 ∷ 0x0C ∷ 0x80 ∷ 0x61 ∷ 0x62 ∷ 0x63 ∷ 0x64 ∷ [])
-    ++ ((0x42 ∷ 0x48 ∷ 0x00 ∷ 0x80 ∷ 0x02 ∷ 0x58 ∷ 0x42 ∷ 0x68 ∷ 0x00 ∷ 0x80 ∷ 0x02 ∷ 0x58 ∷ 0x65 ∷ [])
-    ++ (juneEvent ++ (0x66 ∷ []))))
+    ++ (0x42 ∷ 0x48 ∷ 0x00 ∷ 0x80 ∷ 0x02 ∷ 0x58 ∷ 0x42 ∷ 0x68 ∷ 0x00 ∷ 0x80 ∷ 0x02 ∷ 0x58 ∷ 0x65 ∷ []))
 
-repriced-figures : bill withEarlier
-    ≡ bytes "M 1\nS 0 0 0 0\nS 1 0 221400 0\nL 0 166050\nL 1 55350\nM 2\nS 0 0 0 0\nS 1 0 228780 0\nL 0 171585\nL 1 57195\n"
-    ++ bytes "M 3\nS 0 0 0 0\nS 1 0 228780 0\nL 0 171585\nL 1 57195\nM 4\nS 0 0 0 0\nS 1 0 221400 0\nL 0 166050\nL 1 55350\n"
-    ++ bytes "M 5\nS 0 313650 0 0\nS 1 0 228780 0\nL 0 406822\nL 1 135608\n"
-    ++ bytes "M 6\nS 0 436647 0 0\nS 1 0 -1129140 54900\nL 0 -560545\nL 1 -186848\n"
+repriced-figures : (compliance (owedBy withEarlier) 5 0 ≡ 313650) × (test (owedBy withEarlier) 5 1 ≡ 1129140) × (lse (owedBy withEarlier) 5 0 ≡ 1082092)
+    × (compliance (owedBy (withEarlier ++ juneEvent)) 6 0 ≡ 750297) × (test (owedBy (withEarlier ++ juneEvent)) 6 1 ≡ 0) × (credit (owedBy (withEarlier ++ juneEvent)) 6 1 ≡ 54900)
+    × (lse (owedBy (withEarlier ++ juneEvent)) 6 0 ≡ 521547) × (lse (owedBy (withEarlier ++ juneEvent)) 6 1 ≡ 173850)
 unfolding bill
-repriced-figures = refl
+repriced-figures = (refl, refl, refl, refl, refl, refl, refl, refl)
 
 -- No event of `withEvents` comes late, so that list is answered as by document 01's question 11; in `withLate` one does, which that gives 11.
 before-and-late : (noneLate [] (answers newYear (callsIn withEvents blank)) ≡ true) × (noneLate [] (answers newYear (callsIn withLate blank)) ≡ false)
