@@ -30,10 +30,10 @@
  * The most numbers of a record, the most bytes of a statement, the most closes of a book, and the
  * cells of its year.
  */
-#define PIERMINT_NUMBERS 166
+#define PIERMINT_NUMBERS 229
 #define PIERMINT_STATEMENT 354
 #define PIERMINT_CLOSES 15
-#define PIERMINT_CELLS 3767
+#define PIERMINT_CELLS 4807
 
 #ifdef __cplusplus
 extern "C" {

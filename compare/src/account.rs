@@ -4,8 +4,10 @@ use std::array;
 
 use crate::average::Average;
 use crate::fields::{LSES, REGISTRATIONS, SELLERS};
-use crate::owed::{convert, days, due_month, uncapped, Allotment, Amounts, Owed};
-use crate::records::{Event, Lists, Opening, Registration, Test};
+use crate::owed::{
+    convert, days, due_month, off_peak_amount, on_peak_amount, Allotment, Amounts, Owed,
+};
+use crate::records::{Event, Lists, Measured, Opening, Product, Registration, Test};
 use crate::year::Year;
 
 /// All amounts to date at this month.
@@ -61,6 +63,13 @@ impl Listed<'_> {
         let v = year.retested[self.id()].map_or(self.v, i64::from);
         Listed { v, ..self }
     }
+
+    /// With the off-peak reduction for the on-peak one; none if it is Limited, which is left out of
+    /// what is measured off-peak.
+    fn off_peak(self, reduction: u32) -> Option<Self> {
+        let v = reduction.into();
+        (self.registration.product != Product::Limited).then_some(Listed { v, ..self })
+    }
 }
 
 fn listed<'a>(year: &'a Year, lists: &'a Lists) -> impl Iterator<Item = Listed<'a>> {
@@ -99,6 +108,15 @@ impl Tally {
     }
 }
 
+/// What the entries of each seller are below and above.
+fn tallies<'a>(listed: impl Iterator<Item = Listed<'a>>) -> [Tally; SELLERS] {
+    let mut tallies = [Tally::default(); SELLERS];
+    for l in listed {
+        tallies[l.seller()].add(&l);
+    }
+    tallies
+}
+
 /// The rate of a seller's shortfall in a test; none if it has no entry.
 fn test_rate(rates: &Average) -> Option<i64> {
     let base = rates.rounded()?;
@@ -132,22 +150,29 @@ impl<'a> Account<'a> {
 
     /// Adds an event's charges and credits to date.
     fn add_event(&mut self, event: &Event) {
-        let listed = || listed(self.year, &event.lists);
-        let mut tallies = [Tally::default(); SELLERS];
-        for l in listed() {
-            tallies[l.seller()].add(&l);
+        let year = self.year;
+        let on_peak = |u, l: &Listed| on_peak_amount(u, l.q, year.on_peak_events[l.id()].into());
+        match &event.measured {
+            Measured::OnPeak => self.add_by(event, on_peak),
+            Measured::OffPeak => self.add_by(event, |u, l| off_peak_amount(u, l.q)),
+            Measured::Apart(reductions) => {
+                let off_peak = self.off_peak_amounts(event, reductions);
+                self.add_by(event, |u, l| on_peak(u, l).max(off_peak[l.id()]));
+            }
         }
-        let mut shortfalls: [Allotment; SELLERS] = array::from_fn(|seller| {
-            let deficit = event.lists.deficits[seller];
-            let shortfall = tallies[seller].shortfall(&self.year.opening, deficit);
-            Allotment::new(shortfall, tallies[seller].short)
-        });
+    }
+
+    /// Adds an event whose daily charges before the cap follow in this way from each entry's u.
+    fn add_by(&mut self, event: &Event, uncapped: impl Fn(i64, &Listed) -> i64) {
+        let listed = || listed(self.year, &event.lists);
+        let tallies = tallies(listed());
+        let mut shortfalls = self.shortfalls(&tallies, &event.lists);
         let mut excesses = tallies.map(|tally| Allotment::new(tally.excess(), tally.over));
         let mut entry_excesses = [0; REGISTRATIONS];
         let mut charges = 0;
         for (l, excess) in listed().zip(&mut entry_excesses) {
             let u = shortfalls[l.seller()].share(l.short());
-            let charge = self.charge(event, &l, u);
+            let charge = self.charge(event, &l, uncapped(u, &l));
             self.sellers[l.seller()].compliance += charge;
             charges += charge;
             *excess = excesses[l.seller()].share(l.over());
@@ -157,15 +182,45 @@ impl<'a> Account<'a> {
             let most = e * l.q / 5 * self.days / 1_000;
             self.sellers[l.seller()].credit += shares.share(e).min(most);
         }
-        let allotments = shortfalls.iter().chain(&excesses).chain([&shares]);
-        self.divisions += allotments.map(Allotment::divisions).sum::<usize>();
+        self.count_divisions(&shortfalls);
+        self.count_divisions(&excesses);
+        self.count_divisions(&[shares]);
+    }
+
+    /// The off-peak amounts by id, from these off-peak reductions of an event's entries; 0 where none is
+    /// measured.
+    fn off_peak_amounts(&mut self, event: &Event, reductions: &[u32]) -> [i64; REGISTRATIONS] {
+        let measured = || {
+            let listed = listed(self.year, &event.lists).zip(reductions);
+            listed.filter_map(|(l, reduction)| l.off_peak(*reduction))
+        };
+        let mut shortfalls = self.shortfalls(&tallies(measured()), &event.lists);
+        let mut amounts = [0; REGISTRATIONS];
+        for l in measured() {
+            let u = shortfalls[l.seller()].share(l.short());
+            amounts[l.id()] = off_peak_amount(u, l.q);
+        }
+        self.count_divisions(&shortfalls);
+        amounts
+    }
+
+    /// Each seller's unforced shortfall, allotted by what its entries are below.
+    fn shortfalls(&self, tallies: &[Tally; SELLERS], lists: &Lists) -> [Allotment; SELLERS] {
+        array::from_fn(|seller| {
+            let tally = &tallies[seller];
+            let shortfall = tally.shortfall(&self.year.opening, lists.deficits[seller]);
+            Allotment::new(shortfall, tally.short)
+        })
+    }
+
+    fn count_divisions(&mut self, allotments: &[Allotment]) {
+        self.divisions += allotments.iter().map(Allotment::divisions).sum::<usize>();
     }
 
     /// An entry's charge to date; takes its daily charge off the rest of the cap.
-    fn charge(&mut self, event: &Event, l: &Listed, u: i64) -> i64 {
-        let n = self.year.on_peak_events[l.id()].into();
+    fn charge(&mut self, event: &Event, l: &Listed, uncapped: i64) -> i64 {
         let rest = &mut self.rests[l.id()];
-        let daily = uncapped(u, l.q, event.off_peak, n).min(*rest);
+        let daily = uncapped.min(*rest);
         *rest -= daily;
         if self.month >= due_month(l.registration.product, event.month) {
             daily * self.days / 1_000
@@ -202,7 +257,7 @@ impl<'a> Account<'a> {
             .map(|lse| lse.map(|lse| lse.obligation.into()));
         let mut credits = Allotment::new(left, obligations.iter().flatten().sum());
         let lses = obligations.map(|obligation| obligation.map(|weight| credits.share(weight)));
-        self.divisions += credits.divisions();
+        self.count_divisions(&[credits]);
         lses
     }
 }

@@ -88,7 +88,7 @@ fn ask_retest(year: &Year, retest: &Retest) -> Asked {
     let place = (retest.seller, retest.zone, retest.product);
     let belongs = |r: &Registration| (r.seller, r.zone, r.product) == place;
     ask(has_parties(year), 8)?;
-    ask(all_known(year, &retest.entries, belongs), 10)?;
+    ask(all_known(year, retest.lists.entries(), belongs), 10)?;
     let test = year.test_of(retest.zone, retest.product);
     ask(
         may_test(year, retest.product, retest.month)
@@ -97,7 +97,7 @@ fn ask_retest(year: &Year, retest: &Retest) -> Asked {
     )?;
     let first = FirstResult::new(year, test.ok_or(20_u64)?, retest.seller);
     ask(!year.retests.contains(&place) && first.allows_retest(), 20)?;
-    ask(first.failed_are(&retest.entries), 21)
+    ask(first.failed_are(retest.lists.entries()), 21)
 }
 
 fn is_unused(year: &Year) -> bool {
@@ -129,7 +129,7 @@ fn may_call(year: &Year, event: &Event) -> bool {
     month_has_begun(event.month, year.closed)
         && event.lists.entries().iter().all(|entry| {
             let product = year.registration(entry).product;
-            may_be_called(product, event.month, event.off_peak)
+            may_be_called(product, event.month, event.is_off_peak())
         })
 }
 

@@ -12,10 +12,23 @@ impl Field {
     pub fn permits(&self, number: u64) -> bool {
         (self.low..=self.high).contains(&number)
     }
+
+    /// The lowest bits of a number, as many as the field has.
+    pub fn cut(&self, number: u64) -> u64 {
+        number & ((1 << self.width) - 1)
+    }
 }
 
 pub const fn field(width: usize, low: u64, high: u64) -> Field {
     Field { width, low, high }
+}
+
+/// The bits that these fields take together.
+pub const fn bits(fields: &[Field]) -> usize {
+    match fields {
+        [] => 0,
+        [first, rest @ ..] => first.width + bits(rest),
+    }
 }
 
 pub const fn kind(kind: u64) -> Field {

@@ -1,27 +1,33 @@
-//! The layouts of the eight kinds of record.
+//! The layouts of the nine kinds of record.
+
+use std::ops::Range;
 
 use crate::exact::narrow;
 use crate::fields::{
-    kind, Field, AREA, CLEARED, CLOSED_MONTH, COMMITTED, DEFICITS, ENTRIES, FACTOR, LEAP, LSE_ID,
-    MONTH, OBLIGATION, PERIOD, PRICE, PRODUCT, RATE, REGISTRATIONS, REGISTRATION_ID, SELLERS,
-    SELLER_ID, ZONE,
+    bits, kind, Field, AREA, CLEARED, CLOSED_MONTH, COMMITTED, DEFICITS, ENTRIES, FACTOR, LEAP,
+    LSE_ID, MONTH, OBLIGATION, PERIOD, PRICE, PRODUCT, RATE, REGISTRATIONS, REGISTRATION_ID,
+    SELLERS, SELLER_ID, ZONE,
 };
-use crate::lists::{Deficits, Entries, List};
+use crate::lists::{Deficits, List, OneReduction, TwoReductions};
 
-/// The numbers of the longest permitted record: a head of 6, 16 deficits and 64 entries.
-pub const MOST_NUMBERS: usize = 6 + 2 * (SELLERS + REGISTRATIONS);
+/// The numbers of the longest permitted record.
+pub const MOST_NUMBERS: usize = longest(&HEADS)[0];
 
-/// The bytes of the longest permitted record: a head of 25 bits, 16 deficits and 64 entries.
-pub const MOST_BYTES: usize =
-    (25 + SELLERS * Deficits::WIDTH + REGISTRATIONS * Entries::WIDTH).div_ceil(8);
+/// The bytes of the longest permitted record.
+pub const MOST_BYTES: usize = longest(&HEADS)[1];
 
 /// The most fields before the lists.
 pub const MOST_HEAD: usize = 8;
 
-/// The fields before the lists, which fit a word.
+/// The fields before the lists, which fit a word, and what lists follow.
 pub struct Head {
     pub fields: &'static [Field],
     pub bits: usize,
+    /// Do deficits follow? Their count stands before that of the entries.
+    pub has_deficits: bool,
+    /// The fields of an entry, none where no entries follow. Their count ends the head.
+    pub entry: &'static [Field],
+    entry_bits: usize,
 }
 
 impl Head {
@@ -39,24 +45,47 @@ impl Head {
         let mut numbers = self.fields.iter().zip(numbers);
         numbers.all(|(field, number)| field.permits(*number))
     }
-}
 
-const fn bits(fields: &[Field]) -> usize {
-    match fields {
-        [] => 0,
-        [first, rest @ ..] => first.width + bits(rest),
+    pub fn has_entries(&self) -> bool {
+        !self.entry.is_empty()
+    }
+
+    /// The places of the counts, which end the head.
+    pub fn counts(&self) -> Range<usize> {
+        let end = self.fields.len();
+        end - usize::from(self.has_deficits) - usize::from(self.has_entries())..end
+    }
+
+    pub fn has_two_reductions(&self) -> bool {
+        self.entry.len() == TwoReductions::FIELDS.len()
     }
 }
 
-const fn head_of(fields: &'static [Field]) -> Option<Head> {
-    let bits = bits(fields);
-    Some(Head { fields, bits })
+const fn alone(fields: &'static [Field]) -> Head {
+    with_entries(fields, &[])
 }
 
-/// The heads in the order of their kinds, from 1 on; 8 is none.
-static HEADS: [Option<Head>; 9] = [
-    head_of(&[kind(1), LEAP, FACTOR, FACTOR]),
-    head_of(&[
+const fn with_entries(fields: &'static [Field], entry: &'static [Field]) -> Head {
+    Head {
+        fields,
+        bits: bits(fields),
+        has_deficits: false,
+        entry,
+        entry_bits: bits(entry),
+    }
+}
+
+const fn with_deficits(fields: &'static [Field], entry: &'static [Field]) -> Head {
+    Head {
+        has_deficits: true,
+        ..with_entries(fields, entry)
+    }
+}
+
+/// The heads in the order of their kinds, from 1 on.
+static HEADS: [Head; 9] = [
+    alone(&[kind(1), LEAP, FACTOR, FACTOR]),
+    alone(&[
         kind(2),
         REGISTRATION_ID,
         SELLER_ID,
@@ -66,29 +95,57 @@ static HEADS: [Option<Head>; 9] = [
         COMMITTED,
         RATE,
     ]),
-    head_of(&[kind(3), LSE_ID, OBLIGATION]),
-    head_of(&[kind(4), AREA, MONTH, PERIOD, DEFICITS, ENTRIES]),
-    head_of(&[kind(5), ZONE, PRODUCT, MONTH, DEFICITS, ENTRIES]),
-    head_of(&[kind(6), CLOSED_MONTH]),
-    head_of(&[kind(7), REGISTRATION_ID, PRICE, CLEARED]),
-    None,
-    head_of(&[kind(9), SELLER_ID, ZONE, PRODUCT, MONTH, ENTRIES]),
+    alone(&[kind(3), LSE_ID, OBLIGATION]),
+    with_deficits(
+        &[kind(4), AREA, MONTH, PERIOD, DEFICITS, ENTRIES],
+        &OneReduction::FIELDS,
+    ),
+    with_deficits(
+        &[kind(5), ZONE, PRODUCT, MONTH, DEFICITS, ENTRIES],
+        &OneReduction::FIELDS,
+    ),
+    alone(&[kind(6), CLOSED_MONTH]),
+    alone(&[kind(7), REGISTRATION_ID, PRICE, CLEARED]),
+    with_deficits(
+        &[kind(8), AREA, MONTH, DEFICITS, ENTRIES],
+        &TwoReductions::FIELDS,
+    ),
+    with_entries(
+        &[kind(9), SELLER_ID, ZONE, PRODUCT, MONTH, ENTRIES],
+        &OneReduction::FIELDS,
+    ),
 ];
 
 /// The head of a kind, if there is such a kind.
 pub fn head(kind: u64) -> Option<&'static Head> {
     let at = usize::try_from(kind).ok()?.checked_sub(1)?;
-    HEADS.get(at)?.as_ref()
+    HEADS.get(at)
 }
 
-/// Have records of this kind entries, whose count ends the head?
-pub fn has_entries(kind: u64) -> bool {
-    has_deficits(kind) || kind == 9
+/// The most numbers and the most bytes of a permitted record: lists are longest with every seller and
+/// every registration.
+const fn longest(heads: &'static [Head]) -> [usize; 2] {
+    let [head, rest @ ..] = heads else {
+        return [0; 2];
+    };
+    let longest_of_kind = Layout {
+        head,
+        deficits: if head.has_deficits { SELLERS } else { 0 },
+        entries: REGISTRATIONS,
+    };
+    let [numbers, bytes] = longest(rest);
+    [
+        larger(longest_of_kind.count(), numbers),
+        larger(longest_of_kind.bytes(), bytes),
+    ]
 }
 
-/// Have records of this kind deficits, whose count stands before that of the entries?
-pub fn has_deficits(kind: u64) -> bool {
-    matches!(kind, 4 | 5)
+const fn larger(a: usize, b: usize) -> usize {
+    if a > b {
+        a
+    } else {
+        b
+    }
 }
 
 /// A record's layout: its head, and how many deficits and entries follow.
@@ -100,28 +157,41 @@ pub struct Layout {
 }
 
 impl Layout {
-    /// The layout by the counts as they stand in the numbers of a head.
-    pub fn new(head: &'static Head, numbers: &[u64]) -> Self {
-        let (deficits, entries) = match numbers {
-            [kind, _, _, _, deficits, entries, ..] if has_deficits(*kind) => (*deficits, *entries),
-            [kind, _, _, _, _, entries, ..] if has_entries(*kind) => (0, *entries),
-            _ => (0, 0),
-        };
-        Layout {
-            head,
-            deficits: narrow(deficits),
-            entries: narrow(entries),
+    /// The layout of a record that begins with this word. The counts come from the word and not from the
+    /// numbers unpacked from it, since the place where they stand among these varies, which is slow.
+    pub fn of_word(head: &'static Head, word: u64) -> Self {
+        let packed = word >> (64 - head.bits);
+        let deficits = DEFICITS.cut(packed >> ENTRIES.width);
+        Layout::new(head, deficits, ENTRIES.cut(packed))
+    }
+
+    /// The layout of a record given as its numbers.
+    pub fn of_numbers(head: &'static Head, numbers: &[u64]) -> Self {
+        match numbers[head.counts()] {
+            [deficits, entries] => Layout::new(head, deficits, entries),
+            [entries] => Layout::new(head, 0, entries),
+            _ => Layout::new(head, 0, 0),
         }
     }
 
-    /// The layout of a record given as its numbers, if the first is a kind.
-    pub fn of(numbers: &[u64]) -> Option<Self> {
-        Some(Layout::new(head(*numbers.first()?)?, numbers))
+    /// A count of lists that do not follow says nothing.
+    fn new(head: &'static Head, deficits: u64, entries: u64) -> Self {
+        let counted = |follow, count| if follow { narrow(count) } else { 0 };
+        Layout {
+            head,
+            deficits: counted(head.has_deficits, deficits),
+            entries: counted(head.has_entries(), entries),
+        }
     }
 
     /// How many numbers the record has.
-    pub fn count(&self) -> usize {
-        self.head.fields.len() + 2 * (self.deficits + self.entries)
+    pub const fn count(&self) -> usize {
+        self.first_entry() + self.entries * self.head.entry.len()
+    }
+
+    /// The place of the first entry's first number.
+    pub const fn first_entry(&self) -> usize {
+        self.head.fields.len() + self.deficits * Deficits::FIELDS.len()
     }
 
     /// The field of the number at this place.
@@ -129,28 +199,28 @@ impl Layout {
         let head = self.head.fields.len();
         if at < head {
             self.head.fields[at]
-        } else if at < head + 2 * self.deficits {
-            [Deficits::ID, Deficits::KW][(at - head) % 2]
+        } else if at < self.first_entry() {
+            Deficits::FIELDS[(at - head) % Deficits::FIELDS.len()]
         } else {
-            [Entries::ID, Entries::KW][(at - head) % 2]
+            self.head.entry[(at - self.first_entry()) % self.head.entry.len()]
         }
     }
 
     /// The bit that the deficits start at.
-    pub fn deficits_start(&self) -> usize {
+    pub const fn deficits_start(&self) -> usize {
         self.head.bits
     }
 
     /// The bit that the entries start at.
-    pub fn entries_start(&self) -> usize {
-        self.deficits_start() + Deficits::bits(self.deficits)
+    pub const fn entries_start(&self) -> usize {
+        self.deficits_start() + self.deficits * Deficits::WIDTH
     }
 
-    pub fn bits(&self) -> usize {
-        self.entries_start() + Entries::bits(self.entries)
+    pub const fn bits(&self) -> usize {
+        self.entries_start() + self.entries * self.head.entry_bits
     }
 
-    pub fn bytes(&self) -> usize {
+    pub const fn bytes(&self) -> usize {
         self.bits().div_ceil(8)
     }
 }

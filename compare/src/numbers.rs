@@ -2,7 +2,7 @@
 
 use crate::bits::BitWriter;
 use crate::layout::{self, Layout, MOST_NUMBERS};
-use crate::lists::{Deficits, Entries, Findings, List};
+use crate::lists::{Deficits, Entries, Findings, List, OneReduction, TwoReductions};
 use crate::packed::Packed;
 
 /// What reading reports.
@@ -24,21 +24,30 @@ pub fn read(bytes: &[u8], buffer: &mut [u64]) -> Read {
         Ok(_) if buffer.len() < MOST_NUMBERS => return refused(16),
         Ok(packed) => packed,
     };
-    let (head, lists) = buffer.split_at_mut(packed.layout.head.fields.len());
+    let layout = &packed.layout;
+    let (head, lists) = buffer.split_at_mut(layout.head.fields.len());
     for (slot, number) in head.iter_mut().zip(packed.head) {
         *slot = number;
     }
-    let (deficits, entries) = lists.as_chunks_mut().0.split_at_mut(packed.layout.deficits);
-    for (slot, pair) in deficits.iter_mut().zip(packed.deficits()) {
-        *slot = pair;
-    }
-    for (slot, pair) in entries.iter_mut().zip(packed.entries()) {
-        *slot = pair;
+    if layout.head.has_entries() {
+        fill(lists, packed.deficits());
+        let entries = &mut buffer[layout.first_entry()..];
+        match packed.entries() {
+            Entries::One(items) => fill(entries, items),
+            Entries::Two(items) => fill(entries, items),
+        }
     }
     Read {
         number: 0,
-        count: packed.layout.count(),
-        used: packed.layout.bytes(),
+        count: layout.count(),
+        used: layout.bytes(),
+    }
+}
+
+/// Puts a list's items one after another into the lent numbers.
+fn fill<const N: usize>(numbers: &mut [u64], items: impl Iterator<Item = [u64; N]>) {
+    for (slot, item) in numbers.as_chunks_mut().0.iter_mut().zip(items) {
+        *slot = item;
     }
 }
 
@@ -68,12 +77,14 @@ fn layout_to_write(numbers: &[u64], room: usize) -> Result<Layout, u64> {
     if numbers.len() < head.fields.len() || !head.permits(numbers) {
         return Err(3);
     }
-    let layout = Layout::new(head, numbers);
+    let layout = Layout::of_numbers(head, numbers);
     if numbers.len() != layout.count() {
         return Err(3);
     }
-    let (_, deficits, entries) = parts(&layout, numbers);
-    let lists = Findings::new(deficits.iter().copied(), entries.iter().copied());
+    let lists = match head.has_entries() {
+        true => findings(&layout, numbers),
+        false => Findings::default(),
+    };
     if !lists.permitted {
         Err(3)
     } else if !lists.ids_rise {
@@ -85,30 +96,49 @@ fn layout_to_write(numbers: &[u64], room: usize) -> Result<Layout, u64> {
     }
 }
 
+fn findings(layout: &Layout, numbers: &[u64]) -> Findings {
+    let (deficits, entries) = lists(layout, numbers);
+    let entries = match entries {
+        Entries::One(items) => Entries::One(items.iter().copied()),
+        Entries::Two(items) => Entries::Two(items.iter().copied()),
+    };
+    Findings::new(deficits.iter().copied(), entries)
+}
+
 /// Packs the numbers of a layout into bytes, each cut to its field's width; gives the length.
 pub fn place(layout: &Layout, numbers: &[u64], bytes: &mut [u8]) -> usize {
-    let (head, deficits, entries) = parts(layout, numbers);
     let mut writer = BitWriter::new(bytes);
-    for (number, field) in head.iter().zip(layout.head.fields) {
+    for (number, field) in numbers.iter().zip(layout.head.fields) {
         writer.put(*number, field.width);
     }
-    put_pairs::<Deficits>(&mut writer, deficits);
-    put_pairs::<Entries>(&mut writer, entries);
+    if layout.head.has_entries() {
+        let (deficits, entries) = lists(layout, numbers);
+        put::<2, Deficits>(&mut writer, deficits);
+        match entries {
+            Entries::One(items) => put::<2, OneReduction>(&mut writer, items),
+            Entries::Two(items) => put::<3, TwoReductions>(&mut writer, items),
+        }
+    }
     writer.finish()
 }
 
-fn put_pairs<L: List>(writer: &mut BitWriter, pairs: &[[u64; 2]]) {
-    for [id, kw] in pairs {
-        writer.put(*id, L::ID.width);
-        writer.put(*kw, L::KW.width);
+fn put<const N: usize, L: List<N>>(writer: &mut BitWriter, items: &[[u64; N]]) {
+    for item in items {
+        for (number, field) in item.iter().zip(L::FIELDS) {
+            writer.put(*number, field.width);
+        }
     }
 }
 
-type Parts<'a> = (&'a [u64], &'a [[u64; 2]], &'a [[u64; 2]]);
+type Lists<'a> = (&'a [[u64; 2]], Entries<&'a [[u64; 2]], &'a [[u64; 3]]>);
 
-/// The head, the deficits and the entries of a record's numbers.
-fn parts<'a>(layout: &Layout, numbers: &'a [u64]) -> Parts<'a> {
-    let (head, lists) = numbers.split_at(layout.head.fields.len());
-    let (deficits, entries) = lists.as_chunks().0.split_at(layout.deficits);
-    (head, deficits, entries)
+/// The deficits and the entries among a record's numbers.
+fn lists<'a>(layout: &Layout, numbers: &'a [u64]) -> Lists<'a> {
+    let (before, entries) = numbers.split_at(layout.first_entry());
+    let deficits = &before[layout.head.fields.len()..];
+    let entries = match layout.head.has_two_reductions() {
+        true => Entries::Two(entries.as_chunks().0),
+        false => Entries::One(entries.as_chunks().0),
+    };
+    (deficits.as_chunks().0, entries)
 }

@@ -109,9 +109,15 @@ pub fn due_month(product: Product, month: u8) -> u8 {
     }
 }
 
-/// The daily charge before the cap, in thousandths of a cent; n counts on-peak events.
-pub fn uncapped(unforced: i64, rate: i64, off_peak: bool, n: i64) -> i64 {
-    unforced * rate / if off_peak { 52 } else { n.max(2) }
+/// The on-peak amount: a daily charge before the cap, in thousandths of a cent. n counts the events
+/// that list the registration, but those that are off-peak alone.
+pub fn on_peak_amount(unforced: i64, rate: i64, n: i64) -> i64 {
+    unforced * rate / n.max(2)
+}
+
+/// The off-peak amount: a daily charge before the cap too.
+pub fn off_peak_amount(unforced: i64, rate: i64) -> i64 {
+    unforced * rate / 52
 }
 
 /// The most that a registration is charged a day, in thousandths of a cent.

@@ -1,8 +1,8 @@
 //! A record still packed, with the questions that need no year.
 
 use crate::bits::first_word;
-use crate::layout::{self, has_entries, Layout, MOST_HEAD};
-use crate::lists::{Deficits, Entries, Findings, List};
+use crate::layout::{self, Layout, MOST_HEAD};
+use crate::lists::{Deficits, Entries, Findings, List, OneReduction, TwoReductions};
 
 /// A record that questions 1 to 5 let by.
 pub struct Packed<'a> {
@@ -38,21 +38,21 @@ impl<'a> Packed<'a> {
         if bytes.len() < head.bits.div_ceil(8) {
             return Err(2);
         }
-        let numbers = head.unpack(first_word(bytes));
-        let layout = Layout::new(head, &numbers);
+        let word = first_word(bytes);
+        let layout = Layout::of_word(head, word);
         if bytes.len() < layout.bytes() {
             return Err(2);
         }
         Ok(Packed {
             bytes,
             layout,
-            head: numbers,
+            head: head.unpack(word),
         })
     }
 
     /// Questions 3 to 5.
     fn ask(&self) -> Result<(), u64> {
-        let lists = match has_entries(self.head[0]) {
+        let lists = match self.layout.head.has_entries() {
             true => Findings::new(self.deficits(), self.entries()),
             false => Findings::default(),
         };
@@ -73,10 +73,15 @@ impl<'a> Packed<'a> {
         Deficits::unpack(self.bytes, start, self.layout.deficits)
     }
 
-    /// Each entry: a registration and its reduction.
-    pub fn entries(&self) -> impl Iterator<Item = [u64; 2]> + 'a {
-        let start = self.layout.entries_start();
-        Entries::unpack(self.bytes, start, self.layout.entries)
+    /// Each entry: a registration and its reduction, or its on-peak and its off-peak one.
+    pub fn entries(
+        &self,
+    ) -> Entries<impl Iterator<Item = [u64; 2]> + 'a, impl Iterator<Item = [u64; 3]> + 'a> {
+        let (start, count) = (self.layout.entries_start(), self.layout.entries);
+        match self.layout.head.has_two_reductions() {
+            true => Entries::Two(TwoReductions::unpack(self.bytes, start, count)),
+            false => Entries::One(OneReduction::unpack(self.bytes, start, count)),
+        }
     }
 
     fn filling_is_zero(&self) -> bool {

@@ -92,7 +92,7 @@ pub fn reduction(sample: Sample) -> Reduction {
 }
 
 /// The cells of a book's year.
-const CELLS: usize = 3767;
+const CELLS: usize = 4807;
 
 /// A book whose year lies in cells of its own, which only the library's calls write.
 #[derive(Clone, PartialEq, Eq)]

@@ -1,7 +1,8 @@
-//! The eight kinds of record.
+//! What the nine kinds of record say; two kinds are events.
 
 use crate::exact::narrow;
 use crate::fields::{REGISTRATIONS, SELLERS};
+use crate::lists::Entries;
 use crate::packed::Packed;
 
 #[derive(Clone, Copy, PartialEq, Eq, PartialOrd, Ord, Debug)]
@@ -64,10 +65,11 @@ pub struct Clearing {
 #[derive(Clone, Copy, Default)]
 pub struct Entry {
     pub registration: u8,
+    /// Where there are two, the on-peak one.
     pub reduction: u32,
 }
 
-/// The lists of an event or a test.
+/// The lists of an event, a test or a retest, which has no deficits.
 #[derive(Clone)]
 pub struct Lists {
     /// Deficit kilowatts by seller, 0 for a seller without one.
@@ -80,14 +82,40 @@ impl Lists {
     pub fn entries(&self) -> &[Entry] {
         &self.entries[..self.count]
     }
+
+    fn fill(&mut self, entries: impl Iterator<Item = [u64; 2]>) {
+        for (slot, [registration, reduction]) in self.entries.iter_mut().zip(entries) {
+            *slot = Entry {
+                registration: narrow(registration),
+                reduction: narrow(reduction),
+            };
+        }
+    }
+}
+
+/// By what an event measures shortfalls.
+#[derive(Clone)]
+pub enum Measured {
+    /// By on-peak reductions, or by one figure for both periods.
+    OnPeak,
+    OffPeak,
+    /// By on-peak reductions, which the entries have, and apart from them by these off-peak ones.
+    Apart(Vec<u32>),
 }
 
 #[derive(Clone)]
 pub struct Event {
     pub area: u8,
     pub month: u8,
-    pub off_peak: bool,
+    pub measured: Measured,
     pub lists: Lists,
+}
+
+impl Event {
+    /// Is it off-peak alone? Then it does not count in n, and no Limited registration may be called.
+    pub fn is_off_peak(&self) -> bool {
+        matches!(self.measured, Measured::OffPeak)
+    }
 }
 
 #[derive(Clone)]
@@ -103,7 +131,7 @@ pub struct Retest {
     pub zone: u8,
     pub product: Product,
     pub month: u8,
-    pub entries: Vec<Entry>,
+    pub lists: Lists,
 }
 
 pub enum Record {
@@ -131,10 +159,10 @@ impl From<&Packed<'_>> for Record {
                 id: narrow(head[1]),
                 obligation: narrow(head[2]),
             }),
-            4 => Record::Event(Event {
+            4 | 8 => Record::Event(Event {
                 area: narrow(head[1]),
                 month: narrow(head[2]),
-                off_peak: head[3] == 2,
+                measured: measured(packed),
                 lists: lists(packed),
             }),
             5 => Record::Test(Test {
@@ -156,7 +184,7 @@ impl From<&Packed<'_>> for Record {
                 zone: narrow(head[2]),
                 product: Product::new(head[3]),
                 month: narrow(head[4]),
-                entries: packed.entries().map(entry).collect(),
+                lists: lists(packed),
             }),
         }
     }
@@ -175,6 +203,16 @@ pub fn registration(numbers: &[u64; 8]) -> Registration {
     }
 }
 
+fn measured(packed: &Packed) -> Measured {
+    match packed.entries() {
+        Entries::Two(entries) => {
+            Measured::Apart(entries.map(|[_, _, off_peak]| narrow(off_peak)).collect())
+        }
+        Entries::One(_) if packed.head[3] == 2 => Measured::OffPeak,
+        Entries::One(_) => Measured::OnPeak,
+    }
+}
+
 fn lists(packed: &Packed) -> Lists {
     let mut lists = Lists {
         deficits: [0; SELLERS],
@@ -184,15 +222,9 @@ fn lists(packed: &Packed) -> Lists {
     for [seller, kw] in packed.deficits() {
         lists.deficits[narrow::<usize>(seller)] = narrow(kw);
     }
-    for (slot, pair) in lists.entries.iter_mut().zip(packed.entries()) {
-        *slot = entry(pair);
+    match packed.entries() {
+        Entries::One(entries) => lists.fill(entries),
+        Entries::Two(entries) => lists.fill(entries.map(|[id, on_peak, _]| [id, on_peak])),
     }
     lists
-}
-
-fn entry([registration, reduction]: [u64; 2]) -> Entry {
-    Entry {
-        registration: narrow(registration),
-        reduction: narrow(reduction),
-    }
 }

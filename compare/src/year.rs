@@ -35,7 +35,7 @@ pub struct Year {
     pub owed: Owed,
     /// Whether an accepted event lists a registration.
     pub is_called: [bool; REGISTRATIONS],
-    /// How many accepted on-peak events list a registration.
+    /// n: how many accepted events that are not off-peak alone list a registration.
     pub on_peak_events: [u8; REGISTRATIONS],
 }
 
@@ -78,7 +78,7 @@ impl Year {
         for entry in event.lists.entries() {
             let id = usize::from(entry.registration);
             self.is_called[id] = true;
-            self.on_peak_events[id] += u8::from(!event.off_peak);
+            self.on_peak_events[id] += u8::from(!event.is_off_peak());
         }
         self.events.push(event);
     }
@@ -86,7 +86,7 @@ impl Year {
     pub fn add_retest(&mut self, retest: &Retest) {
         self.retests
             .push((retest.seller, retest.zone, retest.product));
-        for entry in &retest.entries {
+        for entry in retest.lists.entries() {
             self.retested[usize::from(entry.registration)] = Some(entry.reduction);
         }
     }

@@ -12,7 +12,7 @@ use settlement::rates::{own, Rates};
 use settlement::statement::MOST_BYTES;
 use settlement::{bill_file, take_each, Book};
 
-const SEEDS: u64 = 300;
+const SEEDS: u64 = 600;
 
 const OPENING: &[u64] = &[1, 0, 9_500, 10_800];
 const LSES: [&[u64]; 2] = [&[3, 0, 3_000], &[3, 1, 1_000]];

@@ -6,8 +6,7 @@ use std::collections::{BTreeMap, BTreeSet};
 use settlement::account::to_date;
 use settlement::cases::plan::year;
 use settlement::cases::random::Random;
-use settlement::cases::record::{encode, Numbers};
-use settlement::cases::samples::reductions;
+use settlement::cases::record::{encode, entries, entries_mut, listed, Numbers};
 use settlement::cases::{take_calls, Call};
 use settlement::layout::MOST_NUMBERS;
 use settlement::owed::{Amounts, Owed};
@@ -104,22 +103,25 @@ fn sellers(h: &[Answered]) -> BTreeMap<u64, BTreeSet<u64>> {
 fn retested(h: &[Answered], seller: u64) -> BTreeSet<u64> {
     let records = h.iter().map(|answered| &answered.numbers);
     let own = records.filter(|numbers| is_retest_of(seller, numbers));
-    own.flat_map(|numbers| reductions(numbers).map(|at| numbers[at - 1]))
-        .collect()
+    own.flat_map(|numbers| listed(numbers)).collect()
 }
 
 fn is_retest_of(seller: u64, numbers: &[u64]) -> bool {
     matches!(*numbers, [9, whose, ..] if whose == seller)
 }
 
-/// The calls with a new reduction, by id and first one, in every entry of the records accepted.
+/// The calls with a new reduction, by id and first one, for every one of the records accepted; of two
+/// in an entry each is chosen on its own.
 fn with_reductions(h: &[Answered], mut new: impl FnMut(u64, u64) -> u64) -> Vec<Call> {
     let replace = |answered: &Answered| {
         let Call { mut bytes, room } = answered.call.clone();
         if answered.is_accepted() {
             let mut numbers = answered.numbers.clone();
-            for at in reductions(&numbers) {
-                numbers[at] = new(numbers[at - 1], numbers[at]);
+            for entry in entries_mut(&mut numbers) {
+                let id = entry[0];
+                for reduction in &mut entry[1..] {
+                    *reduction = new(id, *reduction);
+                }
             }
             bytes.splice(..answered.taken.consumed, encode(&numbers));
         }
@@ -142,6 +144,23 @@ fn g(random: &mut Random, h: &[Answered], seller: u64, registrations: &BTreeSet<
     })
 }
 
+/// Of the entries with two reductions in a record of H, in how many G has another on-peak one alone,
+/// another off-peak one alone, and both.
+fn replaced(in_h: &[u64], in_g: &[u64]) -> [usize; 3] {
+    let mut counts = [0; 3];
+    if in_h.first() == Some(&8) {
+        for (h, g) in entries(in_h).zip(entries(in_g)) {
+            match [h[1] != g[1], h[2] != g[2]] {
+                [true, false] => counts[0] += 1,
+                [false, true] => counts[1] += 1,
+                [true, true] => counts[2] += 1,
+                [false, false] => {}
+            }
+        }
+    }
+    counts
+}
+
 fn assert_same_charges(h: &Owed, g: &Owed, but_of: u64) {
     for (seller, (in_h, in_g)) in (0..).zip(h.sellers.iter().zip(g.sellers)) {
         if seller != but_of {
@@ -154,6 +173,7 @@ fn assert_same_charges(h: &Owed, g: &Owed, but_of: u64) {
 #[test]
 fn demand_3() {
     let [mut no_longer, mut newly] = [0; 2];
+    let mut figures = [0; 3];
     let mut compare = |seller: u64, in_h: &Answered, in_g: &Answered| {
         if is_retest_of(seller, &in_h.numbers) {
             // A seller's own figures decide its retest.
@@ -161,6 +181,12 @@ fn demand_3() {
             newly += usize::from(!in_h.is_accepted() && in_g.is_accepted());
         } else {
             assert_eq!(in_g.taken, in_h.taken);
+        }
+        for (sum, count) in figures
+            .iter_mut()
+            .zip(replaced(&in_h.numbers, &in_g.numbers))
+        {
+            *sum += count;
         }
         if let (Some(in_h), Some(in_g)) = (&in_h.statement, &in_g.statement) {
             assert_same_charges(in_h, in_g, seller);
@@ -185,4 +211,6 @@ fn demand_3() {
     }
     eprintln!("of a seller's retests {no_longer} no longer accepted, {newly} newly");
     assert!(no_longer > 100 && newly > 10);
+    eprintln!("on-peak, off-peak and both reductions of an entry replaced: {figures:?}");
+    assert!(figures.iter().all(|entries| *entries > 1_000));
 }

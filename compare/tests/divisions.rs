@@ -6,7 +6,7 @@ use settlement::account::to_date_and_divisions;
 use settlement::cases::record::file;
 use settlement::cases::{full_file, plausible_file};
 use settlement::owed::Allotment;
-use settlement::records::Event;
+use settlement::records::{Event, Measured, Product};
 use settlement::statement::MOST_BYTES;
 use settlement::{take_each, Book};
 
@@ -68,6 +68,31 @@ fn an_event_by_hand() {
     assert_eq!(at_closes, [1 + 2 + 3 + 2]);
 }
 
+#[test]
+fn an_event_measured_apart_by_hand() {
+    let year = [
+        vec![1, 0, 9_500, 10_800],
+        vec![2, 0, 0, 1, 1, 0, 1_000, 10_000],
+        vec![2, 1, 0, 1, 1, 2, 2_000, 15_000],
+        vec![2, 2, 0, 1, 1, 2, 1_000, 20_000],
+        vec![2, 3, 1, 1, 1, 2, 2_000, 15_000],
+        vec![3, 0, 3_000],
+        vec![3, 1, 1_000],
+        [
+            vec![8, 1, 1, 0, 4],
+            vec![0, 600, 0, 1, 1_600, 1_900, 2, 1_000, 0, 3, 2_100, 2_400],
+        ]
+        .concat(),
+        vec![6, 1],
+    ];
+    // Seller 0 is short on-peak: 3 for its entries' u. Off-peak 2 more, since its Limited one is left
+    // out, and none for seller 1, which is not short. Seller 1 is over: 1 for e. Then 4 entries share
+    // the charges, and 2 LSEs what is left of them.
+    let mut at_closes = Vec::new();
+    each_close(&file(&year), |book| at_closes.push(told(book)));
+    assert_eq!(at_closes, [3 + 2 + 1 + 4 + 2]);
+}
+
 /// The parties of an event's allotments, of each whose weights are not all 0: u, e and credits.
 fn parties(book: &Book, event: &Event) -> usize {
     let year = book.year().expect("a year");
@@ -88,16 +113,41 @@ fn parties(book: &Book, event: &Event) -> usize {
     sellers.values().map(of_seller).sum()
 }
 
+/// The parties of the off-peak allotments, where both periods are measured apart: no Limited one.
+fn parties_off_peak(book: &Book, event: &Event) -> usize {
+    let year = book.year().expect("a year");
+    let Measured::Apart(reductions) = &event.measured else {
+        return 0;
+    };
+    let mut sellers = BTreeMap::<u8, (usize, bool)>::new();
+    for (entry, reduction) in event.lists.entries().iter().zip(reductions) {
+        let registration = year.registration(entry);
+        if registration.product != Product::Limited {
+            let (entries, is_short) = sellers.entry(registration.seller).or_default();
+            *entries += 1;
+            *is_short |= *reduction < registration.committed;
+        }
+    }
+    let short = sellers.values().filter(|(_, is_short)| *is_short);
+    short.map(|(entries, _)| entries).sum()
+}
+
 #[test]
 fn one_a_party_at_every_close() {
-    let check = |book: &Book| {
+    let mut off_peak = 0;
+    let mut check = |book: &Book| {
         let year = book.year().expect("a year");
-        let of_events: usize = year.events.iter().map(|event| parties(book, event)).sum();
+        let events = || year.events.iter();
+        let of_events: usize = events().map(|event| parties(book, event)).sum();
+        let apart: usize = events().map(|event| parties_off_peak(book, event)).sum();
         let lses = year.lses.iter().flatten().count();
-        assert_eq!(told(book), of_events + lses);
+        assert_eq!(told(book), of_events + apart + lses);
+        off_peak += apart;
     };
     for seed in 0..SEEDS {
-        each_close(&plausible_file(seed), check);
-        each_close(&full_file(seed), check);
+        each_close(&plausible_file(seed), &mut check);
+        each_close(&full_file(seed), &mut check);
     }
+    eprintln!("{off_peak} parties off-peak");
+    assert!(off_peak > 100_000);
 }

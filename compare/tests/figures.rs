@@ -1,7 +1,7 @@
 //! The figures of Year A and its edges, and those of clearings in it.
 
 use settlement::layout::MOST_BYTES;
-use settlement::owed::{cap, convert, due_month, uncapped, Allotment};
+use settlement::owed::{cap, convert, due_month, off_peak_amount, on_peak_amount, Allotment};
 use settlement::records::{Opening, Product};
 use settlement::{bill_file, statement, Book};
 
@@ -49,13 +49,13 @@ fn definitions() {
     assert_eq!(allot(10, [1, 1, 1]), [3, 3, 4]);
     assert_eq!(allot(10, [0, 5]), [0, 10]);
     assert_eq!(allot(10, [0]), [0]);
-    assert_eq!(uncapped(410, 10_000, false, 1), 2_050_000);
-    assert_eq!(uncapped(410, 10_000, false, 2), 2_050_000);
-    assert_eq!(uncapped(410, 10_000, false, 3), 1_366_666);
-    assert_eq!(uncapped(410, 10_000, true, 3), 78_846);
+    assert_eq!(on_peak_amount(410, 10_000, 1), 2_050_000);
+    assert_eq!(on_peak_amount(410, 10_000, 2), 2_050_000);
+    assert_eq!(on_peak_amount(410, 10_000, 3), 1_366_666);
+    assert_eq!(off_peak_amount(410, 10_000), 78_846);
     let cap = cap(&YEAR_A, 1_000, 10_000);
     assert_eq!(cap, 10_260_000);
-    assert_eq!(2 * uncapped(1_026, 10_000, false, 2), cap);
+    assert_eq!(2 * on_peak_amount(1_026, 10_000, 2), cap);
     assert_eq!(due_month(Product::Limited, 1), 5);
     assert_eq!(due_month(Product::Limited, 4), 7);
     assert_eq!(due_month(Product::Annual, 12), 15);
@@ -159,5 +159,5 @@ fn clearings_refused() {
     assert_eq!(bill(&[clearing; 5]), "N 10 17\n");
     assert_eq!(bill(&[JUNE_TEST, clearing]), "N 7 7\n");
     assert_eq!(bill_file(&record(clearing)), b"N 1 6\n");
-    assert_eq!(bill_file(&[0x80]), b"N 1 1\n");
+    assert_eq!(bill_file(&[0xA0]), b"N 1 1\n");
 }

@@ -60,6 +60,21 @@ static void reads_and_writes(void)
     expect(piermint_write(expected, 4, bytes, 4, &used) == 16 && used == 0, "no room for bytes: 16");
 }
 
+/* An event of two reductions, 8 1 1 0 1 0 600 2100, there and back. */
+static void takes_two_reductions(void)
+{
+    static const uint8_t expected[] = {0x82, 0x20, 0x02, 0x00, 0x09, 0x60, 0x10, 0x68};
+    static const uint64_t event[] = {8, 1, 1, 0, 1, 0, 600, 2100};
+    uint64_t numbers[PIERMINT_NUMBERS];
+    uint8_t bytes[8];
+    size_t count = 99, used = 99;
+
+    expect(piermint_write(event, 8, bytes, sizeof bytes, &used) == 0 && used == 8, "two reductions are written");
+    expect(memcmp(bytes, expected, used) == 0, "bit for bit");
+    expect(piermint_read(bytes, used, numbers, PIERMINT_NUMBERS, &count, &used) == 0, "and read");
+    expect(count == 8 && memcmp(numbers, event, sizeof event) == 0, "to the same numbers");
+}
+
 /* Samples as the bits of binary32, and what they are answered with. */
 static void answers_samples(void)
 {
@@ -249,6 +264,7 @@ int main(int argc, char **argv)
     fclose(file);
 
     reads_and_writes();
+    takes_two_reductions();
     answers_samples();
     writes_samples(year);
     bills(year, length);

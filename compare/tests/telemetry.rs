@@ -4,8 +4,8 @@ use std::collections::BTreeMap;
 
 use settlement::cases::plan::{full_year, year};
 use settlement::cases::random::Random;
-use settlement::cases::record::{file, Numbers};
-use settlement::cases::samples::{eighths, reductions, sample_of, samples};
+use settlement::cases::record::{entries, entries_mut, file, Numbers};
+use settlement::cases::samples::{eighths, sample_of, samples};
 use settlement::layout::MOST_BYTES;
 use settlement::telemetry::{reduction, Reduction, Sample};
 use settlement::{bill_file, lines};
@@ -197,35 +197,41 @@ fn year_a_by_samples() {
 
     let event = [4, 1, 1, 1, 0, 2, 0, first, 1, second];
     assert_eq!(write(&event), write(&[4, 1, 1, 1, 0, 2, 0, 600, 1, 2_100]));
+    let apart = [8, 1, 1, 0, 1, 0, first, second];
+    assert_eq!(write(&apart), write(&[8, 1, 1, 0, 1, 0, 600, 2_100]));
 }
 
 /// The record with each reduction made from a sample, one that is answered with its kW.
 fn by_samples(random: &mut Random, numbers: &[u64]) -> Numbers {
     let mut made = numbers.to_vec();
-    for at in reductions(numbers) {
-        let answer = reduction(sample_of(random, numbers[at]));
+    for kw in entries_mut(&mut made).flat_map(|entry| &mut entry[1..]) {
+        let answer = reduction(sample_of(random, *kw));
         assert_eq!(answer.number, 0);
-        made[at] = answer.kw;
+        *kw = answer.kw;
     }
     made
 }
 
 #[test]
 fn generated_years_by_samples() {
-    let mut entries = 0;
+    let [mut single, mut apart] = [0; 2];
     for seed in 0..SEEDS {
         let random = &mut Random::new(seed);
-        for typed in [year(random), full_year(random)] {
+        for typed in [year(random), full_year(random, 50)] {
             let made = typed.iter().map(|numbers| by_samples(random, numbers));
             let made: Vec<Numbers> = made.collect();
             assert_eq!(made, typed);
             let written: Vec<u8> = made.iter().flat_map(|numbers| write(numbers)).collect();
             assert_eq!(written, file(&typed));
             assert_eq!(bill_file(&written), bill_file(&file(&typed)));
-            let reductions = typed.iter().flat_map(|numbers| reductions(numbers));
-            entries += reductions.count();
+            for entry in typed.iter().flat_map(|numbers| entries(numbers)) {
+                match entry {
+                    [_, _] => single += 1,
+                    _ => apart += 1,
+                }
+            }
         }
     }
-    eprintln!("{entries} entries");
-    assert!(entries > 100_000);
+    eprintln!("{single} entries of one reduction, {apart} of two");
+    assert!(single > 100_000 && apart > 100_000);
 }

@@ -6,7 +6,7 @@ use std::{env, fs};
 use settlement::{bill_file, lines};
 
 /// The requests that are in, in order; one that brings vectors has a folder beside the base's.
-const REQUESTS: [&str; 6] = ["C-11", "C-12", "C-13", "C-14", "C-15", "C-16"];
+const REQUESTS: [&str; 7] = ["C-11", "C-12", "C-13", "C-14", "C-15", "C-16", "C-17"];
 
 /// The vectors of the base or of a request.
 struct Set {

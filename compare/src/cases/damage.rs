@@ -1,9 +1,10 @@
 //! Records changed in one way each: fields, counts and ids that are not permitted, bits and bytes.
 
+use std::iter::repeat_n;
+
 use super::random::Random;
 use super::record::{encode, layout, Numbers};
 use crate::exact::widen;
-use crate::layout::{has_deficits, has_entries};
 
 /// A record of the right length that may not belong here.
 pub fn misfit(random: &mut Random, year: &[Numbers], numbers: &[u64]) -> Vec<u8> {
@@ -51,13 +52,9 @@ fn with_filling(mut record: Vec<u8>) -> Vec<u8> {
 
 /// The places whose number may change without changing the record's length.
 fn free_places(numbers: &[u64]) -> Vec<usize> {
-    let gives_length = |at: usize| match at {
-        0 => true,
-        4 => has_deficits(numbers[0]),
-        5 => has_entries(numbers[0]),
-        _ => false,
-    };
-    (0..numbers.len()).filter(|at| !gives_length(*at)).collect()
+    let counts = layout(numbers).head.counts();
+    let gives_length = |at: &usize| *at == 0 || counts.contains(at);
+    (0..numbers.len()).filter(|at| !gives_length(at)).collect()
 }
 
 /// Puts an edge, or a neighbour of its value, into one field; the length stays.
@@ -92,12 +89,23 @@ pub fn all_edges(numbers: &[u64]) -> Vec<Numbers> {
 
 /// Repeats or swaps two ids of a list, if there are two.
 pub fn with_ids_out_of_order(random: &mut Random, numbers: &[u64]) -> Numbers {
+    let layout = layout(numbers);
+    let neighbours = |first: usize, count: usize, length: usize| {
+        (1..count).map(move |at| [first + (at - 1) * length, first + at * length])
+    };
+    let sellers = neighbours(layout.head.fields.len(), layout.deficits, 2);
+    let registrations = neighbours(
+        layout.first_entry(),
+        layout.entries,
+        layout.head.entry.len(),
+    );
+    let places: Vec<[usize; 2]> = sellers.chain(registrations).collect();
     let mut numbers = numbers.to_vec();
-    if numbers.len() >= 10 {
-        let at = 6 + 2 * random.below((numbers.len() - 8) / 2);
-        numbers.swap(at, at + 2);
+    if !places.is_empty() {
+        let [one, next] = random.pick(&places);
+        numbers.swap(one, next);
         if random.chance(50) {
-            numbers[at] = numbers[at + 2];
+            numbers[one] = numbers[next];
         }
     }
     numbers
@@ -105,10 +113,11 @@ pub fn with_ids_out_of_order(random: &mut Random, numbers: &[u64]) -> Numbers {
 
 /// Takes the last entry off an event, a test or a retest that has more.
 fn without_last_entry(numbers: &[u64]) -> Numbers {
+    let layout = layout(numbers);
     let mut numbers = numbers.to_vec();
-    if has_entries(numbers[0]) && numbers[5] > 1 {
-        numbers[5] -= 1;
-        numbers.truncate(numbers.len() - 2);
+    if layout.entries > 1 {
+        numbers[layout.head.fields.len() - 1] -= 1;
+        numbers.truncate(numbers.len() - layout.head.entry.len());
     }
     numbers
 }
@@ -118,7 +127,7 @@ fn with_other_month(random: &mut Random, numbers: &[u64]) -> Numbers {
     let mut numbers = numbers.to_vec();
     let month = 1 + widen(random.below(12));
     match numbers[0] {
-        4 => numbers[2] = month,
+        4 | 8 => numbers[2] = month,
         5 => numbers[3] = month,
         9 => numbers[4] = month,
         _ => {}
@@ -135,11 +144,12 @@ pub fn with_edge_counts(random: &mut Random, numbers: &[u64]) -> Numbers {
 /// An event, a test or a retest with lists of every length that a count can give; none of another
 /// record.
 pub fn all_counts(numbers: &[u64]) -> Vec<Numbers> {
+    let head = layout(numbers).head;
     let mut records = Vec::new();
-    if has_deficits(numbers[0]) {
+    if head.has_deficits {
         records.extend((0..32).map(|deficits| with_counts(numbers, deficits, 2)));
     }
-    if has_entries(numbers[0]) {
+    if head.has_entries() {
         records.extend((0..128).map(|entries| with_counts(numbers, 1, entries)));
     }
     records
@@ -147,15 +157,19 @@ pub fn all_counts(numbers: &[u64]) -> Vec<Numbers> {
 
 /// Gives an event, a test or a retest new lists of these lengths; other records stay.
 fn with_counts(numbers: &[u64], deficits: u64, entries: u64) -> Numbers {
-    if !has_entries(numbers[0]) {
+    let head = layout(numbers).head;
+    if !head.has_entries() {
         return numbers.to_vec();
     }
-    let mut numbers = [&numbers[..5], &[entries]].concat();
-    if has_deficits(numbers[0]) {
-        numbers[4] = deficits;
-        numbers.extend((0..deficits).flat_map(|seller| [seller % 16, 1]));
+    let mut numbers = numbers[..head.counts().start].to_vec();
+    let deficits = head.has_deficits.then_some(deficits);
+    numbers.extend(deficits);
+    numbers.push(entries);
+    numbers.extend((0..deficits.unwrap_or(0)).flat_map(|seller| [seller % 16, 1]));
+    for registration in 0..entries {
+        numbers.push(registration % 64);
+        numbers.extend(repeat_n(0, head.entry.len() - 1));
     }
-    numbers.extend((0..entries).flat_map(|registration| [registration % 64, 0]));
     numbers
 }
 

@@ -54,7 +54,7 @@ pub fn plausible_file(seed: u64) -> Vec<u8> {
 
 /// A full year, all of whose records are accepted.
 pub fn full_file(seed: u64) -> Vec<u8> {
-    file(&full_year(&mut Random::new(seed)))
+    file(&full_year(&mut Random::new(seed), 50))
 }
 
 /// A plausible year of few parties.
@@ -75,10 +75,10 @@ fn file_of_edges(seed: u64) -> Vec<u8> {
     file(&records)
 }
 
-/// A plausible year; before its first event, test and retest come lists of every length.
+/// A plausible year; before its first event of either kind, test and retest come lists of every length.
 fn file_of_counts(seed: u64) -> Vec<u8> {
     let mut year = year(&mut Random::new(seed));
-    for kind in [4, 5, 9] {
+    for kind in [4, 5, 8, 9] {
         if let Some(at) = year.iter().position(|numbers| numbers[0] == kind) {
             let counts = all_counts(&year[at]);
             year.splice(at..at, counts);
@@ -148,13 +148,14 @@ fn is_close(numbers: &[u64]) -> bool {
     numbers[0] == 6
 }
 
-/// Calls that read alone.
+/// Calls that read alone, into buffers about as long as reading asks for, now and before C-17.
 pub fn read_calls(seed: u64) -> Vec<Call> {
     let mut calls = take_calls(seed);
     let random = &mut Random::new(seed);
     for call in &mut calls {
         let least = MOST_NUMBERS;
-        call.room = random.pick(&[0, least - 1, least, least, least, least + 1, 300]);
+        let too_small = random.pick(&[0, 165, 166, 167, least - 1, least - 1]);
+        call.room = random.pick(&[too_small, least, least, least + 1, 300]);
     }
     calls
 }

@@ -20,7 +20,7 @@ pub fn opening_and_parties(
 
 fn opening(random: &mut Random) -> Numbers {
     let leap = random.value(0, 1);
-    let factors = match random.chance(50) {
+    let factors = match random.chance(75) {
         true => [9_500, 10_800],
         false => [random.value(1, 12_000), random.value(1, 12_000)],
     };
@@ -36,11 +36,14 @@ pub fn registrations_of_few_places(random: &mut Random, count: usize) -> Vec<Num
     let areas = few_places(random);
     let mut zones = few_places(random);
     let mut products = some_ids(random, 3);
-    // In most years sellers have several in a zone and product, so that a small part may fail a test.
-    if random.chance(60) {
+    // In most years sellers have several in a zone, so that an event lists a seller's of many products,
+    // or in a zone and product, so that a small part may fail a test.
+    if random.chance(80) {
         sellers.truncate(1 + count / 8);
         zones.truncate(1);
-        products.truncate(1);
+        if random.chance(50) {
+            products.truncate(1);
+        }
     }
     // In some years nearly all commit the same, so that a quarter may fail to the kW.
     let common = random.chance(25).then(|| random.value(1, 99_999));

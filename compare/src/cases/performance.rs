@@ -3,6 +3,7 @@
 use std::collections::BTreeMap;
 
 use super::random::Random;
+use super::record::Numbers;
 use crate::records::Registration;
 
 /// A registration that is listed, and its reduction.
@@ -28,6 +29,11 @@ pub fn alike(random: &mut Random, listed: &[Registration]) -> Vec<Performed> {
     ]);
     let perform = |r: &Registration| (*r, reduction(random, performance, r.committed.into()));
     listed.iter().map(perform).collect()
+}
+
+/// None reduces anything.
+pub fn failing(listed: &[Registration]) -> Vec<Performed> {
+    listed.iter().map(|r| (*r, 0)).collect()
 }
 
 /// Of each seller's kW a quarter at most is short, or one kW more.
@@ -61,6 +67,15 @@ fn reduction(random: &mut Random, performance: Performance, committed: u64) -> u
 }
 
 /// The numbers of the entries.
-pub fn entries(performed: &[Performed]) -> impl Iterator<Item = u64> + '_ {
-    performed.iter().flat_map(|(r, kw)| [r.id.into(), *kw])
+pub fn entries(performed: &[Performed]) -> Numbers {
+    let entry = |(r, kw): &Performed| [r.id.into(), *kw];
+    performed.iter().flat_map(entry).collect()
+}
+
+/// The numbers of the entries with a second reduction each.
+pub fn entries_apart(on_peak: &[Performed], off_peak: &[Performed]) -> Numbers {
+    let entry = |((r, on_peak), (_, off_peak)): (&Performed, &Performed)| {
+        [r.id.into(), *on_peak, *off_peak]
+    };
+    on_peak.iter().zip(off_peak).flat_map(entry).collect()
 }

@@ -8,7 +8,7 @@ use super::parties::{
     opening_and_parties, registrations_of_all_zones, registrations_of_few_places,
     zones_and_products,
 };
-use super::performance::{alike, entries, few_short, Performed};
+use super::performance::{alike, entries, entries_apart, failing, few_short};
 use super::random::Random;
 use super::record::Numbers;
 use super::retests::Results;
@@ -38,11 +38,16 @@ fn any_year(random: &mut Random, registrations: usize, lses: usize) -> Vec<Numbe
     let registrations = registrations_of_few_places(random, registrations);
     // With 7, tests are charged for months before an event may list what they tested.
     let first_call = random.pick(&[0, 1, 2, 4, 7]);
-    let percent_late = random.pick(&[0, 50, 100]);
-    let mut plan = Plan::new(random, &registrations, first_call, percent_late);
+    let percent = Percent {
+        late: random.pick(&[0, 50, 100]),
+        apart: random.pick(&[20, 50, 80]),
+        // With 60, caps are used up.
+        failing: random.pick(&[0, 0, 60]),
+    };
+    let mut plan = Plan::new(random, &registrations, first_call, percent);
     let registrations = some_cleared(random, registrations);
     let mut records = opening_and_parties(random, registrations, lses);
-    let busyness = random.pick(&[2, 3, 5]);
+    let busyness = random.pick(&[2, 4, 6]);
     for z in (0..).take(CLOSES) {
         // One more in the last month without events, so that a calm year has a test too.
         let more = usize::from(z + 1 == plan.first_call);
@@ -58,11 +63,17 @@ fn any_year(random: &mut Random, registrations: usize, lses: usize) -> Vec<Numbe
 }
 
 /// A year with no room left: 64 registrations of 4 clearings each, 16 LSEs, 24 tests, 16 events of
-/// 64 entries. No event comes late, so that an engine from before C-16 takes the year too.
-pub fn full_year(random: &mut Random) -> Vec<Numbers> {
+/// 64 entries, of which so many of 100 measure both periods apart. No event comes late, so that
+/// without such ones an engine from before C-16 takes the year too.
+pub fn full_year(random: &mut Random, percent_apart: usize) -> Vec<Numbers> {
     let registrations = registrations_of_all_zones(random);
     let first_call = random.pick(&[0, 1, 2, 4]);
-    let mut plan = Plan::new(random, &registrations, first_call, 0);
+    let percent = Percent {
+        late: 0,
+        apart: percent_apart,
+        failing: 0,
+    };
+    let mut plan = Plan::new(random, &registrations, first_call, percent);
     let registrations = all_cleared(random, registrations);
     let mut records = opening_and_parties(random, registrations, 16);
     let mut tests = zones_and_products();
@@ -98,6 +109,14 @@ fn close_after(z: u8) -> Numbers {
     vec![6, u64::from(z) + 1]
 }
 
+/// Of 100 events so many may come late, and so many measure both periods apart; of 100 lists of an event's
+/// reductions at least so many are of zeros.
+struct Percent {
+    late: usize,
+    apart: usize,
+    failing: usize,
+}
+
 /// What a year's events and tests so far leave open.
 struct Plan {
     registrations: Vec<Registration>,
@@ -105,8 +124,7 @@ struct Plan {
     results: Results,
     /// No event comes before so many closes.
     first_call: u8,
-    /// Of 100 events so many may come late.
-    percent_late: usize,
+    percent: Percent,
     percent_of_tests: usize,
 }
 
@@ -115,7 +133,7 @@ impl Plan {
         random: &mut Random,
         registrations: &[Numbers],
         first_call: u8,
-        percent_late: usize,
+        percent: Percent,
     ) -> Self {
         let parse = |numbers: &Numbers| registration(numbers[..].try_into().expect("8 numbers"));
         let mut registrations: Vec<Registration> = registrations.iter().map(parse).collect();
@@ -125,7 +143,7 @@ impl Plan {
             called: BTreeSet::new(),
             results: Results::default(),
             first_call,
-            percent_late,
+            percent,
             percent_of_tests: random.pick(&[4, 20, 60]),
         }
     }
@@ -139,15 +157,26 @@ impl Plan {
     }
 
     fn event(&mut self, random: &mut Random, z: u8) -> Option<Numbers> {
-        let may_be_late = random.chance(self.percent_late);
-        let month = random
-            .month(|month| month_has_begun(month, z) && (may_be_late || !comes_late(month, z)));
-        let period = random.value(1, 3);
+        let month = self.month(random, z);
         let area = random.pick(&self.registrations).area;
-        let may = |r: &Registration| r.area == area && may_be_called(r.product, month, period == 2);
+        let period = random.value(1, 3);
+        let head = self.head(random, area, month, period);
+        let is_off_peak = matches!(head[..], [4, _, _, 2]);
+        let may = |r: &Registration| r.area == area && may_be_called(r.product, month, is_off_peak);
         let percent = random.pick(&[100, 100, 60, 10]);
         let listed = random.some(&self.those(may), percent);
-        self.event_of(random, [4, area.into(), month.into(), period], &listed)
+        self.event_of(random, &head, &listed)
+    }
+
+    /// A month for an event with z months closed, often one in which every product may be called.
+    fn month(&self, random: &mut Random, z: u8) -> u8 {
+        let may_be_late = random.chance(self.percent.late);
+        let may = |month| month_has_begun(month, z) && (may_be_late || !comes_late(month, z));
+        let calls_all = |month| may(month) && may_be_called(Product::Limited, month, false);
+        match random.chance(40) && (1..=12).any(calls_all) {
+            true => random.month(calls_all),
+            false => random.month(may),
+        }
     }
 
     /// An event in time that lists all registrations, which are of one area.
@@ -157,21 +186,36 @@ impl Plan {
                 && !comes_late(month, z)
                 && may_be_called(Product::Limited, month, false)
         });
-        let area = self.registrations[0].area;
         let period = random.pick(&[1, 3]);
+        let head = self.head(random, self.registrations[0].area, month, period);
         let listed = self.registrations.clone();
-        self.event_of(random, [4, area.into(), month.into(), period], &listed)
+        self.event_of(random, &head, &listed)
+    }
+
+    /// The head up to the counts of an event of this period, or of one that measures both apart.
+    fn head(&self, random: &mut Random, area: u8, month: u8, period: u64) -> Numbers {
+        match random.chance(self.percent.apart) {
+            true => vec![8, area.into(), month.into()],
+            false => vec![4, area.into(), month.into(), period],
+        }
     }
 
     fn event_of(
         &mut self,
         random: &mut Random,
-        head: [u64; 4],
+        head: &[u64],
         listed: &[Registration],
     ) -> Option<Numbers> {
         self.called.extend(listed.iter().map(|r| r.id));
-        let performed = alike(random, listed);
-        with_lists(random, head, &performed)
+        let mut perform = || match random.chance(self.percent.failing) {
+            true => failing(listed),
+            false => alike(random, listed),
+        };
+        let entries = match head[0] {
+            8 => entries_apart(&perform(), &perform()),
+            _ => entries(&perform()),
+        };
+        with_lists(random, head, listed, &entries)
     }
 
     fn test(&mut self, random: &mut Random, z: u8) -> Option<Numbers> {
@@ -200,7 +244,7 @@ impl Plan {
             return None;
         }
         let head = [5, zone.into(), product.number(), month.into()];
-        with_lists(random, head, &performed)
+        with_lists(random, &head, &listed, &entries(&performed))
     }
 
     fn retest(&mut self, random: &mut Random, z: u8) -> Option<Numbers> {
@@ -216,19 +260,24 @@ impl Plan {
     }
 }
 
-/// Puts the lists behind the head of an event or a test; none if nobody is listed.
-fn with_lists(random: &mut Random, head: [u64; 4], performed: &[Performed]) -> Option<Numbers> {
-    let sellers: BTreeSet<u8> = performed.iter().map(|(r, _)| r.seller).collect();
+/// Puts deficits and entries behind the head of an event or a test; none if nobody is listed.
+fn with_lists(
+    random: &mut Random,
+    head: &[u64],
+    listed: &[Registration],
+    entries: &[u64],
+) -> Option<Numbers> {
+    let sellers: BTreeSet<u8> = listed.iter().map(|r| r.seller).collect();
     let sellers: Vec<u8> = sellers.into_iter().collect();
     let percent = random.pick(&[0, 20, 100]);
     let short = random.some(&sellers, percent);
     let mut numbers = head.to_vec();
-    numbers.extend([widen(short.len()), widen(performed.len())]);
+    numbers.extend([widen(short.len()), widen(listed.len())]);
     for seller in short {
         numbers.extend([seller.into(), deficit(random)]);
     }
-    numbers.extend(entries(performed));
-    (!performed.is_empty()).then_some(numbers)
+    numbers.extend(entries);
+    (!listed.is_empty()).then_some(numbers)
 }
 
 fn deficit(random: &mut Random) -> u64 {

@@ -1,7 +1,6 @@
 //! Samples of telemetry from chance: values of every sort, and samples of a given reduction.
 
 use super::random::Random;
-use super::record::layout;
 use crate::exact::{narrow, widen};
 use crate::telemetry::Sample;
 
@@ -143,12 +142,4 @@ pub fn sample_of(random: &mut Random, kw: u64) -> Sample {
             pair(eighths(metered + reduced), eighths(metered))
         }
     }
-}
-
-/// The places of an event's, a test's or a retest's reductions among its numbers; none in another
-/// record.
-pub fn reductions(numbers: &[u64]) -> impl Iterator<Item = usize> {
-    let layout = layout(numbers);
-    let entries = layout.head.fields.len() + 2 * layout.deficits;
-    (entries + 1..numbers.len()).step_by(2)
 }

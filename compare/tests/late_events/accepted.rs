@@ -2,12 +2,14 @@
 
 use std::collections::{BTreeMap, BTreeSet};
 
-use settlement::cases::samples::reductions;
-use settlement::exact::narrow;
+use settlement::cases::record::{deficits, listed};
 
-/// The registrations that an event, a test or a retest lists.
-fn listed(numbers: &[u64]) -> impl Iterator<Item = u64> + '_ {
-    reductions(numbers).map(|at| numbers[at - 1])
+/// The period of an event; kind 8 spans both.
+fn period(event: &[u64]) -> u64 {
+    match event[0] {
+        8 => 3,
+        _ => event[3],
+    }
 }
 
 /// The months in which a product may be called in a period.
@@ -53,10 +55,10 @@ impl Accepted {
                 self.registrations.insert(id, registration);
             }
             [3, ..] => self.has_lse = true,
-            [4, _, _, period, ..] => {
+            [4 | 8, ..] => {
                 self.events += 1;
                 self.called.extend(listed(numbers));
-                for id in listed(numbers).filter(|_| period != 2) {
+                for id in listed(numbers).filter(|_| period(numbers) != 2) {
                     *self.on_peak_events.entry(id).or_default() += 1;
                 }
             }
@@ -74,12 +76,10 @@ impl Accepted {
 
     /// The number that an event gets past question 5, and why.
     pub fn answer(&self, event: &[u64]) -> (u64, &'static str) {
-        let [_, _, month, period, ..] = *event else {
-            panic!("no event: {event:?}");
-        };
+        let month = event[2];
         let can_be_called = |id: u64| {
             let product = self.registrations[&id].product;
-            callable(product, period).contains(&month)
+            callable(product, period(event)).contains(&month)
         };
         if !self.has_opening {
             (6, "no year")
@@ -108,8 +108,8 @@ impl Accepted {
         let known = || listed(event).map(|id| self.registrations.get(&id));
         let is_in_area = |r: &Registration| r.area == event[1];
         let has_entry = |seller| known().flatten().any(|r| r.seller == seller);
-        let mut deficits = event[6..].chunks(2).take(narrow(event[4]));
-        known().all(|r| r.is_some_and(is_in_area)) && deficits.all(|pair| has_entry(pair[0]))
+        let mut deficits = deficits(event);
+        known().all(|r| r.is_some_and(is_in_area)) && deficits.all(|[seller, _]| has_entry(*seller))
     }
 
     /// The number by document 01, whose question 11 refuses a late event.
@@ -129,7 +129,10 @@ impl Accepted {
             uncalled.any(|id| ids.contains(&id))
         };
         let remarks = [
-            ("reprices", event[3] != 2 && listed(event).any(is_repriced)),
+            (
+                "reprices",
+                period(event) != 2 && listed(event).any(is_repriced),
+            ),
             ("first to call a tested one", is_first_of(&self.tested)),
             ("first to call a retested one", is_first_of(&self.retested)),
         ];

@@ -25,7 +25,7 @@ fn each_with_accepted(file: &[u8], mut receive: impl FnMut(&[u64], &Accepted, u6
 /// Hands on each event that can be read, in the same way.
 fn each_event(file: &[u8], mut receive: impl FnMut(&[u64], &Accepted, u64)) {
     each_with_accepted(file, |numbers, accepted, number| {
-        if let [4, ..] = numbers {
+        if let [4 | 8, ..] = numbers {
             receive(numbers, accepted, number);
         }
     });
@@ -67,7 +67,7 @@ fn every_reason_comes_up() {
 fn without_late_events(file: &[u8]) -> Vec<u8> {
     let mut others = Vec::new();
     each_with_accepted(file, |numbers, accepted, _| {
-        if !matches!(numbers, [4, ..] if accepted.is_late(numbers)) {
+        if !matches!(numbers, [4 | 8, ..] if accepted.is_late(numbers)) {
             others.extend(encode(numbers));
         }
     });

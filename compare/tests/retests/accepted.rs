@@ -2,15 +2,15 @@
 
 use std::collections::{BTreeMap, BTreeSet};
 
-use settlement::cases::record::Numbers;
-use settlement::cases::samples::reductions;
+use settlement::cases::record::{self, listed, Numbers};
 
 /// Registrations and their reductions.
 pub type Entries = BTreeMap<u64, u64>;
 
+/// Those of a test or a retest.
 pub fn entries(numbers: &[u64]) -> Entries {
-    let places = reductions(numbers);
-    places.map(|at| (numbers[at - 1], numbers[at])).collect()
+    let entries = record::entries(numbers);
+    entries.map(|entry| (entry[0], entry[1])).collect()
 }
 
 struct Registration {
@@ -43,7 +43,7 @@ impl Accepted {
                 };
                 self.registrations.insert(id, registration);
             }
-            [4, ..] => self.called.extend(entries(numbers).keys()),
+            [4 | 8, ..] => self.called.extend(listed(numbers)),
             [5, zone, product, ..] => {
                 self.tests.insert((zone, product), numbers.to_vec());
             }
@@ -136,7 +136,7 @@ impl Accepted {
     /// What is remarkable about a record that is accepted next.
     pub fn remarks(&self, numbers: &[u64]) -> Vec<&'static str> {
         let remarks = match numbers[0] {
-            4 => vec![("calls a retested one", self.calls_a_retested_one(numbers))],
+            4 | 8 => vec![("calls a retested one", self.calls_a_retested_one(numbers))],
             9 => self.remarks_on_retest(numbers),
             _ => Vec::new(),
         };
@@ -145,9 +145,8 @@ impl Accepted {
     }
 
     fn calls_a_retested_one(&self, event: &[u64]) -> bool {
-        let listed = entries(event);
-        let mut retested = self.retests.values().flat_map(|retest| entries(retest));
-        retested.any(|(id, _)| listed.contains_key(&id))
+        let mut retested = self.retests.values().flat_map(|retest| listed(retest));
+        retested.any(|retested| listed(event).any(|id| id == retested))
     }
 
     fn remarks_on_retest(&self, retest: &[u64]) -> Vec<(&'static str, bool)> {

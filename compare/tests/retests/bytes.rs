@@ -21,7 +21,7 @@ fn bytes() {
     assert_eq!(numbers[..8], highest);
     assert_eq!(number(&record[..5]), 2);
     assert_eq!(number(&[0x9F, 0xF6, 0x01, 0xFF, 0x0D, 0x41]), 4);
-    for kind in [8, 10, 11, 12, 13, 14, 15] {
+    for kind in [10, 11, 12, 13, 14, 15] {
         assert_eq!(number(&[kind << 4, 0x20, 0x81, 0x00, 0x07, 0x08]), 1);
     }
 }

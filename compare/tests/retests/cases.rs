@@ -2,15 +2,14 @@
 
 use std::collections::BTreeMap;
 
-use settlement::cases::record::encode;
-use settlement::cases::samples::reductions;
+use settlement::cases::record::{encode, entries_mut};
 use settlement::cases::{damaged_file, plausible_file};
 use settlement::{statement, take_each};
 
 use crate::accepted::{entries, Accepted, Entries};
 use crate::common::each_record;
 
-const SEEDS: u64 = 300;
+const SEEDS: u64 = 600;
 
 #[test]
 fn every_reason_comes_up() {
@@ -48,9 +47,8 @@ fn without_retests(file: &[u8], reduced: &Entries) -> Vec<u8> {
         match (numbers[0], number) {
             (9, _) => return,
             (5, 0) => {
-                for at in reductions(&numbers) {
-                    let first = numbers[at];
-                    numbers[at] = reduced.get(&numbers[at - 1]).copied().unwrap_or(first);
+                for entry in entries_mut(&mut numbers) {
+                    entry[1] = reduced.get(&entry[0]).copied().unwrap_or(entry[1]);
                 }
             }
             _ => {}

@@ -10,7 +10,8 @@ use Rattle.year.specs.Sound.{SoundRegistration, SoundListing, SoundEvent, Sound
 use Rattle.heads.specs.declared.Head.{Head}
 use Rattle.heads.specs.declared.Head.the-variants.{Opening, Registration, Lse, Event, Test, Close, Clearing, Retest}
 use Rattle.heads.specs.Within.{ClearingWithin}
-use Rattle.recorded.specs.After.{registrationOf, eventOf, testOf}
+use Rattle.heads.specs.Events.{eventOf}
+use Rattle.recorded.specs.After.{registrationOf, testOf}
 
 -- what an accepted record makes is sound in the year
 unfoldable pub Suits : Year → Listing → Head → Type 0

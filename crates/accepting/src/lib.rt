@@ -59,7 +59,7 @@ fn close(year: &mut Cells, month: u64, buffer: &mut [u8]) -> usize
 // Changes the year by an accepted record; a close leaves its statement in the buffer. Answers the statement's bytes.
 pub fn take(year: &mut Cells, head: Head, listing: &[u64], buffer: &mut [u8]) -> usize
     requires { ⌜ Held (now year) ⌝ }
-    requires { ⌜ length (now listing) ≡ 144 ⌝ }
+    requires { ⌜ length (now listing) ≡ 208 ⌝ }
     requires { ⌜ Suits (yearIn (now year)) (listingAt (at (now listing))) head ⌝ }
     requires { ⌜ q16 (length (now buffer)) head ≡ true ⌝ }
     ensures equals { λ r. ⌜ yearIn (now (year .exit)) ≡ yearBy (yearIn (now (year .entry))) (listingAt (at (now (listing .entry)))) head ⌝ }
@@ -82,7 +82,7 @@ pub fn take(year: &mut Cells, head: Head, listing: &[u64], buffer: &mut [u8]) ->
             0
         }
         Head::Event(e) => {
-            steps::call(year, e.area, e.month, e.period, listing);
+            steps::call(year, e, listing);
             0
         }
         Head::Test(t) => {

@@ -14,6 +14,7 @@ use Rattle.year.specs.declared.Year.{Year}
 use Rattle.year.specs.Year.{testPlace, listed, known, zone, product, size}
 use Rattle.year.specs.Sound.{SoundListing, SoundTerms, Sound}
 use Rattle.year.specs.Limits.{clearings-sound, size-is}
+use Rattle.year.specs.ListingLaws.{sound-single}
 use Rattle.year.specs.Kept.{sound-opening, sound-registration, sound-lse, sound-clearing, sound-event, sound-test, sound-retest, sound-close}
 use Rattle.heads.specs.declared.Head.{Head}
 use Rattle.heads.specs.declared.Head.the-variants.{Opening, Registration, Lse, Event, Test, Close, Clearing, Retest}
@@ -44,14 +45,14 @@ own-place {T} s l z p e i m t =
 
 module _ {y : Year} (s : Sound y) where
   pub suits : {l : Listing} → SoundListing l → {room : ℕ} (h : Head) → Within h → Admitted monthBegun y (record { head = h; listing = l }) room → Suits y l h
-  unfolding Suits Within q7
+  unfolding Suits Within q7 listed
   suits sl (Opening o) w a = w
   suits sl (Registration r) w a =
       (not-started refl a, w .id, record { seller = w .seller; area = w .area; zone = w .zone; product = w .product; committed = w .committed; rate = w .rate; some = λ q. w .some; blank = λ q. absurd (let z : _≡_ {A = ℕ} 0 1 = cc in omega arith) })
   suits sl (Lse j) w a = (w .id, w .obligation)
   suits sl (Event e) w a = (event-held a, record { month = w; listing = sl })
   suits {l} sl (Test t) w a =
-      (omega (arith, w .zone, w .product), test-free a, record { listing = sl; own = own-place (s .terms) l (t .zone) (t .product) (test-group a); untaken = λ q. absurd (let z : _≡_ {A = ℕ} 0 1 = cc in omega arith) })
+      (omega (arith, w .zone, w .product), test-free a, record { listing = sound-single sl; own = own-place (s .terms) l (t .zone) (t .product) (test-group a); untaken = λ q. absurd (let z : _≡_ {A = ℕ} 0 1 = cc in omega arith) })
   suits sl (Close c) w a = (not-finished a, next-month a)
   suits sl (Clearing c) w a = (w, clearings-few a)
   suits sl (Retest t) w a = (retest-started a s, sl)

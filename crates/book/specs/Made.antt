@@ -47,8 +47,9 @@ module _ (bytes : List ℕ) (a : Accepted bytes) where
       (λ _. either Within (eqb k 7) (λ e.
       let c = records.clearing bytes a (kind-is 7 (eqb-true k 7 e)) in
       record { registration = c .registration; price = c .price; some = c .kw .0; kw = c .kw .1 })
+      (λ _. either Within (eqb k 8) (λ e. records.apart-month bytes a (kind-is 8 (eqb-true k 8 e)))
       (λ _. either Within (eqb k 9) (λ e. let t = records.retest bytes a (kind-is 9 (eqb-true k 9 e)) in record { zone = t .zone; product = omega (arith, t .product) })
-      (λ _. omega arith))))))))
+      (λ _. omega arith)))))))))
 
   pub permits : Permitted vs
   unfolding rulesBy

@@ -27,7 +27,7 @@ use questions::open_number;
 // Question 11 of an event.
 fn may_call(year: &Cells, e: EventHead, listing: &[u64]) -> bool
     requires { ⌜ Held (now year) ⌝ }
-    requires { ⌜ length (now listing) ≡ 144 ⌝ }
+    requires { ⌜ length (now listing) ≡ 208 ⌝ }
     ensures { λ r. ⌜ r ≡ (let y = yearIn (now (year .entry)) in monthBegun (y .closed) (e .month) && everyListed (y .terms) (listingAt (at (now (listing .entry)))) (λ i. callable (product (y .terms) i) (e .month) (e .period))) ⌝ }
 {
     month_begun(year, e.month)
@@ -37,7 +37,7 @@ fn may_call(year: &Cells, e: EventHead, listing: &[u64]) -> bool
 // Of an event.
 pub fn event_number(year: &Cells, e: EventHead, listing: &[u64]) -> u64
     requires { ⌜ Held (now year) ⌝ }
-    requires { ⌜ length (now listing) ≡ 144 ⌝ }
+    requires { ⌜ length (now listing) ≡ 208 ⌝ }
     ensures { λ n. ⌜ ((room : ℕ) → n ≡ firstFailed (questions monthBegun (yearIn (now (year .entry))) (record { head = Head.Event e; listing = listingAt (at (now (listing .entry))) }) room)) ⌝ }
 {
     let first = open_number(year);
@@ -57,7 +57,7 @@ pub fn event_number(year: &Cells, e: EventHead, listing: &[u64]) -> u64
 pub fn test_number(year: &Cells, t: TestHead, listing: &[u64]) -> u64
     requires { ⌜ Held (now year) ⌝ }
     requires { ⌜ GroupWithin (t .zone) (t .product) ⌝ }
-    requires { ⌜ length (now listing) ≡ 144 ⌝ }
+    requires { ⌜ length (now listing) ≡ 208 ⌝ }
     ensures { λ n. ⌜ ((room : ℕ) → n ≡ firstFailed (questions monthBegun (yearIn (now (year .entry))) (record { head = Head.Test t; listing = listingAt (at (now (listing .entry))) }) room)) ⌝ }
 {
     let first = open_number(year);

@@ -26,11 +26,12 @@ registration-view g h e =
 pub clearings-view : View 3 clearingsAt
 clearings-view g h e = cc (e 0 (lit< tt), e 1 (lit< tt), e 2 (lit< tt))
 
-pub listing-view : View 144 listingAt
+pub listing-view : View 208 listingAt
 listing-view g h e =
     cc (
       tabulate-same 64 {f = λ i. flag (g i)} {g = λ i. flag (h i)} (λ i l. rw (e i (omega arith))),
       tabulate-same 64 {f = λ i. g (64 + i)} {g = λ i. h (64 + i)} (λ i l. e (64 + i) (omega arith)),
+      tabulate-same 64 {f = λ i. g (144 + i)} {g = λ i. h (144 + i)} (λ i l. e (144 + i) (omega arith)),
       tabulate-same 16 {f = λ i. g (128 + i)} {g = λ i. h (128 + i)} (λ i l. e (128 + i) (omega arith)),
     )
 
@@ -48,9 +49,9 @@ module _ (row : List ℕ) where
   unfolding deficit
   row-deficit {s} l = getD-tabulate (λ j. at row (128 + j)) 16 s 0 l
 
-pub event-view : View 147 eventAt
+pub event-view : View 212 eventAt
 event-view g h e =
-    cc (e 0 (lit< tt), e 1 (lit< tt), e 2 (lit< tt), listing-view (λ k. g (3 + k)) (λ k. h (3 + k)) (λ k l. e (3 + k) (omega arith)))
+    cc (e 0 (lit< tt), e 1 (lit< tt), e 2 (lit< tt), e 3 (lit< tt), listing-view (λ k. g (4 + k)) (λ k. h (4 + k)) (λ k l. e (4 + k) (omega arith)))
 
 -- two tests at a place: their rows agree, and what each lists of the entries of all tests
 pub test-same : (k : ℕ) (p q g h x y : ℕ → ℕ) → ((j : ℕ) → j < 18 → x j ≡ y j)
@@ -75,25 +76,25 @@ module _ (c : List ℕ) where
   unfolding cellObligations
   obligation-in {j} l = getD-tabulate (from 455 c) 16 j 0 l
 
-  pub event-in : {e : ℕ} (d : Event) → e < 16 → getD (cellEvents c) e d ≡ eventAt (from (471 + 147 * e) c)
+  pub event-in : {e : ℕ} (d : Event) → e < 16 → getD (cellEvents c) e d ≡ eventAt (from (471 + 212 * e) c)
   unfolding cellEvents
   event-in {e} d l = row-at event-view 16 471 e c d l
 
-  pub listed-in : {e i : ℕ} → e < 16 → i < 64 → listed (getD (cellEvents c) e pastEvent .listing) i ≡ flag (at c (471 + 147 * e + (3 + i)))
+  pub listed-in : {e i : ℕ} → e < 16 → i < 64 → listed (getD (cellEvents c) e pastEvent .listing) i ≡ flag (at c (471 + 212 * e + (4 + i)))
   unfolding listed
-  listed-in {e} {i} l m = rw (event-in pastEvent l) (getD-tabulate (λ k. flag (at c (471 + 147 * e + (3 + k)))) 64 i false m)
+  listed-in {e} {i} l m = rw (event-in pastEvent l) (getD-tabulate (λ k. flag (at c (471 + 212 * e + (4 + k)))) 64 i false m)
 
-  pub test-in : {k : ℕ} (d : Test) → k < 24 → getD (cellTests c) k d ≡ testAt (placeIn c) (from 3255 c) k (from (2823 + 18 * k) c)
+  pub test-in : {k : ℕ} (d : Test) → k < 24 → getD (cellTests c) k d ≡ testAt (placeIn c) (from 4295 c) k (from (3863 + 18 * k) c)
   unfolding cellTests
-  test-in {k} d l = getD-tabulate (λ k. testAt (placeIn c) (from 3255 c) k (from (2823 + 18 * k) c)) 24 k d l
+  test-in {k} d l = getD-tabulate (λ k. testAt (placeIn c) (from 4295 c) k (from (3863 + 18 * k) c)) 24 k d l
 
-  pub retest-in : {i : ℕ} (d : Retest) → i < 64 → getD (cellRetests c) i d ≡ retestAt (from 3639 c) i
+  pub retest-in : {i : ℕ} (d : Retest) → i < 64 → getD (cellRetests c) i d ≡ retestAt (from 4679 c) i
   unfolding cellRetests
-  retest-in {i} d l = getD-tabulate (retestAt (from 3639 c)) 64 i d l
+  retest-in {i} d l = getD-tabulate (retestAt (from 4679 c)) 64 i d l
 
-  pub clearings-in : {i : ℕ} (d : Clearings) → i < 64 → getD (cellClearings c) i d ≡ clearingsAt (from (3447 + 3 * i) c)
+  pub clearings-in : {i : ℕ} (d : Clearings) → i < 64 → getD (cellClearings c) i d ≡ clearingsAt (from (4487 + 3 * i) c)
   unfolding cellClearings
-  clearings-in {i} d l = row-at clearings-view 64 3447 i c d l
+  clearings-in {i} d l = row-at clearings-view 64 4487 i c d l
 
 -- what stays
 pub places-kept : (c d : List ℕ) → cellRegistrations d ≡ cellRegistrations c → (i : ℕ) → placeIn d i ≡ placeIn c i
@@ -119,37 +120,37 @@ module _ {c d : List ℕ} where
         obligations-kept (same-in 455 16 (lit≤ tt) (lit≤ tt) s),
       )
 
-  pub events-kept : Same 471 2352 c d → cellEvents d ≡ cellEvents c
+  pub events-kept : Same 471 3392 c d → cellEvents d ≡ cellEvents c
   unfolding cellEvents
   events-kept s = rows-kept event-view 16 471 s
 
-  pub tests-kept : cellRegistrations d ≡ cellRegistrations c → Same 2823 560 c d → cellTests d ≡ cellTests c
+  pub tests-kept : cellRegistrations d ≡ cellRegistrations c → Same 3863 560 c d → cellTests d ≡ cellTests c
   unfolding cellTests
   tests-kept e s =
       tabulate-same 24
-      (λ k l. test-same k (placeIn d) (placeIn c) (from 3255 d) (from 3255 c) (from (2823 + 18 * k) d) (from (2823 + 18 * k) c)
-      (same-row 2823 18 24 k l (same-in 2823 432 (lit≤ tt) (lit≤ tt) s) .cell)
-      (λ i m. let kept = same-in 3255 128 (lit≤ tt) (lit≤ tt) s in
+      (λ k l. test-same k (placeIn d) (placeIn c) (from 4295 d) (from 4295 c) (from (3863 + 18 * k) d) (from (3863 + 18 * k) c)
+      (same-row 3863 18 24 k l (same-in 3863 432 (lit≤ tt) (lit≤ tt) s) .cell)
+      (λ i m. let kept = same-in 4295 128 (lit≤ tt) (lit≤ tt) s in
       rw (places-kept c d e i, kept .cell i (omega arith), kept .cell (64 + i) (omega arith)) (refl, refl)))
 
-  pub billed-kept : Same 3383 64 c d → cellBilled d ≡ cellBilled c
+  pub billed-kept : Same 4423 64 c d → cellBilled d ≡ cellBilled c
   unfolding cellBilled
   billed-kept s =
       cc (
-        numbers-kept 16 3383 (same-in 3383 16 (lit≤ tt) (lit≤ tt) s),
-        numbers-kept 16 3399 (same-in 3399 16 (lit≤ tt) (lit≤ tt) s),
-        numbers-kept 16 3415 (same-in 3415 16 (lit≤ tt) (lit≤ tt) s),
-        numbers-kept 16 3431 (same-in 3431 16 (lit≤ tt) (lit≤ tt) s),
+        numbers-kept 16 4423 (same-in 4423 16 (lit≤ tt) (lit≤ tt) s),
+        numbers-kept 16 4439 (same-in 4439 16 (lit≤ tt) (lit≤ tt) s),
+        numbers-kept 16 4455 (same-in 4455 16 (lit≤ tt) (lit≤ tt) s),
+        numbers-kept 16 4471 (same-in 4471 16 (lit≤ tt) (lit≤ tt) s),
       )
 
-  pub clearings-kept : Same 3447 192 c d → cellClearings d ≡ cellClearings c
+  pub clearings-kept : Same 4487 192 c d → cellClearings d ≡ cellClearings c
   unfolding cellClearings
-  clearings-kept s = rows-kept clearings-view 64 3447 s
+  clearings-kept s = rows-kept clearings-view 64 4487 s
 
-  pub retests-kept : Same 3639 128 c d → cellRetests d ≡ cellRetests c
+  pub retests-kept : Same 4679 128 c d → cellRetests d ≡ cellRetests c
   unfolding cellRetests
   retests-kept s =
-      tabulate-same 64 {f = retestAt (from 3639 d)} {g = retestAt (from 3639 c)} (λ i l. cc (s .cell i (omega arith), s .cell (64 + i) (omega arith)))
+      tabulate-same 64 {f = retestAt (from 4679 d)} {g = retestAt (from 4679 c)} (λ i l. cc (s .cell i (omega arith), s .cell (64 + i) (omega arith)))
 
 -- where all cells are 0 there is a new year
 pub new-year : (c : List ℕ) → ((k : ℕ) → at c k ≡ 0) → yearIn c ≡ newYear
@@ -165,14 +166,14 @@ new-year c z =
       z 6,
       table-of {f = λ i. registrationAt (from (7 + 7 * i) c)} 64 (λ i l. registration-view (from (7 + 7 * i) c) (λ k. 0) (λ k l. z (7 + 7 * i + k))),
       zeros 16 455,
-      table-of {f = λ i. clearingsAt (from (3447 + 3 * i) c)} 64 (λ i l. clearings-view (from (3447 + 3 * i) c) (λ k. 0) (λ k l. z (3447 + 3 * i + k))),
-      table-of {f = λ i. eventAt (from (471 + 147 * i) c)} 16 (λ i l. event-view (from (471 + 147 * i) c) (λ k. 0) (λ k l. z (471 + 147 * i + k)) ∙ no-event),
-      table-of {f = λ k. testAt (placeIn c) (from 3255 c) k (from (2823 + 18 * k) c)} 24 (λ k l. no-test k),
-      table-of {f = retestAt (from 3639 c)} {x = noRetest} 64 (λ i l. cc (z (3639 + i), z (3639 + (64 + i)))),
-      zeros 16 3383,
-      zeros 16 3399,
-      zeros 16 3415,
-      zeros 16 3431,
+      table-of {f = λ i. clearingsAt (from (4487 + 3 * i) c)} 64 (λ i l. clearings-view (from (4487 + 3 * i) c) (λ k. 0) (λ k l. z (4487 + 3 * i + k))),
+      table-of {f = λ i. eventAt (from (471 + 212 * i) c)} 16 (λ i l. event-view (from (471 + 212 * i) c) (λ k. 0) (λ k l. z (471 + 212 * i + k)) ∙ no-event),
+      table-of {f = λ k. testAt (placeIn c) (from 4295 c) k (from (3863 + 18 * k) c)} 24 (λ k l. no-test k),
+      table-of {f = retestAt (from 4679 c)} {x = noRetest} 64 (λ i l. cc (z (4679 + i), z (4679 + (64 + i)))),
+      zeros 16 4423,
+      zeros 16 4439,
+      zeros 16 4455,
+      zeros 16 4471,
     )
   where
     zeros : (n q : ℕ) → tabulate n (from q c) ≡ replicate n 0
@@ -183,14 +184,14 @@ new-year c z =
         cc
         (table-of {f = λ i. flag 0} 64 (λ i l. refl), table-of {A = ℕ} {f = λ i. 0} 64 (λ i l. refl), table-of {A = ℕ} {f = λ i. 0} 16 (λ i l. refl))
 
-    no-test : (k : ℕ) → testAt (placeIn c) (from 3255 c) k (from (2823 + 18 * k) c) ≡ noTest
+    no-test : (k : ℕ) → testAt (placeIn c) (from 4295 c) k (from (3863 + 18 * k) c) ≡ noTest
     no-test k =
         cc (
-          z (2823 + 18 * k + 0),
-          z (2823 + 18 * k + 1),
-          table-of {f = entryAt (placeIn c) (from 3255 c) k} {x = false} 64 (λ i l. rw (z (3255 + i))),
-          table-of {A = ℕ} {f = λ i. cond (entryAt (placeIn c) (from 3255 c) k i) (from 3255 c (64 + i)) 0} {x = 0} 64 (λ i l. rw (z (3255 + i))),
-          table-of {f = λ j. from (2823 + 18 * k) c (2 + j)} 16 (λ j l. z (2823 + 18 * k + (2 + j))),
+          z (3863 + 18 * k + 0),
+          z (3863 + 18 * k + 1),
+          table-of {f = entryAt (placeIn c) (from 4295 c) k} {x = false} 64 (λ i l. rw (z (4295 + i))),
+          table-of {A = ℕ} {f = λ i. cond (entryAt (placeIn c) (from 4295 c) k i) (from 4295 c (64 + i)) 0} {x = 0} 64 (λ i l. rw (z (4295 + i))),
+          table-of {f = λ j. from (3863 + 18 * k) c (2 + j)} 16 (λ j l. z (3863 + 18 * k + (2 + j))),
         )
 
 -- a step on cells that hold a sound year

@@ -19,10 +19,10 @@ use Rattle.cells.specs.Regions.{test-in}
 -- registration i's entry in the test at place p: its mark, and its reduction
 module _ (c : List ℕ) (p i : ℕ) where
   abbrev pub testedAt : Bool
-  testedAt = entryAt (placeIn c) (from 3255 c) p i
+  testedAt = entryAt (placeIn c) (from 4295 c) p i
 
   abbrev pub firstAt : ℕ
-  firstAt = cond testedAt (at c (3255 + (64 + i))) 0
+  firstAt = cond testedAt (at c (4295 + (64 + i))) 0
 
 module _ (c : List ℕ) (s : Sound (yearIn c)) where
   pub place-below : (i : ℕ) → placeIn c i < 24
@@ -35,7 +35,7 @@ module _ (c : List ℕ) (s : Sound (yearIn c)) where
     past = List·getD-eq-default (cellTests c) pastTest (omega (arith, s .places))
 
     off : (i : ℕ) → testedAt c p i ≡ false
-    off i = rw (ne-eqb (placeIn c i) p (λ q. omega (arith, place-below i))) (and-false (flag (at c (3255 + i))))
+    off i = rw (ne-eqb (placeIn c i) p (λ q. omega (arith, place-below i))) (and-false (flag (at c (4295 + i))))
 
   pub tested-in : (p : ℕ) {i : ℕ} → i < 64 → listed (getD (cellTests c) p pastTest .listing) i ≡ testedAt c p i
   unfolding listed

@@ -11,7 +11,7 @@ use year::Registration;
 use year::Retest;
 
 // Where a year's parts stand (specs/Layout.antt): marks, the terms, then tables, one row an element.
-pub type Cells = [u64; 3767];
+pub type Cells = [u64; 4807];
 
 pub const CLOSED: usize = 0;
 
@@ -33,46 +33,51 @@ pub const OBLIGATIONS: usize = 455;
 
 pub const EVENTS: usize = 471;
 
-pub const TESTS: usize = 2823;
+pub const TESTS: usize = 3863;
 
 // The entries of all tests: 64 marks, then 64 reductions.
-pub const TESTED: usize = 3255;
+pub const TESTED: usize = 4295;
 
-pub const BILLED: usize = 3383;
+pub const BILLED: usize = 4423;
 
-pub const CLEARINGS: usize = 3447;
+pub const CLEARINGS: usize = 4487;
 
 // The entries of all retests, as those of the tests.
-pub const RETESTED: usize = 3639;
+pub const RETESTED: usize = 4679;
 
-// A row's length: of a registration, of what its clearings come to, of an event (area, month and period, then its
-// listing), of a test (taken and month, then its deficits).
+// A row's length: of a registration, of what its clearings come to, of an event (area, month, period
+// and whether it is measured apart, then its listing), of a test (taken and month, then its deficits).
 pub const REGISTRATION: usize = 7;
 
 pub const CLEARING: usize = 3;
 
-pub const EVENT: usize = 147;
+pub const EVENT: usize = 212;
 
 pub const TEST: usize = 18;
 
-// In an event's row: its month and period, and its listing's marks, reductions and deficits.
+// In an event's row: its month and period, whether it is measured apart, and its listing's marks, reductions, deficits and
+// second reductions.
 pub const MONTH: usize = 1;
 
 pub const PERIOD: usize = 2;
 
-pub const LISTED: usize = 3;
+pub const APART: usize = 3;
 
-pub const REDUCTIONS: usize = 67;
+pub const LISTED: usize = 4;
 
-pub const DEFICITS: usize = 131;
+pub const REDUCTIONS: usize = 68;
+
+pub const DEFICITS: usize = 132;
+
+pub const SECOND: usize = 148;
 
 // In a test's row: its deficits.
 pub const TEST_DEFICITS: usize = 2;
 
 // Lays a row into the cells: the only loop that writes them.
 pub fn lay(year: &mut Cells, place: usize, row: &[u64])
-    requires { ⌜ length (now year) ≡ 3767 ⌝ }
-    requires { ⌜ place + length (now row) ≤ 3767 ⌝ }
+    requires { ⌜ length (now year) ≡ 4807 ⌝ }
+    requires { ⌜ place + length (now row) ≤ 4807 ⌝ }
     ensures { λ r. ⌜ Laid place (now (row .entry)) (now (year .entry)) (now (year .exit)) ⌝ }
 {
     let mut i: usize = 0;
@@ -87,7 +92,7 @@ pub fn new_year() -> Cells
     ensures equals { λ r. ⌜ yearIn r ≡ newYear ⌝ }
     ensures held { λ r. ⌜ Held r ⌝ }
 {
-    [0u64; 3767]
+    [0u64; 4807]
 }
 
 pub fn opened(year: &Cells) -> bool

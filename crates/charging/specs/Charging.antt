@@ -1,11 +1,12 @@
 -- An event's charges entry by entry.
 use Prim.Native.Nat.{ℕ, _+_, _*_, _-_, _/_, _≤_, _<_, min, max}
-use mathlib.Core.Path.{_≡_, refl, sym}
-use mathlib.Core.Bool.{Bool, true, false, cond}
+use mathlib.Core.Path.{_≡_, refl, sym, _∙_}
+use mathlib.Core.Bool.{Bool, true, false, not, _||_, cond, true≢false}
 use mathlib.Core.List.{List}
 use native.Mathlib.Omega.{arith}
 use native.Mathlib.Numerals.{add-one}
-use lib.Dec.{leb}
+use lib.Dec.{eqb, leb}
+use borrow.Author.Tests.{eq-eqb, eqb-true}
 use Rattle.calendar.specs.Calendar.{due}
 use Rattle.ids.specs.Ids.{at, sumTo}
 use Rattle.ids.specs.Sums.{sum-step, sum-bound}
@@ -16,27 +17,28 @@ use Rattle.owed_laws.specs.Limits.{Limits}
 use Rattle.owed_laws.specs.Sellers.{ofSeller-le}
 use Rattle.owed_laws.specs.Bounds.{cap-le, charge-le}
 use Rattle.owed_laws.specs.Cap.{spent-le}
-use Rattle.owed_laws.specs.Unlisted.{u-unlisted, daily-none, charge-none}
-use Rattle.sharing.specs.Sharing.{Shares}
+use Rattle.owed_laws.specs.Unlisted.{u-unlisted, off-unlisted, daily-none, charge-none}
+use Rattle.sharing.specs.Sharing.{Shares, shares-aside}
 use Rattle.table.specs.Columns.{Columns, columns-aside}
-use Rattle.table.specs.Places.{sellerRow, productRow, rateRow, capRow, callsRow, spentRow, complianceRow, lackRow, uRow, eRow}
+use Rattle.table.specs.Places.{sellerRow, productRow, rateRow, capRow, callsRow, spentRow, complianceRow, lackRow, uRow, offURow, eRow}
 use Rattle.table.specs.Rows.{Stored, Aside, Row, Renewed, Grown, none, aside-none, aside-then, aside-more, row-aside, row-same, renewed-first, renewed-kept, renewed-next, renewed-more, renewed-none, grown-first, grown-kept, grown-none, grown-more, grown-most}
 use Rattle.charging.specs.declared.Line.{Line}
 
 -- registration i in the table
 abbrev pub lineAt : List ℕ → ℕ → Line
 lineAt w i =
-    record { seller = at w (sellerRow + i); product = at w (productRow + i); calls = at w (callsRow + i); rate = at w (rateRow + i); cap = at w (capRow + i); spent = at w (spentRow + i); u = record { 0 = at w (uRow + i) }; e = record { 0 = at w (eRow + i) } }
+    record { seller = at w (sellerRow + i); product = at w (productRow + i); calls = at w (callsRow + i); rate = at w (rateRow + i); cap = at w (capRow + i); spent = at w (spentRow + i); u = record { 0 = at w (uRow + i) }; off = record { 0 = at w (offURow + i) }; e = record { 0 = at w (eRow + i) } }
 
--- the lesser of what is asked and the cap's rest
+-- the lesser of what is asked, which is the higher of both, and the cap's rest
 abbrev pub dailyOf : Bool → Line → ℕ
-dailyOf peak l = min (l .u .0 * l .rate / cond peak (max (l .calls) 2) 52) (l .cap - l .spent)
+dailyOf peak l = min (max (l .u .0 * l .rate / cond peak (max (l .calls) 2) 52) (l .off .0 * l .rate / 52)) (l .cap - l .spent)
 
--- what an event's charges are made of: the terms, n, and the shares of its entries
+-- what an event's charges are made of: the terms, n, and the shares of its entries, off-peak too
 pub record Given (F : Facts) (ev : ℕ) (w : List ℕ) : Type 0 where
   pub columns : Columns F 64 w
   pub calls : Row w callsRow 64 (owed.calls F)
   pub shares : Shares F ev w
+  pub off : Row w offURow 64 (owed.offU F ev)
 
 -- the rows that its charges and credits are written to lie apart
 pub given-aside : {F : Facts} {ev p n : ℕ} {w v : List ℕ} → Given F ev w → Aside p n w v → spentRow ≤ p → p + n ≤ lackRow → Given F ev v
@@ -44,22 +46,19 @@ given-aside g a b d =
     record {
       columns = columns-aside (g .columns) a (omega arith) (omega arith);
       calls = row-aside (g .calls) a (λ j l x y. omega arith);
-      shares = record {
-        u = row-aside (g .shares .u) a (λ j l x y. omega arith);
-        e = row-aside (g .shares .e) a (λ j l x y. omega arith);
-        listed = row-aside (g .shares .listed) a (λ j l x y. omega arith);
-      };
+      shares = shares-aside (g .shares) a (λ j l m x y. omega arith);
+      off = row-aside (g .off) a (λ j l x y. omega arith);
     }
 
 -- registration i as the rules have it, where t is spent of its cap
 abbrev pub lineOf : Facts → ℕ → ℕ → ℕ → Line
 lineOf F ev i t =
-    record { seller = F .seller i; product = F .product i; calls = owed.calls F i; rate = owed.rate F i; cap = owed.cap F i; spent = t; u = record { 0 = owed.u F ev i }; e = record { 0 = owed.e F ev i } }
+    record { seller = F .seller i; product = F .product i; calls = owed.calls F i; rate = owed.rate F i; cap = owed.cap F i; spent = t; u = record { 0 = owed.u F ev i }; off = record { 0 = owed.offU F ev i }; e = record { 0 = owed.e F ev i } }
 
 pub line-is : {F : Facts} {ev i t : ℕ} {w : List ℕ} → Given F ev w → i < 64 → at w (spentRow + i) ≡ t → lineAt w i ≡ lineOf F ev i t
 line-is {i = i} g l e =
     let c = g .columns in
-    λ j. record { seller = c .seller .is i l j; product = c .product .is i l j; calls = g .calls .is i l j; rate = c .rate .is i l j; cap = c .cap .is i l j; spent = e j; u = record { 0 = g .shares .u .is i l j }; e = record { 0 = g .shares .e .is i l j } }
+    λ j. record { seller = c .seller .is i l j; product = c .product .is i l j; calls = g .calls .is i l j; rate = c .rate .is i l j; cap = c .cap .is i l j; spent = e j; u = record { 0 = g .shares .u .is i l j }; off = record { 0 = g .off .is i l j }; e = record { 0 = g .shares .e .is i l j } }
 
 -- a seller's charges of the first m events
 unfoldable pub complianceBy : Facts → ℕ → ℕ → ℕ → ℕ
@@ -107,17 +106,34 @@ spent-step : (F : Facts) (ev i : ℕ) → owed.spent F (ev + 1) i ≡ owed.spent
 unfolding owed.spent
 spent-step F ev i = rw (add-one ev)
 
+-- a test of two shares
+any-either : (a b : Bool) → (not a || not b) ≡ true → (a ≡ true) × (b ≡ true) → ⊥
+any-either a b e z = let n : _≡_ {A = ℕ} 0 1 = cc (e, z .0, z .1) in omega arith
+
+pub any-some : {a b x y : ℕ} → (not (eqb a 0) || not (eqb b 0)) ≡ true → a ≡ x → b ≡ y → (x ≡ 0) × (y ≡ 0) → ⊥
+any-some {a} {b} e p q z = any-either (eqb a 0) (eqb b 0) e (eq-eqb a 0 (p ∙ z .0), eq-eqb b 0 (q ∙ z .1))
+
+pub none-some : {a b x y : ℕ} → (not (eqb a 0) || not (eqb b 0)) ≡ false → a ≡ x → b ≡ y → (x ≡ 0) × (y ≡ 0)
+none-some {a} {b} e p q =
+    let z = none-either (eqb a 0) (eqb b 0) e in
+    (sym p ∙ eqb-true a 0 (z .0), sym q ∙ eqb-true b 0 (z .1))
+  where
+    none-either : (a b : Bool) → (not a || not b) ≡ false → (a ≡ true) × (b ≡ true)
+    none-either true true e = (refl, refl)
+    none-either true false e = absurd (true≢false e)
+    none-either false b e = absurd (true≢false e)
+
 -- the charge of one with a share, which is listed, by its line
-module _ (F : Facts) (ev i : ℕ) (some : owed.u F ev i ≡ 0 → ⊥) where
+module _ (F : Facts) (ev i : ℕ) (some : (owed.u F ev i ≡ 0) × (owed.offU F ev i ≡ 0) → ⊥) where
   listed : F .listed ev i ≡ true
   listed = go (F .listed ev i) refl
     where
       go : (b : Bool) → F .listed ev i ≡ b → b ≡ true
       go true e = refl
-      go false e = absurd (some (u-unlisted F ev i e))
+      go false e = absurd (some (u-unlisted F ev i e, off-unlisted F ev i e))
 
   pub daily-is : {b : Bool} (x : ℕ) → b ≡ oneOrThree (F .period ev) → dailyOf b (lineOf F ev i x) ≡ owed.daily F ev x i
-  unfolding owed.daily beforeCap
+  unfolding owed.asked owed.daily beforeCap
   daily-is x p = rw (p, listed)
 
 pub charge-is : (F : Facts) (k ev i : ℕ) {d m days : ℕ} → d ≡ owed.daily F ev (owed.spent F ev i) i → m ≡ F .month ev → days ≡ D F k
@@ -127,15 +143,15 @@ charge-is F k ev i e p q = rw (p, q, e)
 
 module _ {F : Facts} {k ev i : ℕ} {w₀ w : List ℕ} {all : ℕ} (h : Charging F k ev i w₀ w all) where
   -- a registration without a share
-  pub charging-none : i < 64 → owed.u F ev i ≡ 0 → Charging F k ev (i + 1) w₀ w all
-  charging-none l none =
+  pub charging-none : i < 64 → owed.u F ev i ≡ 0 → owed.offU F ev i ≡ 0 → Charging F k ev (i + 1) w₀ w all
+  charging-none l none off =
       record {
         upto = omega arith;
         given = h .given;
         aside = h .aside;
-        spent = renewed-none (h .spent) l (omega (arith, spent-step F ev i, daily-none F ev i none (owed.spent F ev i)));
-        compliance = grown-none (h .compliance) (charge-none F ev i none k);
-        sum = omega (arith, h .sum, sum-step i (owed.charge F k ev), charge-none F ev i none k);
+        spent = renewed-none (h .spent) l (omega (arith, spent-step F ev i, daily-none F ev i none off (owed.spent F ev i)));
+        compliance = grown-none (h .compliance) (charge-none F ev i none off k);
+        sum = omega (arith, h .sum, sum-step i (owed.charge F k ev), charge-none F ev i none off k);
       }
 
   -- limits

@@ -16,7 +16,7 @@ use table::Work;
 use units::Nominated;
 use units::Unforced;
 
-// A listed registration in the table.
+// A listed registration in the table; `off` is its off-peak u.
 pub struct Line {
     pub seller: usize,
     pub product: u64,
@@ -25,6 +25,7 @@ pub struct Line {
     pub cap: u64,
     pub spent: u64,
     pub u: Unforced,
+    pub off: Unforced,
     pub e: Nominated,
 }
 
@@ -33,6 +34,7 @@ pub fn line_at(work: &Work, i: usize) -> Line
     ensures { λ r. ⌜ r ≡ lineAt (now (work .entry)) i ⌝ }
 {
     let u = Unforced(table::get(work, table::U, i));
+    let off = Unforced(table::get(work, table::OFF_U, i));
     let e = Nominated(table::get(work, table::E, i));
     Line {
         seller: table::get(work, table::SELLER, i) as usize,
@@ -42,6 +44,7 @@ pub fn line_at(work: &Work, i: usize) -> Line
         cap: table::get(work, table::CAP, i),
         spent: table::get(work, table::SPENT, i),
         u: u,
+        off: off,
         e: e,
     }
 }
@@ -51,6 +54,12 @@ fn less(a: u64, b: u64) -> u64
     ensures { λ r. ⌜ r ≡ a - b ⌝ }
 {
     if b < a { a - b } else { 0 }
+}
+
+fn higher(a: u64, b: u64) -> u64
+    ensures { λ r. ⌜ r ≡ max a b ⌝ }
+{
+    if a < b { b } else { a }
 }
 
 pub fn lesser(a: u64, b: u64) -> u64
@@ -73,14 +82,18 @@ fn before_cap(peak: bool, n: u64, u: Unforced, rate: u64) -> u64
     }
 }
 
-// The daily charge: the lesser of that and the cap's rest.
+// The daily charge: the lesser of that, off-peak if it is higher, and the cap's rest.
 fn daily_of(peak: bool, line: Line) -> u64
     requires { ⌜ line .u .0 ≤ 144000 ⌝ }
+    requires { ⌜ line .off .0 ≤ 144000 ⌝ }
     requires { ⌜ line .rate ≤ 100000 ⌝ }
     ensures { λ r. ⌜ r ≡ dailyOf peak line ⌝ }
 {
     let u = line.u;
-    let asked = before_cap(peak, line.calls, u, line.rate);
+    let off = line.off;
+    let first = before_cap(peak, line.calls, u, line.rate);
+    let second = before_cap(false, line.calls, off, line.rate);
+    let asked = higher(first, second);
     let rest = less(line.cap, line.spent);
     lesser(asked, rest)
 }
@@ -97,7 +110,7 @@ fn cents(product: u64, month: u64, k: u64, days: u64, daily: u64) -> u64
 }
 
 // Event ev's charges to date at month k, added to what is spent of the caps and to the sellers' compliance; their sum. A registration
-// without a share of its seller's shortfall is not charged.
+// without a share of a shortfall of its seller's is not charged.
 pub fn charge(year: &Cells, work: &mut Work, ev: usize, k: u64) -> u64
     requires { ⌜ Held (now year) ⌝ }
     requires { ⌜ (ev < 16) × (1 ≤ k) × (k ≤ 15) ⌝ }
@@ -113,7 +126,9 @@ pub fn charge(year: &Cells, work: &mut Work, ev: usize, k: u64) -> u64
     let mut all: u64 = 0;
     let mut i: usize = 0;
     while i < 64 {
-        if table::get(work, table::U, i) != 0 {
+        let u = table::get(work, table::U, i);
+        let off = table::get(work, table::OFF_U, i);
+        if (u != 0) | (off != 0) {
             let line = line_at(work, i);
             let daily = daily_of(peak, line);
             let due = cents(line.product, month, k, days, daily);

@@ -3,15 +3,15 @@
 use libc::STDIN_FILENO;
 ghost use Prim.Native.Nat.{_≤_};
 ghost use lib.ListN.{length};
-ghost use Rattle.report.specs.Text.{room};
 ghost use Rattle.layouts.specs.Layout.{longestRecord};
+ghost use Rattle.line.specs.Line.{lineRoom};
 
 // One record after another, up to the end or a number that ends the file; answers whether all is read and written.
 // A failed read or write ends it with nothing more written. No contract can name what is read or written: that
 // the lines of what is at hand are the file's is a law of `line` (lines-first).
 fn dump(input: i32, buffer: &mut [u8], out: &mut [u8]) -> bool
     requires { ⌜ longestRecord ≤ length (now buffer) ⌝ }
-    requires { ⌜ room ≤ length (now out) ⌝ }
+    requires { ⌜ lineRoom ≤ length (now out) ⌝ }
 {
     let mut window = stream::input::new_window();
     let mut at: usize = 0;
@@ -27,7 +27,7 @@ fn dump(input: i32, buffer: &mut [u8], out: &mut [u8]) -> bool
             return stream::output::finish(out, at);
         }
         let printed = line::print(position, &buffer[start..end], out, at);
-        let gathered = stream::output::with_room(out, printed.at, report::ROOM);
+        let gathered = stream::output::with_room(out, printed.at, line::ROOM);
         if gathered.failed {
             return false;
         }

@@ -14,6 +14,7 @@ use Rattle.ids.specs.Tables.{length-tabulate, is-tabulate, tabulate-same}
 use Rattle.year.specs.declared.Listing.{Listing}
 use Rattle.year.specs.declared.Test.{Test}
 use Rattle.year.specs.Year.{pastTest, listed, reduction}
+use Rattle.year.specs.Listing.{single}
 use Rattle.year.specs.Sound.{SoundTest, Sound}
 use Rattle.cells.specs.Rows.{from, Same}
 use Rattle.cells.specs.Layout.{flag, listingAt, cellTerms, placeIn, testAt, cellTests, yearIn}
@@ -22,7 +23,7 @@ use Rattle.cells.specs.Tested.{testedAt, firstAt, tested-in}
 
 -- a test that was taken
 abbrev pub testOf : ℕ → Listing → Test
-testOf month l = record { taken = true; month = month; listing = l }
+testOf month l = record { taken = true; month = month; listing = single l }
 
 -- a place without a test lists nothing
 pub untaken-free : (c : List ℕ) → Sound (yearIn c) → {k : ℕ} → k < 24 → getD (cellTests c) k pastTest .taken ≡ false → (i : ℕ) → i < 64 → testedAt c k i ≡ false
@@ -30,12 +31,12 @@ untaken-free c s {k} l e i m = sym (tested-in c s k m) ∙ s .tests k l .untaken
 
 -- d is c with a test at a place: its row, and the entries that it lists, from the row of its listing
 pub record Tested (place m : ℕ) (l c d : List ℕ) : Type 0 where
-  pub taken : at d (2823 + 18 * place + 0) ≡ 1
-  pub month : at d (2823 + 18 * place + 1) ≡ m
-  pub deficits : (j : ℕ) → j < 16 → at d (2823 + 18 * place + (2 + j)) ≡ at l (128 + j)
-  pub others : (k : ℕ) → k < 24 → k ≢ place → Same (2823 + 18 * k) 18 c d
-  pub marks : (i : ℕ) → i < 64 → at d (3255 + i) ≡ cond (flag (at l i)) (at l i) (at c (3255 + i))
-  pub reductions : (i : ℕ) → i < 64 → at d (3255 + (64 + i)) ≡ cond (flag (at l i)) (at l (64 + i)) (at c (3255 + (64 + i)))
+  pub taken : at d (3863 + 18 * place + 0) ≡ 1
+  pub month : at d (3863 + 18 * place + 1) ≡ m
+  pub deficits : (j : ℕ) → j < 16 → at d (3863 + 18 * place + (2 + j)) ≡ at l (128 + j)
+  pub others : (k : ℕ) → k < 24 → k ≢ place → Same (3863 + 18 * k) 18 c d
+  pub marks : (i : ℕ) → i < 64 → at d (4295 + i) ≡ cond (flag (at l i)) (at l i) (at c (4295 + i))
+  pub reductions : (i : ℕ) → i < 64 → at d (4295 + (64 + i)) ≡ cond (flag (at l i)) (at l (64 + i)) (at c (4295 + (64 + i)))
 
 module _ {place month : ℕ} {l c d : List ℕ} (h : Tested place month l c d) (p : place < 24) (places : (i : ℕ) → placeIn d i ≡ placeIn c i)
     (s : SoundTest (cellTerms c) place (testOf month (listingAt (at l)))) (free : (i : ℕ) → i < 64 → testedAt c place i ≡ false) where
@@ -59,31 +60,31 @@ module _ {place month : ℕ} {l c d : List ℕ} (h : Tested place month l c d) (
       → (testedAt d k i ≡ testedAt c k i) × (firstAt d k i ≡ firstAt c k i)
   entries-there k n i m true e =
       let other = ne-eqb (placeIn c i) k (λ q. n (sym q ∙ sym (places i) ∙ own-place i m e)) in
-      rw (places i, other, and-false (flag (at d (3255 + i))), and-false (flag (at c (3255 + i)))) (refl, refl)
+      rw (places i, other, and-false (flag (at d (4295 + i))), and-false (flag (at c (4295 + i)))) (refl, refl)
   entries-there k n i m false e = rw (h .marks i m, h .reductions i m, e, places i) (refl, refl)
 
   pub tests-laid : cellTests d ≡ set (cellTests c) place (testOf month (listingAt (at l)))
   unfolding cellTests
   tests-laid =
-      sym (is-tabulate (λ k. testAt (placeIn d) (from 3255 d) k (from (2823 + 18 * k) d)) 24 pastTest (set (cellTests c) place new)
-      (length-set (cellTests c) place new ∙ length-tabulate (λ k. testAt (placeIn c) (from 3255 c) k (from (2823 + 18 * k) c)) 24)
+      sym (is-tabulate (λ k. testAt (placeIn d) (from 4295 d) k (from (3863 + 18 * k) d)) 24 pastTest (set (cellTests c) place new)
+      (length-set (cellTests c) place new ∙ length-tabulate (λ k. testAt (placeIn c) (from 4295 c) k (from (3863 + 18 * k) c)) 24)
       (λ k m. go k m (ℕ-discrete k place)))
     where
       new : Test
       new = testOf month (listingAt (at l))
 
-      go : (k : ℕ) → k < 24 → Dec (k ≡ place) → getD (set (cellTests c) place new) k pastTest ≡ testAt (placeIn d) (from 3255 d) k (from (2823 + 18 * k) d)
+      go : (k : ℕ) → k < 24 → Dec (k ≡ place) → getD (set (cellTests c) place new) k pastTest ≡ testAt (placeIn d) (from 4295 d) k (from (3863 + 18 * k) d)
       go k m (yes e) =
           let here : (i : ℕ) → i < 64 → _ = λ i b. entries-here i b (flag (at l i)) refl in
-          rw e (getD-set-same (cellTests c) place new pastTest (omega (arith, length-tabulate (λ k. testAt (placeIn c) (from 3255 c) k (from (2823 + 18 * k) c)) 24))
+          rw e (getD-set-same (cellTests c) place new pastTest (omega (arith, length-tabulate (λ k. testAt (placeIn c) (from 4295 c) k (from (3863 + 18 * k) c)) 24))
           ∙ sym (cc (
             h .taken,
             h .month,
             tabulate-same 64 {f = testedAt d place} {g = λ i. flag (at l i)} (λ i b. here i b .0),
             tabulate-same 64 {f = firstAt d place} {g = λ i. at l (64 + i)} (λ i b. here i b .1),
-            tabulate-same 16 {f = λ j. at d (2823 + 18 * place + (2 + j))} {g = λ j. at l (128 + j)} (h .deficits),
+            tabulate-same 16 {f = λ j. at d (3863 + 18 * place + (2 + j))} {g = λ j. at l (128 + j)} (h .deficits),
           )))
       go k m (no n) =
           getD-set-other (cellTests c) place k new pastTest n ∙ test-in c pastTest m
-          ∙ sym (test-same k (placeIn d) (placeIn c) (from 3255 d) (from 3255 c) (from (2823 + 18 * k) d) (from (2823 + 18 * k) c)
+          ∙ sym (test-same k (placeIn d) (placeIn c) (from 4295 d) (from 4295 c) (from (3863 + 18 * k) d) (from (3863 + 18 * k) c)
           (h .others k m n .cell) (λ i b. entries-there k n i b (flag (at l i)) refl))

@@ -21,7 +21,7 @@ use cells::lay;
 
 // An entry of a table with a listing's: where it lists, its own.
 fn merged_at(year: &Cells, place: usize, listing: &[u64], part: usize, i: usize) -> u64
-    requires { ⌜ place + i < 3767 ⌝ }
+    requires { ⌜ place + i < 4807 ⌝ }
     requires { ⌜ i < length (now listing) ⌝ }
     requires { ⌜ part + i < length (now listing) ⌝ }
     ensures { λ r. ⌜ r ≡ mergedAt (now (year .entry)) place (now (listing .entry)) part i ⌝ }
@@ -34,7 +34,7 @@ fn merged_at(year: &Cells, place: usize, listing: &[u64], part: usize, i: usize)
 
 // All of them.
 fn merge(year: &Cells, place: usize, listing: &[u64], part: usize) -> [u64; 64]
-    requires { ⌜ place + 64 ≤ 3767 ⌝ }
+    requires { ⌜ place + 64 ≤ 4807 ⌝ }
     requires { ⌜ part + 64 ≤ length (now listing) ⌝ }
     ensures { λ r. ⌜ r ≡ merged (now (year .entry)) place (now (listing .entry)) part ⌝ }
 {
@@ -49,9 +49,9 @@ fn merge(year: &Cells, place: usize, listing: &[u64], part: usize) -> [u64; 64]
 
 // A listing's entries go into a table: 64 marks, then 64 reductions.
 fn enter(year: &mut Cells, table: usize, listing: &[u64])
-    requires { ⌜ length (now year) ≡ 3767 ⌝ }
-    requires { ⌜ table + 128 ≤ 3767 ⌝ }
-    requires { ⌜ length (now listing) ≡ 144 ⌝ }
+    requires { ⌜ length (now year) ≡ 4807 ⌝ }
+    requires { ⌜ table + 128 ≤ 4807 ⌝ }
+    requires { ⌜ length (now listing) ≡ 208 ⌝ }
     ensures { λ r. ⌜ Entered table (now (listing .entry)) (now (year .entry)) (now (year .exit)) ⌝ }
 {
     let marks = merge(year, table, listing, 0);
@@ -60,12 +60,12 @@ fn enter(year: &mut Cells, table: usize, listing: &[u64])
     lay(year, table + 64, &reductions);
 }
 
-// The test of a place that has none; its listing is a row by id: 64 marks, 64 reductions, 16 deficits.
+// The test of a place that has none; its listing is a row by id: 64 marks, 64 reductions, 16 deficits, then what no test has.
 pub fn test(year: &mut Cells, place: usize, month: u64, listing: &[u64])
     requires { ⌜ Held (now year) ⌝ }
     requires { ⌜ place < 24 ⌝ }
     requires { ⌜ getD (yearIn (now year) .tests) place pastTest .taken ≡ false ⌝ }
-    requires { ⌜ length (now listing) ≡ 144 ⌝ }
+    requires { ⌜ length (now listing) ≡ 208 ⌝ }
     requires { ⌜ SoundTest (yearIn (now year) .terms) place (testOf month (listingAt (at (now listing)))) ⌝ }
     ensures equals { λ r. ⌜ yearIn (now (year .exit)) ≡ withTest (yearIn (now (year .entry))) place (testOf month (listingAt (at (now (listing .entry))))) ⌝ }
     ensures held { λ r. ⌜ Held (now (year .exit)) ⌝ }
@@ -84,7 +84,7 @@ pub fn test(year: &mut Cells, place: usize, month: u64, listing: &[u64])
 pub fn retest(year: &mut Cells, listing: &[u64])
     requires { ⌜ Held (now year) ⌝ }
     requires { ⌜ yearIn (now year) .started ≡ true ⌝ }
-    requires { ⌜ length (now listing) ≡ 144 ⌝ }
+    requires { ⌜ length (now listing) ≡ 208 ⌝ }
     requires { ⌜ SoundListing (listingAt (at (now listing))) ⌝ }
     ensures equals { λ r. ⌜ yearIn (now (year .exit)) ≡ withRetest (yearIn (now (year .entry))) (listingAt (at (now (listing .entry)))) ⌝ }
     ensures held { λ r. ⌜ Held (now (year .exit)) ⌝ }

@@ -1,4 +1,4 @@
--- A record with names (document 01, 'Record layouts'; document 02, C-11 and C-15): its head by kind, and what it lists.
+-- A record with names (document 01, 'Record layouts'; document 02, C-11, C-15 and C-17): its head by kind, and what it lists.
 use Prim.Native.Nat.{ℕ, zero, suc}
 use mathlib.Core.Bool.{Bool, true, false, cond}
 use mathlib.Core.List.{List, [], _∷_}
@@ -8,7 +8,7 @@ use Rattle.ids.specs.Ids.{at}
 use Rattle.layouts.specs.Layout.{lists, listAt, itemsIn, itemIn}
 use Rattle.year.specs.declared.Listing.{Listing}
 use Rattle.year.specs.Year.{noListing}
-use Rattle.year.specs.Listing.{withEntry, withDeficit}
+use Rattle.year.specs.Listing.{withEntry, withSecond, withDeficit}
 use Rattle.heads.specs.declared.OpeningHead.{OpeningHead}
 use Rattle.heads.specs.declared.RegistrationHead.{RegistrationHead}
 use Rattle.heads.specs.declared.LseHead.{LseHead}
@@ -25,24 +25,26 @@ pub record Record : Type 0 where
   pub head : Head
   pub listing : Listing
 
--- the head of a record with these numbers, by its kind; a number that is none, which question 1 does not let pass, reads as a close of no month
+-- the head of a record with these numbers, by its kind; kind 8 is an event of period 3, with on-peak and off-peak measured apart; a number that is none, which question 1 does not let pass, reads as a close of no month
 unfoldable pub headOf : List ℕ → Head
 headOf vs =
     let v = at vs in
     cond (eqb (v 0) 1) (Opening (record { leap = v 1; factor = v 2; requirement = v 3 }))
     (cond (eqb (v 0) 2) (Registration (record { id = v 1; seller = v 2; area = v 3; zone = v 4; product = v 5; committed = v 6; rate = v 7 }))
     (cond (eqb (v 0) 3) (Lse (record { id = v 1; obligation = v 2 }))
-    (cond (eqb (v 0) 4) (Event (record { area = v 1; month = v 2; period = v 3 }))
+    (cond (eqb (v 0) 4) (Event (record { area = v 1; month = v 2; period = v 3; apart = false }))
     (cond (eqb (v 0) 5) (Test (record { zone = v 1; product = v 2; month = v 3 }))
     (cond (eqb (v 0) 6) (Close (record { month = v 1 }))
     (cond (eqb (v 0) 7) (Clearing (record { registration = v 1; price = v 2; kw = v 3 }))
+    (cond (eqb (v 0) 8) (Event (record { area = v 1; month = v 2; period = 3; apart = true }))
     (cond (eqb (v 0) 9) (Retest (record { seller = v 1; zone = v 2; product = v 3; month = v 4 }))
-    (Close (record { month = 0 })))))))))
+    (Close (record { month = 0 }))))))))))
 
--- a listing with one item more, its id first: an entry where it has reductions, of which the first is kept, else a deficit
+-- a listing with one item more, its id first: an entry where it has a reduction or two, else a deficit
 unfoldable pub withItem : List ℕ → (ℕ → ℕ) → Listing → Listing
 withItem [] item l = withDeficit l (item 0) (item 1)
-withItem (r ∷ rs) item l = withEntry l (item 0) (item r)
+withItem (r ∷ []) item l = withEntry l (item 0) (item r)
+withItem (r ∷ t ∷ ts) item l = withSecond (withEntry l (item 0) (item r)) (item 0) (item t)
 
 -- with the first n items of list i of a record of kind k
 unfoldable pub withItems : ℕ → List ℕ → ℕ → Listing → ℕ → Listing

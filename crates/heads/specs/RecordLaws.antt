@@ -43,8 +43,9 @@ module _ (vs ws : List ℕ) (first : at ws 0 ≡ at vs 0) (same : (j : ℕ) → 
       (λ _. either (eqb k 5) (λ y. let e = eqb-true k 5 y in rw (number 5 1 e (omega arith), number 5 2 e (omega arith), number 5 3 e (omega arith)))
       (λ _. either (eqb k 6) (λ y. rw (number 6 1 (eqb-true k 6 y) (omega arith)))
       (λ _. either (eqb k 7) (λ y. let e = eqb-true k 7 y in rw (number 7 1 e (omega arith), number 7 2 e (omega arith), number 7 3 e (omega arith)))
+      (λ _. either (eqb k 8) (λ y. let e = eqb-true k 8 y in rw (number 8 1 e (omega arith), number 8 2 e (omega arith)))
       (λ _. either (eqb k 9) (λ y. let e = eqb-true k 9 y in rw (number 9 1 e (omega arith), number 9 2 e (omega arith), number 9 3 e (omega arith), number 9 4 e (omega arith)))
-      (λ _. refl)))))))))
+      (λ _. refl))))))))))
 
 -- one item more, and one list more, as a loop says it
 pub items-more : (k : ℕ) (vs : List ℕ) (i : ℕ) (l : Listing) (n : ℕ) → withItems k vs i l (n + 1) ≡ withItem (listAt k i .reductions) (itemIn k vs i n) (withItems k vs i l n)

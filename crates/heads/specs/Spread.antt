@@ -1,4 +1,4 @@
--- A listing as a row by id: 64 marks and 64 reductions by registration, then 16 deficits by seller.
+-- A listing as a row by id: 64 marks and 64 reductions by registration, 16 deficits by seller, then 64 second reductions.
 use Prim.Native.Nat.{ℕ, _+_, _<_}
 use mathlib.Core.Path.{_≡_, ap, sym, _∙_}
 use mathlib.Core.Bool.{Bool, false}
@@ -10,23 +10,24 @@ use Rattle.ids.specs.Ids.{at, tabulate}
 use Rattle.ids.specs.Tables.{tabulate-same}
 use Rattle.year.specs.declared.Listing.{Listing}
 use Rattle.year.specs.Year.{noListing}
-use Rattle.year.specs.Listing.{withEntry, withDeficit}
+use Rattle.year.specs.Listing.{withEntry, withSecond, withDeficit}
 use Rattle.cells.specs.Rows.{Laid, laid-set, Same, same-before, same-behind, cells-laid, numbers-kept, table-of}
 use Rattle.cells.specs.Layout.{flag, listingAt}
 
 pub record Spreads (l : Listing) (row : List ℕ) : Type 0 where
-  pub long : length row ≡ 144
+  pub long : length row ≡ 208
   pub lists : listingAt (at row) ≡ l
 
 -- a row of zeros lists nothing
-pub spread-none : Spreads noListing (replicate 144 0)
+pub spread-none : Spreads noListing (replicate 208 0)
 spread-none =
     record {
-      long = length-replicate {A = ℕ} 144 0;
+      long = length-replicate {A = ℕ} 208 0;
       lists = cc (
-        table-of {f = λ i. flag (at (replicate 144 0) i)} {x = false} 64 (λ i m. rw (getD-replicate {A = ℕ} 144 i 0 0 (omega arith))),
-        table-of {f = λ i. at (replicate 144 0) (64 + i)} 64 (λ i m. getD-replicate 144 (64 + i) 0 0 (omega arith)),
-        table-of {f = λ j. at (replicate 144 0) (128 + j)} 16 (λ j m. getD-replicate 144 (128 + j) 0 0 (omega arith)),
+        table-of {f = λ i. flag (at (replicate 208 0) i)} {x = false} 64 (λ i m. rw (getD-replicate {A = ℕ} 208 i 0 0 (omega arith))),
+        table-of {f = λ i. at (replicate 208 0) (64 + i)} 64 (λ i m. getD-replicate 208 (64 + i) 0 0 (omega arith)),
+        table-of {f = λ i. at (replicate 208 0) (144 + i)} 64 (λ i m. getD-replicate 208 (144 + i) 0 0 (omega arith)),
+        table-of {f = λ j. at (replicate 208 0) (128 + j)} 16 (λ j m. getD-replicate 208 (128 + j) 0 0 (omega arith)),
       );
     }
 
@@ -56,7 +57,23 @@ module _ {l : Listing} {row : List ℕ} (s : Spreads l row) where
             (cc (
               marks-kept (same-before kw 0 64 (omega arith)) ∙ marks-laid i m mark,
               cells-laid (λ x. x) 64 64 i m kw ∙ ap (λ (x : List ℕ). set x i v) (numbers-kept 64 64 (same-behind mark 64 64 (omega arith))),
+              numbers-kept 64 144 (same-behind kw 144 64 (omega arith)) ∙ numbers-kept 64 144 (same-behind mark 144 64 (omega arith)),
               numbers-kept 16 128 (same-behind kw 128 16 (omega arith)) ∙ numbers-kept 16 128 (same-behind mark 128 16 (omega arith)),
+            ));
+      }
+
+  -- a second reduction
+  pub spread-second : (i v : ℕ) → i < 64 → Spreads (withSecond l i v) (set row (144 + i) v)
+  spread-second i v m =
+      let kw : Laid (144 + i) (v ∷ []) row (set row (144 + i) v) = laid-set (omega (arith, s .long)) in
+      record {
+        long = kw .long ∙ s .long;
+        lists = rw (← (s .lists))
+            (cc (
+              marks-kept (same-before kw 0 64 (omega arith)),
+              numbers-kept 64 64 (same-before kw 64 64 (omega arith)),
+              cells-laid (λ x. x) 64 144 i m kw,
+              numbers-kept 16 128 (same-before kw 128 16 (omega arith)),
             ));
       }
 
@@ -70,6 +87,7 @@ module _ {l : Listing} {row : List ℕ} (s : Spreads l row) where
             (cc (
               marks-kept (same-before kw 0 64 (omega arith)),
               numbers-kept 64 64 (same-before kw 64 64 (omega arith)),
+              numbers-kept 64 144 (same-behind kw 144 64 (omega arith)),
               cells-laid (λ x. x) 16 128 j m kw,
             ));
       }

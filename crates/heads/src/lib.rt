@@ -29,10 +29,12 @@ pub struct LseHead {
     pub obligation: u64,
 }
 
+// An event of kind 4, or of kind 8, which is one of period 3 with two reductions an entry: on-peak and off-peak measured apart.
 pub struct EventHead {
     pub area: u64,
     pub month: u64,
     pub period: u64,
+    pub apart: bool,
 }
 
 pub struct TestHead {
@@ -104,6 +106,7 @@ pub fn head_of(values: &[u64]) -> Head
             area: values[1],
             month: values[2],
             period: values[3],
+            apart: false,
         });
     }
     if kind == 5 {
@@ -121,6 +124,14 @@ pub fn head_of(values: &[u64]) -> Head
             registration: values[1],
             price: values[2],
             kw: values[3],
+        });
+    }
+    if kind == 8 {
+        return Head::Event(EventHead {
+            area: values[1],
+            month: values[2],
+            period: 3,
+            apart: true,
         });
     }
     if kind == 9 {

@@ -1,4 +1,4 @@
-// What a record lists, as a row by id: 64 marks and 64 reductions by registration, then 16 deficits by seller.
+// What a record lists, as a row by id: 64 marks and 64 reductions by registration, 16 deficits by seller, then 64 second reductions.
 ghost use mathlib.Core.Path.{_≡_};
 ghost use Prim.Native.Nat.{_+_, _<_};
 ghost use lib.ListN.{length, replicate};
@@ -13,7 +13,7 @@ use layouts::shapes::head_of;
 use layouts::shapes::list_at;
 
 // List i of a record, which begins at a place: its items go into the row, as entries or as deficits. Answers where the next list begins.
-fn spread_list(values: &[u64], i: usize, from: usize, row: &mut [u64; 144]) -> usize
+fn spread_list(values: &[u64], i: usize, from: usize, row: &mut [u64; 208]) -> usize
     requires { ⌜ length (now values) ≡ most ⌝ }
     requires { ⌜ Permitted (now values) ⌝ }
     requires { ⌜ i < length (lists (at (now values) 0)) ⌝ }
@@ -26,6 +26,7 @@ fn spread_list(values: &[u64], i: usize, from: usize, row: &mut [u64; 144]) -> u
     let list = list_at(kind, i, values);
     let part = part_at(kind, i + 1);
     let reduction = part.reduction;
+    let second = part.second;
     let fields = part.end - part.start;
     let n = list.items;
     let mut p = from;
@@ -38,6 +39,9 @@ fn spread_list(values: &[u64], i: usize, from: usize, row: &mut [u64; 144]) -> u
             row[id] = 1;
             row[64 + id] = values[p + reduction];
         }
+        if second != 0 {
+            row[144 + id] = values[p + second];
+        }
         p += fields;
         k += 1;
     }
@@ -45,10 +49,10 @@ fn spread_list(values: &[u64], i: usize, from: usize, row: &mut [u64; 144]) -> u
 }
 
 // What a record lists goes into a row of zeros, list by list.
-pub fn spread(values: &[u64], row: &mut [u64; 144])
+pub fn spread(values: &[u64], row: &mut [u64; 208])
     requires { ⌜ length (now values) ≡ most ⌝ }
     requires { ⌜ Permitted (now values) ⌝ }
-    requires { ⌜ now row ≡ replicate 144 0 ⌝ }
+    requires { ⌜ now row ≡ replicate 208 0 ⌝ }
     ensures { λ _. ⌜ Spreads (listingIn (now (values .entry))) (now (row .exit)) ⌝ }
 {
     let kind = values[0] as usize;

@@ -33,7 +33,7 @@ use Rattle.history.specs.Does.{Does, terms, event, test, close, retest, 
 use Rattle.history.specs.Columns.{Column, pays, tests, column, lineIn}
 use Rattle.history.specs.Kept.{Kept, kept-new, kept-step}
 use Rattle.history.specs.Closes.{close-line}
-use Rattle.history.specs.Same.{SameListing, Same, same-new, same-terms, same-event, same-test, same-retests, same-retest, same-close}
+use Rattle.history.specs.Same.{SameListing, same-single, Same, same-new, same-terms, same-event, same-test, same-retests, same-retest, same-close}
 use Rattle.history.specs.Blind.{years-blind}
 use Rattle.history.specs.OwnRetests.{isOwnRetest, own-retest}
 use Rattle.history.specs.Paired.{Paired, paired}
@@ -51,8 +51,8 @@ module _ {s : ℕ} {y z : Year} (h : Related s y z) where
   unfolding yearBy
   same-record {l} {m} (terms x) = λ a q.
       rw (x .is y l, x .is z m, ← (h .same .terms), ← (h .same .clearings), ← (h .same .opened)) (same-terms (h .same) (h .left .sound) (h .right .sound) (x .fresh (h .left .begun) a) _ _ _)
-  same-record (event e n) = rw n (λ a q. same-event (h .same) (h .left .sound) (h .right .sound) (event-held a) (record { month = refl; period = refl; listing = q }))
-  same-record (test t n) = rw n (λ a q. same-test (h .same) (h .left .sound) (h .right .sound) _ (record { taken = refl; month = refl; listing = q }))
+  same-record (event e n) = rw n (λ a q. same-event (h .same) (h .left .sound) (h .right .sound) (event-held a) (record { month = refl; period = refl; apart = refl; listing = q }))
+  same-record (test t n) = rw n (λ a q. same-test (h .same) (h .left .sound) (h .right .sound) _ (record { taken = refl; month = refl; listing = same-single (y .terms) s q }))
   same-record (close c n) = rw n (λ a q. same-close (h .same) (c .month))
   same-record (retest t n) = rw n (λ a q. same-retest (h .same) q)
 

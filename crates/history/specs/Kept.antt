@@ -2,7 +2,7 @@
 use Prim.Native.Nat.{ℕ, _<_}
 use mathlib.Core.Bool.{Bool, true, false, cond}
 use mathlib.Core.List.{List, [], _∷_}
-use mathlib.Core.Path.{_≡_, refl, _∙_}
+use mathlib.Core.Path.{_≡_, refl, sym, _∙_}
 use native.Mathlib.Nat.{not-suc-le-zero}
 use native.Mathlib.Omega.{arith}
 use lib.ListN.{length, getD, replicate}
@@ -14,6 +14,7 @@ use Rattle.year.specs.declared.Terms.{Terms}
 use Rattle.year.specs.declared.Year.{Year}
 use Rattle.year.specs.Year.{newYear, noAmounts, noTest, testPlace, listed, known, pastEvent, pastTest}
 use Rattle.ids.specs.Sets.{kept-set, related-next, getD-replicate-same}
+use Rattle.year.specs.ListingLaws.{single-listed}
 use Rattle.year.specs.Steps.{withTerms}
 use Rattle.year.specs.Sound.{SoundTerms, Sound}
 use Rattle.year.specs.Kept.{sound-new}
@@ -23,7 +24,8 @@ use Rattle.owed_laws.specs.Parties.{Known}
 use Rattle.heads.specs.declared.Head.{Head}
 use Rattle.questions.specs.Questions.{monthBegun}
 use Rattle.questions.specs.Admitted.{Admitted, event-held}
-use Rattle.recorded.specs.After.{eventOf, yearBy, yearWith}
+use Rattle.heads.specs.Events.{eventOf}
+use Rattle.recorded.specs.After.{yearBy, yearWith}
 use Rattle.book.specs.Outcome.{recordIn, yearAfter}
 use Rattle.book.specs.Kept.{sound-after}
 use Rattle.history.specs.Runs.{Call, isAccepted}
@@ -103,7 +105,7 @@ module _ {y : Year} (k : Kept y) {l : Listing} {room : ℕ} where
         sound = s;
         begun = λ b. test-open a;
         unbilled = λ b. never b refl;
-        known = record { events = k .known .events; tests = kept-set P pastTest (y .tests) (testPlace (t .zone) (t .product)) (λ m. knows (k .sound .terms) l (test-knows a)) (k .known .tests) };
+        known = record { events = k .known .events; tests = kept-set P pastTest (y .tests) (testPlace (t .zone) (t .product)) (λ m i b n. knows (k .sound .terms) l (test-knows a) i b (sym (single-listed l i) ∙ n)) (k .known .tests) };
         billed = k .billed;
       })
   kept-by (close c q) = rw q (λ a s.

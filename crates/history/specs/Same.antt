@@ -18,7 +18,8 @@ use Rattle.year.specs.declared.Test.{Test}
 use Rattle.year.specs.declared.Retest.{Retest}
 use Rattle.year.specs.declared.Terms.{Terms}
 use Rattle.year.specs.declared.Year.{Year}
-use Rattle.year.specs.Year.{newYear, noTest, noRetest, retestOf, pastEvent, pastTest, listed, reduction, deficit, seller}
+use Rattle.year.specs.Year.{newYear, noTest, noRetest, retestOf, pastEvent, pastTest, listed, reduction, second, deficit, seller}
+use Rattle.year.specs.Listing.{single}
 use Rattle.year.specs.Steps.{withTerms, withEvent, withTest, withRetests, retestBy, withRetest, withClose}
 use Rattle.year.specs.Sound.{Sound}
 use Rattle.owed.specs.Facts.{factsOf, sellers}
@@ -31,10 +32,12 @@ module _ (T : Terms) (s : ℕ) where
     pub listed : a .listed ≡ b .listed
     pub deficits : a .deficits ≡ b .deficits
     pub reductions : (i : ℕ) → (seller T i ≡ s → ⊥) → reduction a i ≡ reduction b i
+    pub seconds : (i : ℕ) → (seller T i ≡ s → ⊥) → second a i ≡ second b i
 
   pub record SameEvent (a b : Event) : Type 0 where
     pub month : a .month ≡ b .month
     pub period : a .period ≡ b .period
+    pub apart : a .apart ≡ b .apart
     pub listing : SameListing (a .listing) (b .listing)
 
   pub record SameTest (a b : Test) : Type 0 where
@@ -43,7 +46,12 @@ module _ (T : Terms) (s : ℕ) where
     pub listing : SameListing (a .listing) (b .listing)
 
   pub listing-refl : (a : Listing) → SameListing a a
-  listing-refl a = record { listed = refl; deficits = refl; reductions = λ i n. refl }
+  listing-refl a = record { listed = refl; deficits = refl; reductions = λ i n. refl; seconds = λ i n. refl }
+
+  -- without second reductions too
+  pub same-single : {a b : Listing} → SameListing a b → SameListing (single a) (single b)
+  unfolding reduction second
+  same-single q = record { listed = q .listed; deficits = q .deficits; reductions = q .reductions; seconds = λ i n. refl }
 
   test-refl : (a : Test) → SameTest a a
   test-refl a = record { taken = refl; month = refl; listing = listing-refl (a .listing) }
@@ -94,6 +102,7 @@ module _ {s : ℕ} {y z : Year} (h : Same s y z) where
         events = h .held;
         month = λ ev l. h .events ev l .month;
         period = λ ev l. h .events ev l .period;
+        apart = λ ev l. h .events ev l .apart;
         deficit = λ ev l. rw (h .events ev l .listing .deficits);
         testDeficit = λ p. rw (h .tests p .listing .deficits);
         product = λ i own. rw (h .terms);
@@ -101,6 +110,7 @@ module _ {s : ℕ} {y z : Year} (h : Same s y z) where
         rate = λ i own. rw (h .terms, h .clearings);
         listed = λ ev l i own. listed-same ev l i;
         reduction = λ ev l i own. h .events ev l .listing .reductions i (λ q. n (sym own ∙ q));
+        offPeak = λ ev l i own. h .events ev l .listing .seconds i (λ q. n (sym own ∙ q));
         tested = λ p i own. rw (h .tests p .listing .listed);
         testReduction = λ p i own. h .tests p .listing .reductions i (λ q. n (sym own ∙ q));
         retested = λ i own. ap (λ (x : Retest). x .taken) (h .retests i (λ q. n (sym own ∙ q)));

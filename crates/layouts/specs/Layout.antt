@@ -1,4 +1,4 @@
--- The record layouts (document 01, 'Record layouts'; document 02, C-11 and C-15), as one table with a row a kind; what else is known of a kind is derived from its row.
+-- The record layouts (document 01, 'Record layouts'; document 02, C-11, C-15 and C-17), as one table with a row a kind; what else is known of a kind is derived from its row.
 use Prim.Native.Nat.{ℕ, zero, suc, _+_, _-_, _*_, _^_, max}
 use mathlib.Core.Bool.{cond}
 use mathlib.Core.List.{List, [], _∷_, _++_, map}
@@ -31,12 +31,15 @@ field w l h = record { width = w; low = l; high = h }
 abbrev kind : ℕ → Rule
 kind k = field 4 k k
 
--- a deficit: seller, kW; an entry: registration, reduction kW
+-- a deficit: seller, kW; an entry: registration, reduction kW; one of two reductions: registration, on-peak kW, off-peak kW
 abbrev deficit : List Rule
 deficit = field 4 0 15 ∷ field 20 1 1000000 ∷ []
 
 abbrev entry : List Rule
 entry = field 6 0 63 ∷ field 17 0 100000 ∷ []
+
+abbrev pair : List Rule
+pair = field 6 0 63 ∷ field 17 0 100000 ∷ field 17 0 100000 ∷ []
 
 abbrev bare : List Rule → Layout
 bare h = record { head = h; lists = [] }
@@ -51,12 +54,15 @@ noItems = record { count = 0; fields = []; reductions = [] }
 abbrev pub noLayout : Layout
 noLayout = bare []
 
--- deficits, counted in number 4, and entries, counted in number 5
-abbrev deficits : Items
-deficits = record { count = 4; fields = deficit; reductions = [] }
+-- lists by the number that counts them: deficits, entries, entries of two reductions
+abbrev deficits : ℕ → Items
+deficits n = record { count = n; fields = deficit; reductions = [] }
 
-abbrev entries : Items
-entries = record { count = 5; fields = entry; reductions = 1 ∷ [] }
+abbrev entries : ℕ → Items
+entries n = record { count = n; fields = entry; reductions = 1 ∷ [] }
+
+abbrev pairs : ℕ → Items
+pairs n = record { count = n; fields = pair; reductions = 1 ∷ 2 ∷ [] }
 
 -- the kinds from 0 on
 abbrev pub layouts : List Layout
@@ -69,17 +75,17 @@ layouts =
     -- LSE: LSE, obligation kW
     ∷ bare (kind 3 ∷ field 4 0 15 ∷ field 20 1 1000000 ∷ [])
     -- event: area, month, period, deficits, entries
-    ∷ record { head = kind 4 ∷ field 3 0 7 ∷ field 4 1 12 ∷ field 2 1 3 ∷ field 5 0 16 ∷ field 7 1 64 ∷ []; lists = deficits ∷ entries ∷ [] }
+    ∷ record { head = kind 4 ∷ field 3 0 7 ∷ field 4 1 12 ∷ field 2 1 3 ∷ field 5 0 16 ∷ field 7 1 64 ∷ []; lists = deficits 4 ∷ entries 5 ∷ [] }
     -- test: zone, product, month, deficits, entries
-    ∷ record { head = kind 5 ∷ field 3 0 7 ∷ field 2 0 2 ∷ field 4 1 12 ∷ field 5 0 16 ∷ field 7 1 64 ∷ []; lists = deficits ∷ entries ∷ [] }
+    ∷ record { head = kind 5 ∷ field 3 0 7 ∷ field 2 0 2 ∷ field 4 1 12 ∷ field 5 0 16 ∷ field 7 1 64 ∷ []; lists = deficits 4 ∷ entries 5 ∷ [] }
     -- close: month
     ∷ bare (kind 6 ∷ field 4 1 15 ∷ [])
     -- clearing: registration, price, cleared kW
     ∷ bare (kind 7 ∷ field 6 0 63 ∷ field 17 0 100000 ∷ field 17 1 100000 ∷ [])
-    -- 8 is no kind
-    ∷ noLayout
+    -- event of two reductions: area, month, deficits, entries
+    ∷ record { head = kind 8 ∷ field 3 0 7 ∷ field 4 1 12 ∷ field 5 0 16 ∷ field 7 1 64 ∷ []; lists = deficits 3 ∷ pairs 4 ∷ [] }
     -- retest: seller, zone, product, month, entries
-    ∷ record { head = kind 9 ∷ field 4 0 15 ∷ field 3 0 7 ∷ field 2 0 2 ∷ field 4 1 12 ∷ field 7 1 64 ∷ []; lists = entries ∷ [] }
+    ∷ record { head = kind 9 ∷ field 4 0 15 ∷ field 3 0 7 ∷ field 2 0 2 ∷ field 4 1 12 ∷ field 7 1 64 ∷ []; lists = entries 5 ∷ [] }
     ∷ []
 
 abbrev pub layoutOf : ℕ → Layout
@@ -152,10 +158,10 @@ highest f (l ∷ ls) = max (f l) (highest f ls)
 -- the bytes of the longest record, by counts as written, and of the longest that is permitted; the most numbers that a permitted record has:
 -- `longest-is`, `longest-permitted-is` and `most-is` compute them from the table
 abbrev pub longestRecord : ℕ
-longestRecord = 462
+longestRecord = 731
 
 abbrev pub longestPermitted : ℕ
-longestPermitted = 236
+longestPermitted = 371
 
 abbrev pub most : ℕ
-most = 166
+most = 229

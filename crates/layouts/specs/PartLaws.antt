@@ -118,6 +118,7 @@ module _ (k : ℕ) (l : k < length layouts) where
           bits = ap (λ (x : Items). total (widths (x .fields))) part-is;
           count = ap (λ (x : Items). x .count) part-is;
           reduction = ap (λ (x : Items). at (x .reductions) 0) part-is;
+          second = ap (λ (x : Items). at (x .reductions) 1) part-is;
         }
 
 -- a table is as long as the fields are many

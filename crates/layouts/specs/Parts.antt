@@ -48,14 +48,14 @@ lows rs = map (λ r. r .low) rs
 abbrev pub highs : List Rule → List ℕ
 highs rs = map (λ r. r .high) rs
 
--- a part with these numbers, and part h: where its fields start and end, the bits that they take, the place of its count, and its first reduction
-abbrev pub rowOf : ℕ → ℕ → ℕ → ℕ → ℕ → Part
-rowOf s e b c r = record { start = s; end = e; bits = b; count = c; reduction = r }
+-- a part with these numbers, and part h: where its fields start and end, the bits that they take, the place of its count, and its first and its second reduction
+abbrev pub rowOf : ℕ → ℕ → ℕ → ℕ → ℕ → ℕ → Part
+rowOf s e b c r t = record { start = s; end = e; bits = b; count = c; reduction = r; second = t }
 
 abbrev pub rowAt : ℕ → Part
 rowAt h =
     let part = getD parts h noItems in
-    rowOf (startOf (fieldsIn parts) h) (startOf (fieldsIn parts) (h + 1)) (total (widths (part .fields))) (part .count) (at (part .reductions) 0)
+    rowOf (startOf (fieldsIn parts) h) (startOf (fieldsIn parts) (h + 1)) (total (widths (part .fields))) (part .count) (at (part .reductions) 0) (at (part .reductions) 1)
 
 -- p is where the tables have part i of kind k
 pub record Placed (k i : ℕ) (p : Part) : Type 0 where
@@ -65,6 +65,7 @@ pub record Placed (k i : ℕ) (p : Part) : Type 0 where
   pub bits : p .bits ≡ total (widths (partAt k i .fields))
   pub count : p .count ≡ partAt k i .count
   pub reduction : p .reduction ≡ at (partAt k i .reductions) 0
+  pub second : p .second ≡ at (partAt k i .reductions) 1
 
 -- numbers that state a record of kind k which is no longer than the longest
 pub record Stated (k : ℕ) (vs : List ℕ) : Type 0 where

@@ -7,11 +7,11 @@ ghost use Rattle.layouts.specs.Parts.{startOf, kinds, parts, rules, lows
 
 pub mod shapes;
 
-// How many kinds the tables have, 0 and 8 among them, which are none.
+// How many kinds the tables have, 0 among them, which is none.
 pub const KINDS: u64 = 10;
 
 // The fields of every part of every kind, part after part: a kind's head, then an item of each of its lists. What is no kind has none. Their widths in bits,
-const WIDTHS: [u8; 49] = [
+const WIDTHS: [u8; 59] = [
     4, // opening
     1, // leap
     14, // DR Factor
@@ -53,6 +53,16 @@ const WIDTHS: [u8; 49] = [
     6, // registration id
     17, // price
     17, // cleared kW
+    4, // event of two reductions
+    3, // area
+    4, // month
+    5, // deficits
+    7, // entries
+    4, // deficit: seller
+    20, // deficit kW
+    6, // entry: registration
+    17, // on-peak reduction kW
+    17, // off-peak reduction kW
     4, // retest
     4, // seller
     3, // zone
@@ -64,7 +74,7 @@ const WIDTHS: [u8; 49] = [
 ];
 
 // their lowest permitted values,
-const LOWS: [u32; 49] = [
+const LOWS: [u32; 59] = [
     1, // opening
     0, // leap
     1, // DR Factor
@@ -106,6 +116,16 @@ const LOWS: [u32; 49] = [
     0, // registration id
     0, // price
     1, // cleared kW
+    8, // event of two reductions
+    0, // area
+    1, // month
+    0, // deficits
+    1, // entries
+    0, // deficit: seller
+    1, // deficit kW
+    0, // entry: registration
+    0, // on-peak reduction kW
+    0, // off-peak reduction kW
     9, // retest
     0, // seller
     0, // zone
@@ -117,7 +137,7 @@ const LOWS: [u32; 49] = [
 ];
 
 // and their highest.
-const HIGHS: [u32; 49] = [
+const HIGHS: [u32; 59] = [
     1, // opening
     1, // leap
     12000, // DR Factor
@@ -159,6 +179,16 @@ const HIGHS: [u32; 49] = [
     63, // registration id
     100000, // price
     100000, // cleared kW
+    8, // event of two reductions
+    7, // area
+    12, // month
+    16, // deficits
+    64, // entries
+    15, // deficit: seller
+    1000000, // deficit kW
+    63, // entry: registration
+    100000, // on-peak reduction kW
+    100000, // off-peak reduction kW
     9, // retest
     15, // seller
     7, // zone
@@ -169,28 +199,29 @@ const HIGHS: [u32; 49] = [
     100000, // reduction kW
 ];
 
-// Where the fields of a part stand in the tables, from start up to end; the bits that they take; the place of the part's count among the numbers of its head, 0 for a head; and which of its fields is the first reduction, 0 where none is.
+// Where the fields of a part stand in the tables, from start up to end; the bits that they take; the place of the part's count among the numbers of its head, 0 for a head; and which of its fields are its first and its second reduction, 0 where it has none.
 pub struct Part {
     pub start: usize,
     pub end: usize,
     pub bits: usize,
     pub count: usize,
     pub reduction: usize,
+    pub second: usize,
 }
 
-pub fn widths_of_parts() -> [u8; 49]
+pub fn widths_of_parts() -> [u8; 59]
     ensures { λ r. ⌜ r ≡ widths rules ⌝ }
 {
     WIDTHS
 }
 
-pub fn lows_of_parts() -> [u32; 49]
+pub fn lows_of_parts() -> [u32; 59]
     ensures { λ r. ⌜ r ≡ lows rules ⌝ }
 {
     LOWS
 }
 
-pub fn highs_of_parts() -> [u32; 49]
+pub fn highs_of_parts() -> [u32; 59]
     ensures { λ r. ⌜ r ≡ highs rules ⌝ }
 {
     HIGHS
@@ -211,8 +242,8 @@ fn first_of(kind: usize) -> usize
         6 => 10,
         7 => 11,
         8 => 12,
-        9 => 13,
-        _ => 15,
+        9 => 15,
+        _ => 17,
     }
 }
 
@@ -224,8 +255,8 @@ pub fn lists_of(kind: usize) -> usize
     first_of(kind + 1) - first_of(kind) - 1
 }
 
-fn row(start: usize, end: usize, bits: usize, count: usize, reduction: usize) -> Part
-    ensures { λ r. ⌜ r ≡ rowOf start end bits count reduction ⌝ }
+fn row(start: usize, end: usize, bits: usize, count: usize, reduction: usize, second: usize) -> Part
+    ensures { λ r. ⌜ r ≡ rowOf start end bits count reduction second ⌝ }
 {
     Part {
         start: start,
@@ -233,6 +264,7 @@ fn row(start: usize, end: usize, bits: usize, count: usize, reduction: usize) ->
         bits: bits,
         count: count,
         reduction: reduction,
+        second: second,
     }
 }
 
@@ -242,21 +274,23 @@ fn row_at(part: usize) -> Part
     ensures { λ r. ⌜ r ≡ rowAt part ⌝ }
 {
     match part {
-        0 => row(0, 0, 0, 0, 0), // no kind
-        1 => row(0, 4, 33, 0, 0), // opening
-        2 => row(4, 12, 56, 0, 0), // registration
-        3 => row(12, 15, 28, 0, 0), // LSE
-        4 => row(15, 21, 25, 0, 0), // event
-        5 => row(21, 23, 24, 4, 0), // its deficits
-        6 => row(23, 25, 23, 5, 1), // its entries
-        7 => row(25, 31, 25, 0, 0), // test
-        8 => row(31, 33, 24, 4, 0), // its deficits
-        9 => row(33, 35, 23, 5, 1), // its entries
-        10 => row(35, 37, 8, 0, 0), // close
-        11 => row(37, 41, 44, 0, 0), // clearing
-        12 => row(41, 41, 0, 0, 0), // no kind
-        13 => row(41, 47, 24, 0, 0), // retest
-        _ => row(47, 49, 23, 5, 1), // its entries
+        0 => row(0, 0, 0, 0, 0, 0), // no kind
+        1 => row(0, 4, 33, 0, 0, 0), // opening
+        2 => row(4, 12, 56, 0, 0, 0), // registration
+        3 => row(12, 15, 28, 0, 0, 0), // LSE
+        4 => row(15, 21, 25, 0, 0, 0), // event
+        5 => row(21, 23, 24, 4, 0, 0), // its deficits
+        6 => row(23, 25, 23, 5, 1, 0), // its entries
+        7 => row(25, 31, 25, 0, 0, 0), // test
+        8 => row(31, 33, 24, 4, 0, 0), // its deficits
+        9 => row(33, 35, 23, 5, 1, 0), // its entries
+        10 => row(35, 37, 8, 0, 0, 0), // close
+        11 => row(37, 41, 44, 0, 0, 0), // clearing
+        12 => row(41, 46, 23, 0, 0, 0), // event of two reductions
+        13 => row(46, 48, 24, 3, 0, 0), // its deficits
+        14 => row(48, 51, 40, 4, 1, 2), // its entries
+        15 => row(51, 57, 24, 0, 0, 0), // retest
+        _ => row(57, 59, 23, 5, 1, 0), // its entries
     }
 }
 

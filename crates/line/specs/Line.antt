@@ -1,5 +1,5 @@
 -- The line of a record, and the numbers of one that is read.
-use Prim.Native.Nat.{ℕ, _-_, _≤_}
+use Prim.Native.Nat.{ℕ, _+_, _-_, _*_, _≤_}
 use mathlib.Core.Bool.{cond}
 use mathlib.Core.List.{List}
 use mathlib.Core.Path.{_≡_, ap, sym, _∙_}
@@ -17,6 +17,10 @@ use Rattle.report.specs.Text.{refusalLine}
 -- of the record at the front of the bytes: its numbers, or its refusal
 unfoldable pub recordLine : ℕ → List ℕ → List ℕ
 recordLine position bytes = cond (eqb (recordNumber bytes) 0) (numbersLine (numbersOf bytes)) (refusalLine position (recordNumber bytes))
+
+-- room for it: a number has at most 20 digits and one character beside it, and there is a newline
+abbrev pub lineRoom : ℕ
+lineRoom = 21 * most + 1
 
 module _ (bytes : List ℕ) {number used count : ℕ} {values : List ℕ} (p : Fills bytes number used count values) (e : number ≡ 0) where
   zero : recordNumber bytes ≡ 0

@@ -5,12 +5,14 @@ ghost use lib.ListN.{length};
 ghost use Rattle.layouts.specs.Layout.{longestPermitted};
 ghost use Rattle.layouts.specs.Questions.{recordNumber, consumed};
 ghost use Rattle.text.specs.Pasted.{Pasted};
-ghost use Rattle.report.specs.Text.{room};
-ghost use Rattle.line.specs.Line.{recordLine};
+ghost use Rattle.line.specs.Line.{recordLine, lineRoom};
 ghost use Rattle.line.specs.Packs.{lineNumber, lineRecord};
 
 // The most numbers of a record and one more, so that writing refuses the count of a longer line.
 const NUMBERS: usize = records::NUMBERS + 1;
+
+// The bytes that a caller leaves free for the line of one record.
+pub const ROOM: usize = 21 * records::NUMBERS + 1;
 
 // What printing one record leaves: its number, its bytes, and the place after its line.
 pub struct Printed {
@@ -21,7 +23,7 @@ pub struct Printed {
 
 // The line of the record at the front of the bytes.
 pub fn print(position: u64, bytes: &[u8], out: &mut [u8], at: usize) -> Printed
-    requires { ⌜ at + room ≤ length (now out) ⌝ }
+    requires { ⌜ at + lineRoom ≤ length (now out) ⌝ }
     ensures { λ r. ⌜ (r .number ≡ recordNumber (now (bytes .entry))) × (r .used ≡ consumed (now (bytes .entry))) ⌝ }
     ensures { λ r. ⌜ Pasted (now (out .entry)) (now (out .exit)) at (recordLine position (now (bytes .entry))) (r .at) ⌝ }
 {

@@ -24,7 +24,7 @@ pub use registrations::committed_kw;
 
 // Does a registration meet the condition, if it is listed?
 fn passes(year: &Cells, listing: &[u64], condition: Condition, i: usize) -> bool
-    requires { ⌜ length (now listing) ≡ 144 ⌝ }
+    requires { ⌜ length (now listing) ≡ 208 ⌝ }
     requires { ⌜ i < 64 ⌝ }
     ensures { λ r. ⌜ r ≡ (not (listed (listingAt (at (now (listing .entry)))) i) || fulfils (yearIn (now (year .entry))) condition i) ⌝ }
 {
@@ -37,7 +37,7 @@ fn passes(year: &Cells, listing: &[u64], condition: Condition, i: usize) -> bool
 // Does every listed registration meet the condition?
 pub fn every_listed(year: &Cells, listing: &[u64], condition: Condition) -> bool
     requires { ⌜ Held (now year) ⌝ }
-    requires { ⌜ length (now listing) ≡ 144 ⌝ }
+    requires { ⌜ length (now listing) ≡ 208 ⌝ }
     ensures { λ r. ⌜ r ≡ (let y = yearIn (now (year .entry)) in everyListed (y .terms) (listingAt (at (now (listing .entry)))) (fulfils y condition)) ⌝ }
 {
     let mut i: usize = 0;
@@ -53,7 +53,7 @@ pub fn every_listed(year: &Cells, listing: &[u64], condition: Condition) -> bool
 // Which sellers have an entry.
 fn sellers_listed(year: &Cells, listing: &[u64]) -> [bool; 16]
     requires { ⌜ Held (now year) ⌝ }
-    requires { ⌜ length (now listing) ≡ 144 ⌝ }
+    requires { ⌜ length (now listing) ≡ 208 ⌝ }
     ensures { λ r. ⌜ r ≡ (let T = yearIn (now (year .entry)) .terms in tabulate 16 (λ s. anyTo (size T) (λ i. listed (listingAt (at (now (listing .entry)))) i && eqb (seller T i) s))) ⌝ }
 {
     let mut sellers = [false; 16];
@@ -72,7 +72,7 @@ fn sellers_listed(year: &Cells, listing: &[u64]) -> [bool; 16]
 // Has every deficit's seller an entry?
 fn deficits_listed(year: &Cells, listing: &[u64]) -> bool
     requires { ⌜ Held (now year) ⌝ }
-    requires { ⌜ length (now listing) ≡ 144 ⌝ }
+    requires { ⌜ length (now listing) ≡ 208 ⌝ }
     ensures { λ r. ⌜ r ≡ deficitsListed (yearIn (now (year .entry)) .terms) (listingAt (at (now (listing .entry)))) ⌝ }
 {
     let sellers = sellers_listed(year, listing);
@@ -89,7 +89,7 @@ fn deficits_listed(year: &Cells, listing: &[u64]) -> bool
 // Does every listed registration meet the condition, and has every deficit's seller an entry?
 pub fn entries_pass(year: &Cells, listing: &[u64], condition: Condition) -> bool
     requires { ⌜ Held (now year) ⌝ }
-    requires { ⌜ length (now listing) ≡ 144 ⌝ }
+    requires { ⌜ length (now listing) ≡ 208 ⌝ }
     ensures { λ r. ⌜ r ≡ (let y = yearIn (now (year .entry)) in let l = listingAt (at (now (listing .entry))) in everyListed (y .terms) l (fulfils y condition) && deficitsListed (y .terms) l) ⌝ }
 {
     every_listed(year, listing, condition) && deficits_listed(year, listing)
@@ -98,7 +98,7 @@ pub fn entries_pass(year: &Cells, listing: &[u64], condition: Condition) -> bool
 // Are exactly those listed that are selected?
 pub fn lists_exactly(year: &Cells, listing: &[u64], selection: Selection) -> bool
     requires { ⌜ Held (now year) ⌝ }
-    requires { ⌜ length (now listing) ≡ 144 ⌝ }
+    requires { ⌜ length (now listing) ≡ 208 ⌝ }
     ensures { λ r. ⌜ r ≡ (let y = yearIn (now (year .entry)) in listsExactly (y .terms) (listingAt (at (now (listing .entry)))) (selects y selection)) ⌝ }
 {
     let mut i: usize = 0;

@@ -1,4 +1,4 @@
-// What the closing reads of the year: of an event its entries, one look at a time, month, period and deficits; a registration's own rate; the factors.
+// What the closing reads of the year: of an event its entries, one look at a time, month, period, whether it is measured apart, and deficits; a registration's own rate; the factors.
 ghost use mathlib.Core.Path.{_≡_};
 ghost use Prim.Native.Nat.{_-_, _≤_, _<_};
 ghost use Rattle.year.specs.Year.{registration};
@@ -13,6 +13,7 @@ use year::Registration;
 pub struct Entry {
     pub listed: bool,
     pub reduction: Nominated,
+    pub second: Nominated,
 }
 
 // One look at an entry: nothing else reads one.
@@ -24,7 +25,12 @@ pub fn look(year: &Cells, ev: usize, i: usize) -> Entry
     let listed = cells::listed_in(year, ev, i);
     let p = cells::EVENTS + cells::EVENT * ev;
     let reduction = Nominated(year[p + (cells::REDUCTIONS + i)]);
-    Entry { listed, reduction }
+    let second = Nominated(year[p + (cells::SECOND + i)]);
+    Entry {
+        listed,
+        reduction,
+        second,
+    }
 }
 
 pub fn month_of(year: &Cells, ev: usize) -> u64
@@ -43,6 +49,15 @@ pub fn one_or_three(year: &Cells, ev: usize) -> bool
     let p = cells::EVENTS + cells::EVENT * ev;
     let period = year[p + cells::PERIOD];
     period == 1 || period == 3
+}
+
+// Is off-peak measured apart in an event?
+pub fn is_apart(year: &Cells, ev: usize) -> bool
+    requires { ⌜ ev < 16 ⌝ }
+    ensures { λ r. ⌜ r ≡ facts (now (year .entry)) .apart ev ⌝ }
+{
+    let p = cells::EVENTS + cells::EVENT * ev;
+    year[p + cells::APART] != 0
 }
 
 // A seller's deficit in an event, 0 where it is absent.

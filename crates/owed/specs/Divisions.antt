@@ -5,7 +5,7 @@ use lib.Dec.{eqb, ltb}
 use Rattle.ids.specs.Ids.{sumTo, countTo}
 use Rattle.allotment.specs.Divisions.{divisions}
 use Rattle.owed.specs.Facts.{Facts, registrations, lses}
-use Rattle.owed.specs.Owed.{ofSeller, lack, more, e}
+use Rattle.owed.specs.Owed.{ofSeller, lack, more, measured, offLack, e}
 
 module _ (F : Facts) where
   -- of seller s's amount by weights: its entries are the parties
@@ -18,6 +18,10 @@ module _ (F : Facts) where
   -- of u and e of seller s's entries in event ev
   abbrev pub uDivisions : ℕ → ℕ → ℕ
   uDivisions ev = divisionsOf (F .listed ev) (lack F ev)
+
+  -- and of the off-peak u of those that are measured apart
+  abbrev pub offDivisions : ℕ → ℕ → ℕ
+  offDivisions ev = divisionsOf (measured F ev) (offLack F ev)
 
   abbrev pub eDivisions : ℕ → ℕ → ℕ
   eDivisions ev = divisionsOf (F .listed ev) (more F ev)

@@ -26,14 +26,17 @@ pub record Facts : Type 0 where
   pub clearedKw : ℕ → ℕ
   -- LSE j, 0 where it is not known
   pub obligation : ℕ → ℕ
-  -- how many events are accepted; of event ev its month and period, which registrations it lists, with which reductions, and sellers' deficits, 0 where absent
+  -- how many events are accepted; of event ev its month and period, which registrations it lists, with which reductions, and sellers' deficits, 0 where absent;
+  -- is off-peak measured apart, and by which reductions
   pub events : ℕ
   pub month : ℕ → ℕ
   pub period : ℕ → ℕ
   pub listed : ℕ → ℕ → Bool
   pub reduction : ℕ → ℕ → ℕ
   pub deficit : ℕ → ℕ → ℕ
-  -- the same of the test at a place, 3 × zone + product; one that was not taken lists nothing
+  pub apart : ℕ → Bool
+  pub offPeak : ℕ → ℕ → ℕ
+  -- listed, reductions and deficits of the test at a place, 3 × zone + product; one that was not taken lists nothing
   pub tested : ℕ → ℕ → Bool
   pub testReduction : ℕ → ℕ → ℕ
   pub testDeficit : ℕ → ℕ → ℕ
@@ -84,6 +87,8 @@ module _ (y : Year) where
         listed = λ ev. year.listed (eventAt ev .listing);
         reduction = λ ev. year.reduction (eventAt ev .listing);
         deficit = λ ev. year.deficit (eventAt ev .listing);
+        apart = λ ev. eventAt ev .apart;
+        offPeak = λ ev. year.second (eventAt ev .listing);
         tested = λ p. year.listed (testAt p .listing);
         testReduction = λ p. year.reduction (testAt p .listing);
         testDeficit = λ p. year.deficit (testAt p .listing);

@@ -1,4 +1,4 @@
--- Figures of the definitions: document 01's starred ones in one table, those of document 02's C-11 to C-13, C-15 and C-16, and more that were worked by hand.
+-- Figures of the definitions: document 01's starred ones in one table, those of document 02's C-11 to C-13 and C-15 to C-17, and more that were worked by hand.
 use Prim.Native.Nat.{ℕ, _+_, _*_}
 use mathlib.Core.List.{List, [], _∷_}
 use mathlib.Core.Bool.{Bool, true, false, _&&_}
@@ -11,8 +11,8 @@ use Rattle.calendar.specs.Calendar.{limited, annual, offPeak, days, due}
 use Rattle.allotment.specs.Allot.{share}
 use Rattle.allotment.specs.Divisions.{divisions}
 use Rattle.owed.specs.Facts.{Facts}
-use Rattle.owed.specs.Divisions.{uDivisions, eDivisions, divisionsOf, creditDivisions, lseDivisions}
-use Rattle.owed.specs.Owed.{beforeCap, raised, unforced, own, ofArea, areaRate, rate, ofSeller, shareOf, called, calls, shortfallOver, u, cap, daily, spent, revenue, charge, excess, e, creditLimit, result, testShortfall, B, testOf}
+use Rattle.owed.specs.Divisions.{uDivisions, offDivisions, eDivisions, divisionsOf, creditDivisions, lseDivisions}
+use Rattle.owed.specs.Owed.{beforeCap, raised, unforced, own, ofArea, areaRate, rate, ofSeller, shareOf, called, calls, shortfallOver, u, measured, offU, asked, cap, daily, spent, revenue, charge, excess, e, creditLimit, result, testShortfall, B, testOf}
 use Rattle.owed.specs.Retests.{belowQuarter, entryOf, failed, testedKw, failedKw, hadRetest}
 
 -- Year A, with registration 0 of this product and registration 1 of this seller; registration 2, of 400 kW at 0, in their area, registration 3, at 0
@@ -40,6 +40,8 @@ cleared clearings value kw product seller periods listed v =
       listed = λ ev. holds listed;
       reduction = λ ev. at (v ∷ 2100 ∷ v ∷ []);
       deficit = λ ev s. 0;
+      apart = λ ev. false;
+      offPeak = λ ev i. 0;
       tested = λ p. holds (true ∷ true ∷ true ∷ []);
       testReduction = λ p. at (v ∷ 2100 ∷ v ∷ []);
       testDeficit = λ p s. 0;
@@ -66,7 +68,7 @@ figures : (unforced A 400 ≡ 410)
     × (beforeCap offPeak 0 410 10000 ≡ 78846)
     × (u twin 0 0 ≡ 1026) × (u twin 1 0 ≡ 1026) × (cap twin 0 ≡ 10260000) × (spent twin 2 0 ≡ 10260000) × (spent twin 3 0 ≡ 10260000)
     × (due limited 1 ≡ 5) × (due limited 4 ≡ 7) × (due annual 12 ≡ 15)
-unfolding sumTo convert due share beforeCap unforced own ofArea areaRate rate ofSeller shareOf calls shortfallOver u cap daily spent
+unfolding sumTo convert due share beforeCap unforced own ofArea areaRate rate ofSeller shareOf calls shortfallOver u cap measured offU asked daily spent
 figures =
     (refl, refl, refl, refl, refl, refl, refl, refl, refl, refl, refl, refl, refl, refl, refl, refl, refl, refl, refl, refl, refl)
 
@@ -89,12 +91,12 @@ base-figure = refl
 -- three on-peak events: n is 3 for the first of them too, and 1,366,666 × 183 / 1,000 is 250,099 from its due month on. Rounded to cents before, it would be 249,978.
 days-figure : (charge (yearA limited 1 (1 ∷ 1 ∷ 1 ∷ []) (true ∷ true ∷ []) 600) 6 0 0 ≡ 250099)
     × (charge (yearA limited 1 (1 ∷ 1 ∷ 1 ∷ []) (true ∷ true ∷ []) 600) 4 0 0 ≡ 0)
-unfolding sumTo convert days due share beforeCap unforced own ofArea areaRate rate ofSeller shareOf calls shortfallOver u cap daily spent charge
+unfolding sumTo convert days due share beforeCap unforced own ofArea areaRate rate ofSeller shareOf calls shortfallOver u cap measured offU asked daily spent charge
 days-figure = (refl, refl)
 
 -- A's event at close 6, past its due month, whether it came before close 5 or after: 2,050,000 × 183 / 1,000 to date
 late-figure : charge A 6 0 0 ≡ 375150
-unfolding sumTo convert days due share beforeCap unforced own ofArea areaRate rate ofSeller shareOf calls shortfallOver u cap daily spent charge
+unfolding sumTo convert days due share beforeCap unforced own ofArea areaRate rate ofSeller shareOf calls shortfallOver u cap measured offU asked daily spent charge
 late-figure = refl
 
 -- A with both registrations seller 0's, which is short: registration 1 has no excess, though it gives 100 more
@@ -116,7 +118,7 @@ clearing-figures : (rate (clearedA 2 (1 * 100 + 3 * 201) (1 + 3)) 0 ≡ 175) × 
     × (daily (clearedA 2 703 4) 0 0 0 ≡ 35875) × (cap (clearedA 2 703 4) 0 ≡ 179550) × (revenue (clearedA 2 703 4) 1 0 ≡ 5386500)
     × (B (cleared 2 703 4 limited 1 [] [] 600) 0 0 ≡ 175)
     × (creditLimit (cleared 2 703 4 limited 1 (1 ∷ []) (true ∷ true ∷ []) 1200) 1 0 0 ≡ 210)
-unfolding sumTo anyTo convert days share beforeCap unforced own ofArea areaRate rate ofSeller shareOf called calls shortfallOver u cap daily spent revenue excess e creditLimit B
+unfolding sumTo anyTo convert days share beforeCap unforced own ofArea areaRate rate ofSeller shareOf called calls shortfallOver u cap measured offU asked daily spent revenue excess e creditLimit B
 clearing-figures = (refl, refl, refl, refl, refl, refl, refl, refl)
 
 -- 1,000 kW at 10,000 and 2,000 kW at 15,000 lend 40,000,000 / 3,000 to the third, rounded down; with its own 400 kW in the divisor it would be
@@ -128,7 +130,7 @@ borrowed-figures : (rate A 2 ≡ 13333) × (rate A 3 ≡ 0) × (rate A 4 ≡ 0) 
     × (daily (yearA limited 1 (1 ∷ []) (false ∷ false ∷ true ∷ []) 0) 0 0 2 ≡ 2733265) × (cap A 2 ≡ 5466530) × (revenue A 1 2 ≡ 163995900)
     × (B (yearA limited 1 [] [] 600) 0 2 ≡ 13333)
     × (creditLimit (yearA limited 1 (1 ∷ []) (false ∷ false ∷ true ∷ []) 600) 1 0 2 ≡ 15999)
-unfolding sumTo anyTo convert days share beforeCap unforced own ofArea areaRate rate ofSeller shareOf called calls shortfallOver u cap daily spent revenue excess e creditLimit B
+unfolding sumTo anyTo convert days share beforeCap unforced own ofArea areaRate rate ofSeller shareOf called calls shortfallOver u cap measured offU asked daily spent revenue excess e creditLimit B
 borrowed-figures = (refl, refl, refl, refl, refl, refl, refl, refl, refl, refl)
 
 -- Three parties divide three times, and never where their weights are all 0; no party never does. In A seller 0's entry lacks 400 kW and seller 1's gives
@@ -170,6 +172,8 @@ retried v again w listed =
       listed = λ ev. holds listed;
       reduction = λ ev i. 0;
       deficit = λ ev s. 0;
+      apart = λ ev. false;
+      offPeak = λ ev i. 0;
       tested = λ p i. eqb p 0 && holds (true ∷ true ∷ true ∷ true ∷ []) i;
       testReduction = λ p. at (v ∷ 2100 ∷ 1001 ∷ 100 ∷ []);
       testDeficit = λ p. at (0 ∷ 100 ∷ []);
@@ -196,3 +200,62 @@ retest-figures : (result (retried 400 false 900 []) 0 0 ≡ 400) × (result (ret
     × (testShortfall (retried 400 true 0 []) 0 1 ≡ 310)
 unfolding sumTo anyTo convert days raised unforced own ofArea areaRate rate ofSeller called shortfallOver result B testOf
 retest-figures = (refl, refl, refl, refl, refl, refl, refl, refl, refl)
+
+-- Events of these periods, some with off-peak measured apart, list seller 0's Limited registration of 1,000 kW at 10,000 and its Annual one of 2,000 at 15,000, seller 1's Annual one of 500 at 20,000,
+-- seller 2's Limited one of 1,000 at 10,000 and seller 3's Annual one of 3,000 at 10,000. First reductions are 600, 2,000, v, 1,100 and 2,990, second ones 1,500, 1,000, 0, 5,000 and 0; seller 0 has a deficit of 100.
+abbrev measuredApart : List ℕ → List Bool → ℕ → Facts
+measuredApart periods apart v =
+    record {
+      leap = 0;
+      factor = 9500;
+      requirement = 10800;
+      known = holds (true ∷ true ∷ true ∷ true ∷ true ∷ []);
+      seller = at (0 ∷ 0 ∷ 1 ∷ 2 ∷ 3 ∷ []);
+      area = λ i. 1;
+      product = at (limited ∷ annual ∷ annual ∷ limited ∷ annual ∷ []);
+      committed = at (1000 ∷ 2000 ∷ 500 ∷ 1000 ∷ 3000 ∷ []);
+      fieldRate = at (10000 ∷ 15000 ∷ 20000 ∷ 10000 ∷ 10000 ∷ []);
+      clearings = λ i. 0;
+      clearedValue = λ i. 0;
+      clearedKw = λ i. 0;
+      obligation = at (3000 ∷ []);
+      events = length periods;
+      month = λ ev. 1;
+      period = at periods;
+      listed = λ ev. holds (true ∷ true ∷ true ∷ true ∷ true ∷ []);
+      reduction = λ ev. at (600 ∷ 2000 ∷ v ∷ 1100 ∷ 2990 ∷ []);
+      deficit = λ ev. at (100 ∷ []);
+      apart = holds apart;
+      offPeak = λ ev. at (1500 ∷ 1000 ∷ 0 ∷ 5000 ∷ 0 ∷ []);
+      tested = λ p i. false;
+      testReduction = λ p i. 0;
+      testDeficit = λ p s. 0;
+      retested = λ i. false;
+      retestReduction = λ i. 0;
+    }
+
+-- One such event, with 300 kW of seller 1's. First: seller 0's net of 400 kW converts to 410, less 100 is 310, all of its Limited entry; 205 and 10 are sellers 1's and 3's. Off-peak: seller 0's Annual entry lacks 1,000 kW, 1,026 less
+-- 100 is 926, and 513 and 3,078 are sellers 1's and 3's; Limited entries have nothing. Before the cap: 310 × 10,000 / 2; 926 × 15,000 / 52; the higher of 205 × 20,000 / 2 and 513 × 20,000 / 52; nothing; the higher of
+-- 10 × 10,000 / 2 and 3,078 × 10,000 / 52. To date × 153 and × 365 / 1,000. Seller 2 gives 100 kW more than it committed, by its first figure.
+abbrev apartOnce : Facts
+apartOnce = measuredApart (3 ∷ []) (true ∷ []) 300
+
+apart-figures : (u apartOnce 0 0 ≡ 310) × (offU apartOnce 0 0 ≡ 0) × (offU apartOnce 0 1 ≡ 926) × (offU apartOnce 0 2 ≡ 513) × (offU apartOnce 0 3 ≡ 0) × (offU apartOnce 0 4 ≡ 3078)
+    × (asked apartOnce 0 0 ≡ 1550000) × (asked apartOnce 0 1 ≡ 267115) × (asked apartOnce 0 2 ≡ 2050000) × (asked apartOnce 0 3 ≡ 0) × (asked apartOnce 0 4 ≡ 591923)
+    × (charge apartOnce 5 0 0 ≡ 237150) × (charge apartOnce 13 0 1 ≡ 97496) × (e apartOnce 0 3 ≡ 100)
+    × (uDivisions apartOnce 0 0 ≡ 2) × (offDivisions apartOnce 0 0 ≡ 1) × (offDivisions apartOnce 0 2 ≡ 0)
+unfolding sumTo convert days due share beforeCap unforced own ofArea areaRate rate ofSeller shareOf calls shortfallOver u measured offU asked cap daily spent charge excess e divisions divisionsOf
+apart-figures = (refl, refl, refl, refl, refl, refl, refl, refl, refl, refl, refl, refl, refl, refl, refl, refl, refl)
+
+-- Two such events and one of period 3 with a single figure: n is 3, 310 × 10,000 / 3; off-peak is still divided by 52; in the third nothing is measured apart.
+abbrev apartTwice : Facts
+apartTwice = measuredApart (3 ∷ 3 ∷ 3 ∷ []) (true ∷ true ∷ false ∷ []) 300
+
+-- An off-peak event, then two such ones, in which seller 1 gives nothing: 513 × 20,000 / 52 is 197,307, then 5,130,000 each, of which the cap of 10,260,000 leaves the last 4,932,693.
+abbrev apartCapped : Facts
+apartCapped = measuredApart (offPeak ∷ 3 ∷ 3 ∷ []) (false ∷ true ∷ true ∷ []) 0
+
+counted-figures : (asked apartTwice 0 0 ≡ 1033333) × (asked apartTwice 0 1 ≡ 267115) × (asked apartTwice 2 1 ≡ 0) × (asked apartTwice 2 4 ≡ 33333)
+    × (spent apartCapped 1 2 ≡ 197307) × (spent apartCapped 2 2 ≡ 5327307) × (spent apartCapped 3 2 ≡ 10260000)
+unfolding sumTo convert share beforeCap unforced own ofArea areaRate rate ofSeller shareOf calls shortfallOver u measured offU asked cap daily spent
+counted-figures = (refl, refl, refl, refl, refl, refl, refl)

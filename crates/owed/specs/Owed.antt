@@ -1,4 +1,4 @@
--- What is owed (document 01, with document 02's C-11, C-12 and C-15), in the document's order, over facts. Amounts are to date at month k; i is a registration, s a seller, a an area, j an LSE, ev an event, p the place of a test.
+-- What is owed (document 01, with document 02's C-11, C-12, C-15 and C-17), in the document's order, over facts. Amounts are to date at month k; i is a registration, s a seller, a an area, j an LSE, ev an event, p the place of a test.
 -- a - b is 0 where b is the larger, so "at least 0" is written as `-`; a / 0 is 0, so nothing is allotted where all weights are 0.
 -- A sum or an allotment over some registrations runs over all ids, in rising order, with 0 for the others.
 use Prim.Native.Nat.{ℕ, zero, suc, _+_, _-_, _*_, _/_, min, max}
@@ -6,7 +6,7 @@ use mathlib.Core.Bool.{Bool, not, _&&_, _||_, cond}
 use lib.Dec.{leb, ltb, eqb}
 use Rattle.ids.specs.Ids.{sumTo, countTo, anyTo, tabulate, only, keyed}
 use Rattle.units.specs.Units.{convert}
-use Rattle.calendar.specs.Calendar.{days, due}
+use Rattle.calendar.specs.Calendar.{limited, offPeak, days, due}
 use Rattle.allotment.specs.Allot.{share}
 use Rattle.year.specs.declared.Amounts.{Amounts}
 use Rattle.owed.specs.Facts.{Facts, registrations, sellers, lses, places}
@@ -75,15 +75,41 @@ module _ (F : Facts) where
   shortfall ev = shortfallOver (F .listed ev) (F .reduction ev) (F .deficit ev)
 
   -- what an entry lacks, max(0, c − v), and what it gives more, max(0, v − c)
+  abbrev pub lackOver : (ℕ → Bool) → (ℕ → ℕ) → ℕ → ℕ
+  lackOver picked reduction = only picked (λ i. F .committed i - reduction i)
+
+  abbrev pub moreOver : (ℕ → Bool) → (ℕ → ℕ) → ℕ → ℕ
+  moreOver picked reduction = only picked (λ i. reduction i - F .committed i)
+
   abbrev pub lack : ℕ → ℕ → ℕ
-  lack ev = only (F .listed ev) (λ i. F .committed i - F .reduction ev i)
+  lack ev = lackOver (F .listed ev) (F .reduction ev)
 
   abbrev pub more : ℕ → ℕ → ℕ
-  more ev = only (F .listed ev) (λ i. F .reduction ev i - F .committed i)
+  more ev = moreOver (F .listed ev) (F .reduction ev)
 
   -- step 2
   unfoldable pub u : ℕ → ℕ → ℕ
   u ev i = shareOf (lack ev) (shortfall ev) i
+
+  -- steps 1 and 2 of what is measured off-peak apart: of all entries but Limited ones, by their second reductions, the whole deficit taken off here too
+  unfoldable pub measured : ℕ → ℕ → Bool
+  measured ev i = F .apart ev && (F .listed ev i && not (eqb (F .product i) limited))
+
+  abbrev pub offShortfall : ℕ → ℕ → ℕ
+  offShortfall ev = shortfallOver (measured ev) (F .offPeak ev) (F .deficit ev)
+
+  abbrev pub offLack : ℕ → ℕ → ℕ
+  offLack ev = lackOver (measured ev) (F .offPeak ev)
+
+  unfoldable pub offU : ℕ → ℕ → ℕ
+  offU ev i = shareOf (offLack ev) (offShortfall ev) i
+
+  -- step 3 of an entry: the higher of what u and what the off-peak u comes to, of which the second is 0 where nothing is measured apart
+  unfoldable pub asked : ℕ → ℕ → ℕ
+  asked ev i =
+      let first = beforeCap (F .period ev) (calls i) (u ev i) (rate i) in
+      let second = beforeCap offPeak (calls i) (offU ev i) (rate i) in
+      max first second
 
   -- step 4: the cap, and its rest when x of it is spent
   unfoldable pub cap : ℕ → ℕ
@@ -94,7 +120,7 @@ module _ (F : Facts) where
 
   -- the daily charge: the lesser of step 3 and the cap's rest
   unfoldable pub daily : ℕ → ℕ → ℕ → ℕ
-  daily ev x i = only (F .listed ev) (λ i. min (beforeCap (F .period ev) (calls i) (u ev i) (rate i)) (rest i x)) i
+  daily ev x i = only (F .listed ev) (λ i. min (asked ev i) (rest i x)) i
 
   -- what the events before ev spent of the cap, due or not
   unfoldable pub spent : ℕ → ℕ → ℕ

@@ -1,4 +1,4 @@
--- The allotment's facts, cited for each allotment of the rules: a seller's shortfall (u) and excess (e), an event's charges (credits), and what the LSEs are credited.
+-- The allotment's facts, cited for each allotment of the rules: a seller's shortfalls (u, on-peak and off-peak) and excess (e), an event's charges (credits), and what the LSEs are credited.
 use Prim.Native.Nat.{ℕ, _-_}
 use mathlib.Core.Bool.{Bool, true, false}
 use mathlib.Core.Path.{_≡_, refl, sym, fun-ext}
@@ -7,7 +7,7 @@ use borrow.Author.Tests.{eqb-true}
 use Rattle.ids.specs.Ids.{sumTo, keyed}
 use Rattle.allotment.specs.Allot.{Allotted, allotted, share, share-zero}
 use Rattle.owed.specs.Facts.{Facts, registrations, lses}
-use Rattle.owed.specs.Owed.{shareOf, shortfall, lack, more, u, charge, excess, e, creditShare, charges, credits, lse}
+use Rattle.owed.specs.Owed.{shareOf, shortfall, lack, more, u, offShortfall, offLack, offU, charge, excess, e, creditShare, charges, credits, lse}
 
 module _ (F : Facts) where
   -- registrations' shares of their sellers' amounts are, seller by seller, an allotment over the seller's registrations
@@ -25,6 +25,10 @@ module _ (F : Facts) where
   pub u-allotted : (ev s : ℕ) → Allotted registrations (keyed (F .seller) (lack F ev) s) (shortfall F ev s) (keyed (F .seller) (u F ev) s)
   unfolding u
   u-allotted ev s = shares-of (lack F ev) (shortfall F ev) s
+
+  pub off-allotted : (ev s : ℕ) → Allotted registrations (keyed (F .seller) (offLack F ev) s) (offShortfall F ev s) (keyed (F .seller) (offU F ev) s)
+  unfolding offU
+  off-allotted ev s = shares-of (offLack F ev) (offShortfall F ev) s
 
   pub e-allotted : (ev s : ℕ) → Allotted registrations (keyed (F .seller) (more F ev) s) (excess F ev s) (keyed (F .seller) (e F ev) s)
   unfolding e

@@ -13,7 +13,7 @@ use Rattle.units.specs.Units.{convert-scaled}
 use Rattle.calendar.specs.Calendar.{due, days-le}
 use Rattle.allotment.specs.Allot.{share-most}
 use Rattle.owed.specs.Facts.{Facts, registrations}
-use Rattle.owed.specs.Owed.{raised, D, unforced, own, areaRate, rate, ofSeller, shareOf, shortfallOver, shortfall, lack, more, u, cap, daily, spent, charge, excess, e, creditLimit, creditOf, stands, result, testShortfall, B, testOf}
+use Rattle.owed.specs.Owed.{raised, D, unforced, own, areaRate, rate, ofSeller, shareOf, shortfallOver, lackOver, moreOver, more, u, measured, offU, cap, daily, spent, charge, excess, e, creditLimit, creditOf, stands, result, testShortfall, B, testOf}
 use Rattle.owed_laws.specs.Limits.{Limits}
 use Rattle.owed_laws.specs.Rates.{worth-most, area-rate-some}
 use Rattle.owed_laws.specs.Sellers.{ofSeller-le, net-is, excess-is}
@@ -32,11 +32,11 @@ module _ {F : Facts} (L : Limits F) where
   unforced-one {a} h = omega (arith, unforced-scaled a)
 
   -- an entry's weights
-  pub lack-le : (ev i : ℕ) → lack F ev i ≤ 100000
-  lack-le ev i = cond-le (F .listed ev i) (omega (arith, L .committed i))
+  pub lack-le : (p : ℕ → Bool) (v : ℕ → ℕ) (i : ℕ) → lackOver F p v i ≤ 100000
+  lack-le p v i = cond-le (p i) (omega (arith, L .committed i))
 
-  pub more-le : (ev i : ℕ) → more F ev i ≤ 100000
-  more-le ev i = cond-le (F .listed ev i) (omega (arith, L .reduction ev i))
+  pub more-le : (p : ℕ → Bool) {v : ℕ → ℕ} → ((i : ℕ) → v i ≤ 100000) → (i : ℕ) → moreOver F p v i ≤ 100000
+  more-le p h i = cond-le (p i) (omega (arith, h i))
 
   -- a seller's: what is committed, the shortfall, the excess
   pub committed-le : (p : ℕ → Bool) (s : ℕ) → ofSeller F s (only p (F .committed)) ≤ 6400000
@@ -55,22 +55,29 @@ module _ {F : Facts} (L : Limits F) where
   excess-le ev s = omega (arith, excess-is F s ev)
 
   -- an entry's shares: at most one registration's kilowatts
-  shortfall-lack : (ev s : ℕ) → shortfall F ev s * 100000 ≤ 144000 * ofSeller F s (lack F ev)
-  shortfall-lack ev s =
-      omega (arith, net-is F s ev, shortfall-scaled (F .listed ev) (F .reduction ev) (F .deficit ev) s)
+  shortfall-lack : (p : ℕ → Bool) (v d : ℕ → ℕ) (s : ℕ) → shortfallOver F p v d s * 100000 ≤ 144000 * ofSeller F s (lackOver F p v)
+  shortfall-lack p v d s = omega (arith, net-is F s p v, shortfall-scaled p v d s)
+
+  share-le : (p : ℕ → Bool) (v d : ℕ → ℕ) (i : ℕ) → shareOf F (lackOver F p v) (shortfallOver F p v d) i ≤ 144000
+  unfolding shareOf ofSeller
+  share-le p v d i =
+      let s = F .seller i in
+      share-most registrations (keyed (F .seller) (lackOver F p v) s) (shortfallOver F p v d s) i 144000
+      (le-trans (mul-le-mul-left (shortfallOver F p v d s) (cond-le (eqb s s) (lack-le p v i))) (shortfall-lack p v d s))
 
   pub u-le : (ev i : ℕ) → u F ev i ≤ 144000
-  unfolding u shareOf ofSeller
-  u-le ev i =
-      let s = F .seller i in
-      share-most registrations (keyed (F .seller) (lack F ev) s) (shortfall F ev s) i 144000
-      (le-trans (mul-le-mul-left (shortfall F ev s) (cond-le (eqb s s) (lack-le ev i))) (shortfall-lack ev s))
+  unfolding u
+  u-le ev i = share-le (F .listed ev) (F .reduction ev) (F .deficit ev) i
+
+  pub off-u-le : (ev i : ℕ) → offU F ev i ≤ 144000
+  unfolding offU
+  off-u-le ev i = share-le (measured F ev) (F .offPeak ev) (F .deficit ev) i
 
   pub e-le : (ev i : ℕ) → e F ev i ≤ 100000
   unfolding ofSeller
   e-le ev i =
       let s = F .seller i in
-      le-trans (rw (eq-eqb s s refl) at (e-allotted F ev s .most (excess-le ev s) i)) (more-le ev i)
+      le-trans (rw (eq-eqb s s refl) at (e-allotted F ev s .most (excess-le ev s) i)) (more-le (F .listed ev) (L .reduction ev) i)
 
   -- a registration's cap, and what is spent of it
   pub cap-le : (i : ℕ) → cap F i ≤ 14400000000

@@ -9,7 +9,7 @@ use Rattle.ids.specs.Ids.{sumTo, anyTo, only, keyed}
 use Rattle.ids.specs.Sums.{sum-same}
 use Rattle.ids.specs.Tests.{any-same}
 use Rattle.owed.specs.Facts.{Facts, registrations, places}
-use Rattle.owed.specs.Owed.{unforced, rate, ofSeller, shareOf, called, calls, shortfallOver, shortfall, lack, u, cap, daily, spent, charge, stands, result, B, testOf, compliance, test}
+use Rattle.owed.specs.Owed.{unforced, rate, ofSeller, shareOf, called, calls, shortfallOver, lackOver, u, measured, offU, asked, cap, daily, spent, charge, stands, result, B, testOf, compliance, test}
 
 -- two facts that agree in what is seller r's, along the accepted events and at every test
 pub record Same (r : ℕ) (F G : Facts) : Type 0 where
@@ -20,6 +20,7 @@ pub record Same (r : ℕ) (F G : Facts) : Type 0 where
   pub events : F .events ≡ G .events
   pub month : (ev : ℕ) → ev < F .events → F .month ev ≡ G .month ev
   pub period : (ev : ℕ) → ev < F .events → F .period ev ≡ G .period ev
+  pub apart : (ev : ℕ) → ev < F .events → F .apart ev ≡ G .apart ev
   pub deficit : (ev : ℕ) → ev < F .events → F .deficit ev r ≡ G .deficit ev r
   pub testDeficit : (p : ℕ) → F .testDeficit p r ≡ G .testDeficit p r
   -- of its registrations
@@ -28,6 +29,7 @@ pub record Same (r : ℕ) (F G : Facts) : Type 0 where
   pub rate : (i : ℕ) → F .seller i ≡ r → rate F i ≡ rate G i
   pub listed : (ev : ℕ) → ev < F .events → (i : ℕ) → F .seller i ≡ r → F .listed ev i ≡ G .listed ev i
   pub reduction : (ev : ℕ) → ev < F .events → (i : ℕ) → F .seller i ≡ r → F .reduction ev i ≡ G .reduction ev i
+  pub offPeak : (ev : ℕ) → ev < F .events → (i : ℕ) → F .seller i ≡ r → F .offPeak ev i ≡ G .offPeak ev i
   pub tested : (p i : ℕ) → F .seller i ≡ r → F .tested p i ≡ G .tested p i
   pub testReduction : (p i : ℕ) → F .seller i ≡ r → F .testReduction p i ≡ G .testReduction p i
   pub retested : (i : ℕ) → F .seller i ≡ r → F .retested i ≡ G .retested i
@@ -82,20 +84,29 @@ module _ {r : ℕ} {F G : Facts} (h : Same r F G) where
   unfolding cap
   same-cap i own = cc (h .committed i own, h .rate i own, same-unforced (F .committed i))
 
-  module _ (ev : ℕ) (l : ev < F .events) where
-    same-lack : Alike (lack F ev) (lack G ev)
-    same-lack i own = rw (h .listed ev l i own, h .committed i own, h .reduction ev l i own)
+  -- shares of a shortfall, of entries that are picked alike
+  same-shares : {p q : ℕ → Bool} {v w : ℕ → ℕ} (d c : ℕ → ℕ) → Alike p q → Alike v w → d r ≡ c r
+      → Alike (shareOf F (lackOver F p v) (shortfallOver F p v d)) (shareOf G (lackOver G q w) (shortfallOver G q w c))
+  same-shares {p} {q} {v} {w} d c a b e =
+      same-share (shortfallOver F p v d) (shortfallOver G q w c) (λ i own. rw (a i own, h .committed i own, b i own)) (same-shortfall d c a b e)
 
+  module _ (ev : ℕ) (l : ev < F .events) where
     same-u : Alike (u F ev) (u G ev)
     unfolding u
-    same-u =
-        same-share (shortfall F ev) (shortfall G ev) same-lack
-        (same-shortfall (F .deficit ev) (G .deficit ev) (h .listed ev l) (h .reduction ev l) (h .deficit ev l))
+    same-u = same-shares (F .deficit ev) (G .deficit ev) (h .listed ev l) (h .reduction ev l) (h .deficit ev l)
+
+    same-measured : Alike (measured F ev) (measured G ev)
+    unfolding measured
+    same-measured i own = rw (h .apart ev l, h .listed ev l i own, h .product i own)
+
+    same-off : Alike (offU F ev) (offU G ev)
+    unfolding offU
+    same-off = same-shares (F .deficit ev) (G .deficit ev) same-measured (h .offPeak ev l) (h .deficit ev l)
 
     same-daily : (x : ℕ) → Alike (daily F ev x) (daily G ev x)
-    unfolding daily
+    unfolding asked daily
     same-daily x i own =
-        cc (h .listed ev l i own, h .period ev l, h .rate i own, same-calls i own, same-u i own, same-cap i own)
+        cc (h .listed ev l i own, h .period ev l, h .rate i own, same-calls i own, same-u i own, same-off i own, same-cap i own)
 
   same-spent : (ev : ℕ) → ev ≤ F .events → Alike (spent F ev) (spent G ev)
   unfolding spent

@@ -17,7 +17,7 @@ use Rattle.year.specs.declared.Year.{Year}
 use Rattle.year.specs.Year.{pastListing, pastEvent, pastTest, zone, product, obligation}
 use Rattle.year.specs.Year as year
 use Rattle.year.specs.Sound.{SoundListing, AtMost, Sound}
-use Rattle.year.specs.Limits.{each-anywhere, clearings-sound, seller-below, area-below, zone-below, product-below, committed-most, committed-some, committed-blank, field-rate-most, retest-most, reduction-most}
+use Rattle.year.specs.Limits.{each-anywhere, clearings-sound, seller-below, area-below, zone-below, product-below, committed-most, committed-some, committed-blank, field-rate-most, retest-most, reduction-most, second-most}
 use Rattle.owed.specs.Facts.{Facts, factsOf, registrations, sellers, places}
 use Rattle.owed.specs.Owed.{own, rate, result}
 use Rattle.owed_laws.specs.Rates.{own-le, rate-le}
@@ -39,6 +39,7 @@ pub record Limits (F : Facts) : Type 0 where
   pub month : (ev : ℕ) → F .month ev ≤ 12
   pub reduction : (ev i : ℕ) → F .reduction ev i ≤ 100000
   pub deficit : (ev s : ℕ) → F .deficit ev s ≤ 1000000
+  pub offPeak : (ev i : ℕ) → F .offPeak ev i ≤ 100000
   pub result : (p i : ℕ) → result F p i ≤ 100000
   pub testDeficit : (p s : ℕ) → F .testDeficit p s ≤ 1000000
   -- no registration is in two tests
@@ -55,15 +56,16 @@ known-is {F} L i = go (F .known i) refl
 -- a listing's numbers, at every id
 record Within (l : Listing) : Type 0 where
   reduction : (i : ℕ) → year.reduction l i ≤ 100000
+  second : (i : ℕ) → year.second l i ≤ 100000
   deficit : (s : ℕ) → year.deficit l s ≤ 1000000
 
 within : {l : Listing} → SoundListing l → Within l
 unfolding year.deficit
-within h = record { reduction = reduction-most h; deficit = each-anywhere (AtMost 1000000) (lit≤ tt) (h .deficits) }
+within h = record { reduction = reduction-most h; second = second-most h; deficit = each-anywhere (AtMost 1000000) (lit≤ tt) (h .deficits) }
 
 within-past : Within pastListing
-unfolding year.reduction year.deficit
-within-past = record { reduction = λ i. lit≤ tt; deficit = λ s. lit≤ tt }
+unfolding year.reduction year.second year.deficit
+within-past = record { reduction = λ i. lit≤ tt; second = λ i. lit≤ tt; deficit = λ s. lit≤ tt }
 
 -- what holds past the end and of each element holds of what is read anywhere
 everywhere : {A : Type 0} (P : A → Type 0) (d : A) (l : List A) {n : ℕ} → P d → length l ≡ n → ((k : ℕ) → k < n → P (getD l k d)) → (i : ℕ) → P (getD l i d)
@@ -127,6 +129,7 @@ module _ {y : Year} (S : Sound y) where
         month = month-most;
         reduction = λ ev. event-within ev .reduction;
         deficit = λ ev. event-within ev .deficit;
+        offPeak = λ ev. event-within ev .second;
         result = result-most;
         testDeficit = λ p. test-within p .deficit;
         once = in-one-test;

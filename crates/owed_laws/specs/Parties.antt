@@ -11,7 +11,7 @@ use Rattle.units.specs.Units.{convert-zero}
 use Rattle.allotment.specs.Allot.{share-zero}
 use Rattle.owed.specs.Facts.{Facts, registrations, lses, places}
 use Rattle.owed.specs.Owed.{D, raised, unforced, ofSeller, shortfallOver, stands, result, testShortfall, B, testOf, compliance, test, credit, charges, credits, lse}
-use Rattle.owed_laws.specs.Unlisted.{u-unlisted, charge-none, credit-unlisted}
+use Rattle.owed_laws.specs.Unlisted.{u-unlisted, off-unlisted, charge-none, credit-unlisted}
 
 -- every listed registration is known
 pub record Known (F : Facts) : Type 0 where
@@ -36,7 +36,7 @@ module _ {F : Facts} (K : Known F) (s : ℕ) (none : (i : ℕ) → i < registrat
   pub compliance-none : (k : ℕ) → compliance F k s ≡ 0
   unfolding compliance
   compliance-none k =
-      sum-zero (F .events) (λ ev l. seller-none (λ i m q. charge-none F ev i (u-unlisted F ev i (unlisted (F .listed ev i) (F .known i) (K .events ev l i m) q)) k))
+      sum-zero (F .events) (λ ev l. seller-none (λ i m q. let off = unlisted (F .listed ev i) (F .known i) (K .events ev l i m) q in charge-none F ev i (u-unlisted F ev i off) (off-unlisted F ev i off) k))
 
   pub credit-none : (k : ℕ) → credit F k s ≡ 0
   unfolding credit

@@ -1,4 +1,4 @@
--- Sums over a seller's registrations: their laws, and the sums of what an event's entries lack and give more.
+-- Sums over a seller's registrations: their laws, and the sums of what entries lack and give more.
 use Prim.Native.Nat.{ℕ, _+_, _*_, _-_, _≤_, _<_}
 use mathlib.Core.Bool.{Bool, true, false, cond}
 use mathlib.Core.Path.{_≡_, refl, sym, _∙_}
@@ -9,7 +9,7 @@ use Rattle.ids.specs.Ids.{sumTo, only, keyed}
 use Rattle.ids.specs.Sums.{sum-add, sum-mul, sum-same, sum-le, sum-zero, sum-swap, sum-at, sum-bound}
 use Rattle.ids.specs.Tests.{cond-le}
 use Rattle.owed.specs.Facts.{Facts, registrations, sellers}
-use Rattle.owed.specs.Owed.{ofSeller, lack, more, excess}
+use Rattle.owed.specs.Owed.{ofSeller, lackOver, moreOver, lack, more, excess}
 use Rattle.owed_laws.specs.Limits.{Limits}
 
 module _ (F : Facts) (s : ℕ) where
@@ -60,32 +60,25 @@ module _ (F : Facts) (s : ℕ) where
       go true g = refl
       go false g = sum-zero m (λ ev l. refl)
 
-  -- what is committed and what is given differ as what is lacking and what is given more
-  module _ (ev : ℕ) where
-    abbrev committed : ℕ → ℕ
-    committed = only (F .listed ev) (F .committed)
-
-    abbrev given : ℕ → ℕ
-    given = only (F .listed ev) (F .reduction ev)
-
-    sums-differ : ofSeller F s committed + ofSeller F s (more F ev) ≡ ofSeller F s given + ofSeller F s (lack F ev)
+  -- of the entries that are picked, what is committed and what is given differ as what is lacking and what is given more
+  module _ (p : ℕ → Bool) (v : ℕ → ℕ) where
+    sums-differ : ofSeller F s (only p (F .committed)) + ofSeller F s (moreOver F p v) ≡ ofSeller F s (only p v) + ofSeller F s (lackOver F p v)
     sums-differ =
-        sym (ofSeller-add committed (more F ev))
-        ∙ ofSeller-same (λ i l. go (F .listed ev i) (F .committed i) (F .reduction ev i))
-        ∙ ofSeller-add given (lack F ev)
+        sym (ofSeller-add (only p (F .committed)) (moreOver F p v))
+        ∙ ofSeller-same (λ i l. go (p i) (F .committed i) (v i))
+        ∙ ofSeller-add (only p v) (lackOver F p v)
       where
         go : (b : Bool) (c v : ℕ) → cond b c 0 + cond b (v - c) 0 ≡ cond b v 0 + cond b (c - v) 0
         go false c v = refl
         go true c v = omega arith
 
     -- so step 1's net and the excess come from these two
-    pub net-is : ofSeller F s (only (F .listed ev) (F .committed)) - ofSeller F s (only (F .listed ev) (F .reduction ev))
-        ≡ ofSeller F s (lack F ev) - ofSeller F s (more F ev)
+    pub net-is : ofSeller F s (only p (F .committed)) - ofSeller F s (only p v) ≡ ofSeller F s (lackOver F p v) - ofSeller F s (moreOver F p v)
     net-is = omega (arith, sums-differ)
 
-    pub excess-is : excess F ev s ≡ ofSeller F s (more F ev) - ofSeller F s (lack F ev)
-    unfolding excess
-    excess-is = omega (arith, sums-differ)
+  pub excess-is : (ev : ℕ) → excess F ev s ≡ ofSeller F s (more F ev) - ofSeller F s (lack F ev)
+  unfolding excess
+  excess-is ev = omega (arith, sums-differ (F .listed ev) (F .reduction ev))
 
 -- each registration is one seller's
 module _ {F : Facts} (L : Limits F) where

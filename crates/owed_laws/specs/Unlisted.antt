@@ -1,16 +1,16 @@
--- A registration that an event does not list has no share in it and gets no credit; one without a share is not charged.
+-- A registration that an event does not list has no share in it and gets no credit, and one that is not measured apart no off-peak share; one without a share is not charged.
 use Prim.Native.Nat.{ℕ, _*_, _/_, _≤_, max}
-use mathlib.Core.Bool.{false, cond}
+use mathlib.Core.Bool.{false, cond, and-false}
 use mathlib.Core.Path.{_≡_}
 use native.Mathlib.Omega.{arith}
 use native.Mathlib.Nat.{zero-mul, zero-div, zero-min}
 use lib.Dec.{eqb, leb}
 use Rattle.ids.specs.Ids.{keyed}
 use Rattle.ids.specs.Tests.{cond-le}
-use Rattle.calendar.specs.Calendar.{due}
+use Rattle.calendar.specs.Calendar.{offPeak, due}
 use Rattle.allotment.specs.Allot.{share-zero}
 use Rattle.owed.specs.Facts.{Facts, registrations}
-use Rattle.owed.specs.Owed.{oneOrThree, beforeCap, D, rate, shareOf, calls, lack, more, shortfall, excess, u, daily, spent, charge, e, creditShare, creditLimit, creditOf}
+use Rattle.owed.specs.Owed.{oneOrThree, beforeCap, D, rate, shareOf, calls, lack, more, shortfall, excess, u, measured, offLack, offShortfall, offU, asked, daily, spent, charge, e, creditShare, creditLimit, creditOf}
 
 -- a weight of 0
 share-none : (F : Facts) (weight amount : ℕ → ℕ) (i : ℕ) → weight i ≡ 0 → shareOf F weight amount i ≡ 0
@@ -19,10 +19,19 @@ share-none F weight amount i z =
     share-zero registrations (keyed (F .seller) weight (F .seller i)) (amount (F .seller i)) i
     (omega (arith, cond-le (eqb (F .seller i) (F .seller i)) {x = weight i} {b = 0} (omega arith)))
 
+-- one that is not measured apart has no off-peak share
+pub off-none : (F : Facts) (ev i : ℕ) → measured F ev i ≡ false → offU F ev i ≡ 0
+unfolding offU
+off-none F ev i e = share-none F (offLack F ev) (offShortfall F ev) i (rw e)
+
 module _ (F : Facts) (ev i : ℕ) (no : F .listed ev i ≡ false) where
   pub u-unlisted : u F ev i ≡ 0
   unfolding u
   u-unlisted = share-none F (lack F ev) (shortfall F ev) i (rw no)
+
+  pub off-unlisted : offU F ev i ≡ 0
+  unfolding measured
+  off-unlisted = off-none F ev i (rw no (and-false (F .apart ev)))
 
   pub e-unlisted : e F ev i ≡ 0
   unfolding e
@@ -37,11 +46,12 @@ nothing-asked : (period n q : ℕ) → beforeCap period n 0 q ≡ 0
 unfolding beforeCap
 nothing-asked period n q = rw (zero-mul q) (zero-div (cond (oneOrThree period) (max n 2) 52))
 
-module _ (F : Facts) (ev i : ℕ) (none : u F ev i ≡ 0) where
+module _ (F : Facts) (ev i : ℕ) (none : u F ev i ≡ 0) (off : offU F ev i ≡ 0) where
   pub daily-none : (x : ℕ) → daily F ev x i ≡ 0
-  unfolding daily
+  unfolding asked daily
   daily-none x =
       let z : beforeCap (F .period ev) (calls F i) (u F ev i) (rate F i) ≡ 0 = rw none (nothing-asked (F .period ev) (calls F i) (rate F i)) in
+      let y : beforeCap offPeak (calls F i) (offU F ev i) (rate F i) ≡ 0 = rw off (nothing-asked offPeak (calls F i) (rate F i)) in
       let le : daily F ev x i ≤ 0 = cond-le (F .listed ev i) (omega arith) in
       omega arith
 

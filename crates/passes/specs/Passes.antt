@@ -8,7 +8,7 @@ use Rattle.owed.specs.Facts.{Facts}
 use Rattle.owed.specs.Owed as owed
 use Rattle.sharing.specs.Sharing.{Shares}
 use Rattle.table.specs.Columns.{Columns, columns-aside}
-use Rattle.table.specs.Places.{callsRow, calledRow, spentRow, complianceRow, creditRow, lackRow, eventPlaces}
+use Rattle.table.specs.Places.{callsRow, calledRow, spentRow, complianceRow, creditRow, lackRow, offURow}
 use Rattle.table.specs.Rows.{Aside, Row, none, mark, row-aside, row-within}
 
 -- after m events
@@ -35,8 +35,8 @@ run-first {F} k {w} {v} h z a n c =
     fresh p n x y = row-aside (row-within p n z (omega arith) (omega arith)) a (λ j l o q. omega arith)
 
 -- an event's own rows are filled
-pub run-aside : {F : Facts} {k m : ℕ} {w v : List ℕ} → Run F k m w → Aside lackRow eventPlaces w v → Run F k m v
-run-aside h a =
+pub run-aside : {F : Facts} {k m p n : ℕ} {w v : List ℕ} → Run F k m w → Aside p n w v → lackRow ≤ p → Run F k m v
+run-aside h a b =
     record {
       columns = columns-aside (h .columns) a (omega arith) (omega arith);
       calls = row-aside (h .calls) a (λ j l x y. omega arith);
@@ -45,8 +45,8 @@ run-aside h a =
       credit = row-aside (h .credit) a (λ j l x y. omega arith);
     }
 
-pub given : {F : Facts} {k ev : ℕ} {w : List ℕ} → Run F k ev w → Shares F ev w → Given F ev w
-given h s = record { columns = h .columns; calls = h .calls; shares = s }
+pub given : {F : Facts} {k ev : ℕ} {w : List ℕ} → Run F k ev w → Shares F ev w → Row w offURow 64 (owed.offU F ev) → Given F ev w
+given h s o = record { columns = h .columns; calls = h .calls; shares = s; off = o }
 
 -- its charges, then its credits
 pub run-more : {F : Facts} {k ev : ℕ} {w m v : List ℕ} → Run F k ev w → Aside spentRow 80 w m → Billed F k (ev + 1) m → Aside creditRow 16 m v

@@ -10,7 +10,7 @@ ghost use Rattle.passes.specs.Passes.{Run};
 use cells::Cells;
 use table::Work;
 
-// One event: its sums by seller, the shares of its entries, its charges, its credits.
+// One event: its sums by seller, the shares of its entries, what is measured apart, its charges, its credits.
 fn bill_event(year: &Cells, work: &mut Work, ev: usize, k: u64)
     requires { ⌜ Held (now year) ⌝ }
     requires { ⌜ (ev < 16) × (1 ≤ k) × (k ≤ 15) ⌝ }
@@ -20,6 +20,7 @@ fn bill_event(year: &Cells, work: &mut Work, ev: usize, k: u64)
 {
     weighing::weigh(year, work, ev);
     sharing::share(year, work, ev);
+    offpeak::measure(year, work, ev);
     let charges = charging::charge(year, work, ev, k);
     crediting::credit(year, work, ev, k, charges);
 }

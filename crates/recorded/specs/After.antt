@@ -2,30 +2,27 @@
 use mathlib.Core.Bool.{true}
 use Rattle.year.specs.declared.Registration.{Registration}
 use Rattle.year.specs.declared.Listing.{Listing}
-use Rattle.year.specs.declared.Event.{Event}
 use Rattle.year.specs.declared.Test.{Test}
 use Rattle.year.specs.declared.Year.{Year}
 use Rattle.year.specs.Year.{testPlace}
+use Rattle.year.specs.Listing.{single}
 use Rattle.year.specs.Steps.{withOpening, withRegistration, withLse, withClearing, withEvent, withTest, withRetest, withClose}
 use Rattle.owed.specs.Facts.{factsOf}
 use Rattle.owed.specs.Owed.{amounts}
 use Rattle.heads.specs.declared.RegistrationHead.{RegistrationHead}
-use Rattle.heads.specs.declared.EventHead.{EventHead}
 use Rattle.heads.specs.declared.TestHead.{TestHead}
 use Rattle.heads.specs.declared.Head.{Head}
 use Rattle.heads.specs.declared.Head.the-variants as head
 use Rattle.heads.specs.Record.{Record}
+use Rattle.heads.specs.Events.{eventOf}
 
--- what a registration registers, and what an event and a test are with what they list
+-- what a registration registers, and what a test is with what it lists
 abbrev pub registrationOf : RegistrationHead → Registration
 registrationOf r =
     record { known = true; seller = r .seller; area = r .area; zone = r .zone; product = r .product; committed = record { 0 = r .committed }; rate = r .rate }
 
-abbrev pub eventOf : EventHead → Listing → Event
-eventOf e l = record { area = e .area; month = e .month; period = e .period; listing = l }
-
 abbrev pub testOf : TestHead → Listing → Test
-testOf t l = record { taken = true; month = t .month; listing = l }
+testOf t l = record { taken = true; month = t .month; listing = single l }
 
 unfoldable pub yearBy : Year → Listing → Head → Year
 yearBy y l (head.Opening o) = withOpening y (o .leap) (o .factor) (o .requirement)

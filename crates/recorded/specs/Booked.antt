@@ -10,7 +10,7 @@ use Rattle.year.specs.declared.Listing.{Listing}
 use Rattle.year.specs.declared.Event.{Event}
 use Rattle.year.specs.declared.Amounts.{Amounts}
 use Rattle.year.specs.declared.Year.{Year}
-use Rattle.year.specs.Year.{newYear, noClearings, noEvent, noRetest, noAmounts, pastEvent, listed, reduction, deficit}
+use Rattle.year.specs.Year.{newYear, noClearings, noEvent, noRetest, noAmounts, pastEvent, listed, reduction, second, deficit}
 use Rattle.year.specs.Steps.{clearedBy, retestBy}
 use Rattle.owed.specs.Facts.{registrations, factsOf}
 use Rattle.owed.specs.Owed.{amounts}
@@ -19,7 +19,8 @@ use Rattle.heads.specs.declared.ClearingHead.{ClearingHead}
 use Rattle.heads.specs.declared.Head.{Head}
 use Rattle.heads.specs.declared.Head.the-variants as head
 use Rattle.heads.specs.Record.{Record, forClose}
-use Rattle.recorded.specs.After.{eventOf, yearBy}
+use Rattle.heads.specs.Events.{eventOf}
+use Rattle.recorded.specs.After.{yearBy}
 use Rattle.recorded.specs.Recorded.{gather, lastOr, sumOver, summed, clearingFor, event, retestFor, termsIn, clearingsIn, eventsIn, testsIn, retestsIn, factsIn, recorded}
 use Rattle.recorded.specs.Gathered.{gather-more, some-more, last-more, last-alone, set-table, set-changed, over-table, set-filled, sum-more, length-more}
 
@@ -68,7 +69,7 @@ module _ {X : Type 0} (f : Event → X) (blank : f noEvent ≡ f pastEvent) wher
   padded (x ∷ es) n (suc ev) = padded es n ev
 
 pub facts-booked : (rs : List Record) → factsOf (booked rs) ≡ factsIn rs
-unfolding booked recorded listed reduction deficit
+unfolding booked recorded listed reduction second deficit
 facts-booked rs =
     let es = eventsIn rs in
     let n = 16 - length es in
@@ -76,6 +77,8 @@ facts-booked rs =
     let period = fun-ext (padded (λ e. e .period) refl es n) in
     let listed = fun-ext (padded (λ e. listed (e .listing)) (fun-ext (λ i. getD-replicate-same 64 i false)) es n) in
     let reduction = fun-ext (padded (λ e. reduction (e .listing)) (fun-ext (λ i. getD-replicate-same 64 i 0)) es n) in
+    let apart = fun-ext (padded (λ e. e .apart) refl es n) in
+    let second = fun-ext (padded (λ e. second (e .listing)) (fun-ext (λ i. getD-replicate-same 64 i 0)) es n) in
     let deficit = fun-ext (padded (λ e. deficit (e .listing)) (fun-ext (λ s. getD-replicate-same 16 s 0)) es n) in
     cc
 

@@ -20,7 +20,8 @@ use Rattle.heads.specs.declared.CloseHead.{CloseHead}
 use Rattle.heads.specs.declared.ClearingHead.{ClearingHead}
 use Rattle.heads.specs.declared.Head.{Head}
 use Rattle.heads.specs.Record.{Record, forOpening, forRegistration, forLse, forEvent, forTest, forClose, forClearing, forRetest}
-use Rattle.recorded.specs.After.{registrationOf, eventOf, testOf}
+use Rattle.heads.specs.Events.{eventOf}
+use Rattle.recorded.specs.After.{registrationOf, testOf}
 
 -- what f takes out of each element, in order
 unfoldable pub gather : {A B : Type 0} → (A → List B) → List A → List B

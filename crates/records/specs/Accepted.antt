@@ -203,5 +203,9 @@ module _ (bytes : List ℕ) (a : Accepted bytes) where
       let h : (j : ℕ) → j < 4 → ((getD (head 7) j noRule) .low ≤ at (row vs) j) × (at (row vs) j ≤ (getD (head 7) j noRule) .high) = λ j l. head-as 7 j e l in
       record { registration = omega (arith, h 1 (omega arith) .1); price = h 2 (omega arith) .1; kw = h 3 (omega arith) }
 
+  -- the month of an event of two reductions
+  pub apart-month : kindOf bytes ≡ 8 → at (row vs) 2 ≤ 12
+  apart-month e = head-as 8 2 e (omega arith) .1
+
   pub retest : kindOf bytes ≡ 9 → Retest (row vs)
   retest e = record { zone = omega (arith, head-as 9 2 e (omega arith) .1); product = head-as 9 3 e (omega arith) .1 }

@@ -37,7 +37,7 @@ fn place_of(t: RetestHead) -> u64
 // Question 10: is every listed registration known, of the zone and product, and the seller's?
 fn lists_own(year: &Cells, t: RetestHead, listing: &[u64]) -> bool
     requires { ⌜ Held (now year) ⌝ }
-    requires { ⌜ length (now listing) ≡ 144 ⌝ }
+    requires { ⌜ length (now listing) ≡ 208 ⌝ }
     ensures { λ r. ⌜ r ≡ (let T = yearIn (now (year .entry)) .terms in let l = listingAt (at (now (listing .entry))) in everyListed T l (inGroup T (t .zone) (t .product)) && everyListed T l (λ i. eqb (seller T i) (t .seller))) ⌝ }
 {
     every_listed(year, listing, Condition::InGroup(t.zone, t.product))
@@ -91,7 +91,7 @@ fn may_retest(year: &Cells, t: RetestHead) -> bool
 pub fn retest_number(year: &Cells, t: RetestHead, listing: &[u64]) -> u64
     requires { ⌜ Held (now year) ⌝ }
     requires { ⌜ GroupWithin (t .zone) (t .product) ⌝ }
-    requires { ⌜ length (now listing) ≡ 144 ⌝ }
+    requires { ⌜ length (now listing) ≡ 208 ⌝ }
     ensures { λ n. ⌜ ((room : ℕ) → n ≡ firstFailed (questions monthBegun (yearIn (now (year .entry))) (record { head = Head.Retest t; listing = listingAt (at (now (listing .entry))) }) room)) ⌝ }
 {
     let first = open_number(year);

@@ -13,7 +13,7 @@ pub fn settle(registrations: &[Registration], year: &Cells, k: u64) -> Amounts
     requires { ⌜ Held (now year) × (now registrations ≡ yearIn (now year) .terms .registrations) × (1 ≤ k) × (k ≤ 15) ⌝ }
     ensures { λ r. ⌜ r ≡ amounts (facts (now (year .entry))) k ⌝ }
 {
-    let mut work = [0u64; 1080];
+    let mut work = [0u64; 1304];
     let mut i: usize = 0;
     while i < 64 {
         lending::enter(year, &mut work, i, registrations[i]);

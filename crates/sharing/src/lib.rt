@@ -1,9 +1,9 @@
-// Pass 3 over an event's entries: u and e, kept in the working table for the charges and the credits.
+// Pass 3 over an event's entries: u and e, kept in the working table for the charges and the credits, and second reductions for what is measured apart.
 ghost use Prim.Native.Nat.{_<_};
 ghost use Rattle.cells.specs.Layout.{Held};
 ghost use Rattle.looks.specs.Looks.{facts};
 ghost use Rattle.table.specs.Columns.{Columns};
-ghost use Rattle.table.specs.Places.{lackRow, eventPlaces};
+ghost use Rattle.table.specs.Places.{lackRow, sharedPlaces};
 ghost use Rattle.table.specs.Rows.{Aside};
 ghost use Rattle.weighing.specs.Weighing.{Ready};
 ghost use Rattle.sharing.specs.Sharing.{Shares, Divided};
@@ -20,7 +20,7 @@ pub fn share(year: &Cells, work: &mut Work, ev: usize)
     requires { ⌜ Ready (facts (now year)) ev (now work) ⌝ }
     ensures shares { λ _. ⌜ Shares (facts (now (year .entry))) ev (now (work .exit)) ⌝ }
     ensures divisions { λ _. ⌜ Divided (facts (now (year .entry))) ev (now (work .exit)) ⌝ }
-    ensures aside { λ _. ⌜ Aside lackRow eventPlaces (now (work .entry)) (now (work .exit)) ⌝ }
+    ensures aside { λ _. ⌜ Aside lackRow sharedPlaces (now (work .entry)) (now (work .exit)) ⌝ }
 {
     let mut i: usize = 0;
     while i < 64 {
@@ -31,6 +31,7 @@ pub fn share(year: &Cells, work: &mut Work, ev: usize)
             table::put(work, table::U, i, u.0);
             table::put(work, table::E, i, e.0);
             table::put(work, table::LISTED, i, 1);
+            table::put(work, table::SECOND, i, x.second.0);
         }
         i += 1;
     }

@@ -1,35 +1,41 @@
 -- The year in cells into which the rows of a step were laid: one fact a part, kept or laid anew.
 use Prim.Native.Nat.{ℕ, _+_, _*_, _≤_, _<_}
 use mathlib.Core.Path.{_≡_, refl}
-use mathlib.Core.Bool.{true, false}
+use mathlib.Core.Bool.{Bool, true, false}
 use mathlib.Core.List.{List, [], _∷_, _++_}
 use native.Mathlib.Omega.{arith}
+use mir.Val.{boolByte}
 use lib.Dec.{lit<, lit≤}
 use lib.ListN.{length, length-append}
 use lib.Seq.{getD-append-add}
 use Rattle.ids.specs.Ids.{at}
 use Rattle.year.specs.declared.Registration.{Registration}
-use Rattle.year.specs.declared.Listing.{Listing}
-use Rattle.year.specs.declared.Event.{Event}
 use Rattle.year.specs.declared.Amounts.{Amounts}
 use Rattle.year.specs.Year.{clearingsOf}
 use Rattle.year.specs.Steps.{withOpening, withRegistration, withLse, withClearing, withEvent, withClose}
 use Rattle.year.specs.Sound.{SoundAmounts, Sound}
 use Rattle.cells.specs.Rows.{Laid, laid-on, Same, same-on, same-in, same-before, same-behind, rows-laid, cells-laid, numbers-kept, numbers-anew}
-use Rattle.cells.specs.Layout.{registrationAt, listingAt, eventAt, cellRegistrations, cellObligations, cellEvents, cellBilled, cellClearings, yearIn}
+use Rattle.cells.specs.Layout.{flag, registrationAt, listingAt, eventAt, cellRegistrations, cellObligations, cellEvents, cellBilled, cellClearings, yearIn}
 use Rattle.cells.specs.Regions.{registration-view, clearings-view, listing-view, event-view, registrations-kept, obligations-kept, terms-kept, events-kept, tests-kept, billed-kept, clearings-kept, retests-kept}
+use Rattle.heads.specs.declared.EventHead.{EventHead}
+use Rattle.heads.specs.Events.{eventOf}
 use Rattle.steps.specs.Unmarked.{unmarked, tests-unmarked}
 
 -- a known registration is the one that its row has
 registration-row : (r : Registration) → r .known ≡ true → registrationAt (at (1 ∷ r .seller ∷ r .area ∷ r .zone ∷ r .product ∷ r .committed .0 ∷ r .rate ∷ [])) ≡ r
 registration-row r e = rw (← e)
 
-abbrev pub eventOf : ℕ → ℕ → ℕ → Listing → Event
-eventOf area month period l = record { area = area; month = month; period = period; listing = l }
+-- the row of an event's head, with a mark for its bool, and of the whole event
+abbrev pub headRow : EventHead → List ℕ
+headRow e = e .area ∷ e .month ∷ e .period ∷ boolByte (e .apart) ∷ []
 
-event-row : (area month period : ℕ) (l : List ℕ) → eventAt (at ((area ∷ month ∷ period ∷ []) ++ l)) ≡ eventOf area month period (listingAt (at l))
-event-row area month period l =
-    cc (listing-view (λ k. at ((area ∷ month ∷ period ∷ []) ++ l) (3 + k)) (at l) (λ k m. getD-append-add (area ∷ month ∷ period ∷ []) l k 0))
+marked : (b : Bool) → flag (boolByte b) ≡ b
+marked true = refl
+marked false = refl
+
+event-row : (e : EventHead) (l : List ℕ) → eventAt (at (headRow e ++ l)) ≡ eventOf e (listingAt (at l))
+event-row e l =
+    cc (marked (e .apart), listing-view (λ k. at (headRow e ++ l) (4 + k)) (at l) (λ k m. getD-append-add (headRow e) l k 0))
 
 module _ {c d : List ℕ} where
   pub opening-laid : {leap factor requirement : ℕ} → Laid 3 (1 ∷ leap ∷ factor ∷ requirement ∷ []) c d → yearIn d ≡ withOpening (yearIn c) leap factor requirement
@@ -46,11 +52,11 @@ module _ {c d : List ℕ} where
         h .inside 3 (lit< tt),
         registrations,
         obligations-kept (same-behind h 455 16 (lit≤ tt)),
-        clearings-kept (same-behind h 3447 192 (lit≤ tt)),
-        events-kept (same-behind h 471 2352 (lit≤ tt)),
-        tests-kept registrations (same-behind h 2823 560 (lit≤ tt)),
-        retests-kept (same-behind h 3639 128 (lit≤ tt)),
-        billed-kept (same-behind h 3383 64 (lit≤ tt)),
+        clearings-kept (same-behind h 4487 192 (lit≤ tt)),
+        events-kept (same-behind h 471 3392 (lit≤ tt)),
+        tests-kept registrations (same-behind h 3863 560 (lit≤ tt)),
+        retests-kept (same-behind h 4679 128 (lit≤ tt)),
+        billed-kept (same-behind h 4423 64 (lit≤ tt)),
       )
 
   -- before any test, since the place of a listed registration is never to change
@@ -70,11 +76,11 @@ module _ {c d : List ℕ} where
         rows-laid registration-view 64 7 id l refl h,
         registration-row r k,
         obligations-kept (same-behind h 455 16 (omega arith)),
-        clearings-kept (same-behind h 3447 192 (omega arith)),
-        events-kept (same-behind h 471 2352 (omega arith)),
-        tests-unmarked (unmarked c s (s .fresh e .2)) (same-behind h 2823 560 (omega arith)),
-        retests-kept (same-behind h 3639 128 (omega arith)),
-        billed-kept (same-behind h 3383 64 (omega arith)),
+        clearings-kept (same-behind h 4487 192 (omega arith)),
+        events-kept (same-behind h 471 3392 (omega arith)),
+        tests-unmarked (unmarked c s (s .fresh e .2)) (same-behind h 3863 560 (omega arith)),
+        retests-kept (same-behind h 4679 128 (omega arith)),
+        billed-kept (same-behind h 4423 64 (omega arith)),
       )
 
   pub lse-laid : (id : ℕ) {kw : ℕ} → id < 16 → Laid (455 + id) (kw ∷ []) c d → yearIn d ≡ withLse (yearIn c) id kw
@@ -92,15 +98,15 @@ module _ {c d : List ℕ} where
         marks .cell 6 (lit< tt),
         registrations,
         cells-laid (λ x. x) 16 455 id l h,
-        clearings-kept (same-behind h 3447 192 (omega arith)),
-        events-kept (same-behind h 471 2352 (omega arith)),
-        tests-kept registrations (same-behind h 2823 560 (omega arith)),
-        retests-kept (same-behind h 3639 128 (omega arith)),
-        billed-kept (same-behind h 3383 64 (omega arith)),
+        clearings-kept (same-behind h 4487 192 (omega arith)),
+        events-kept (same-behind h 471 3392 (omega arith)),
+        tests-kept registrations (same-behind h 3863 560 (omega arith)),
+        retests-kept (same-behind h 4679 128 (omega arith)),
+        billed-kept (same-behind h 4423 64 (omega arith)),
       )
 
   pub clearing-laid : (id price kw : ℕ) → id < 64 → let old = clearingsOf (yearIn c) id in
-      Laid (3447 + 3 * id) ((old .count + 1) ∷ (old .value + price * kw) ∷ (old .kw + kw) ∷ []) c d → yearIn d ≡ withClearing (yearIn c) id price kw
+      Laid (4487 + 3 * id) ((old .count + 1) ∷ (old .value + price * kw) ∷ (old .kw + kw) ∷ []) c d → yearIn d ≡ withClearing (yearIn c) id price kw
   unfolding cellClearings
   clearing-laid id price kw l h =
       let marks = same-before h 0 7 (omega arith) in
@@ -111,24 +117,24 @@ module _ {c d : List ℕ} where
         marks .cell 2 (lit< tt),
         marks .cell 3 (lit< tt),
         terms-kept (same-before h 4 467 (omega arith)),
-        rows-laid clearings-view 64 3447 id l refl h,
-        events-kept (same-before h 471 2352 (omega arith)),
-        tests-kept registrations (same-before h 2823 560 (omega arith)),
-        retests-kept (same-behind h 3639 128 (omega arith)),
-        billed-kept (same-before h 3383 64 (omega arith)),
+        rows-laid clearings-view 64 4487 id l refl h,
+        events-kept (same-before h 471 3392 (omega arith)),
+        tests-kept registrations (same-before h 3863 560 (omega arith)),
+        retests-kept (same-behind h 4679 128 (omega arith)),
+        billed-kept (same-before h 4423 64 (omega arith)),
       )
 
 -- an event is laid by three rows: its head, its listing, and the marks
-pub call-laid : {a b c d l : List ℕ} (n : ℕ) {area month period : ℕ} → n ≡ at a 2 → n < 16 → length l ≡ 144
-    → Laid (471 + 147 * n) (area ∷ month ∷ period ∷ []) a b → Laid (471 + 147 * n + 3) l b c → Laid 1 (1 ∷ (n + 1) ∷ []) c d
-    → yearIn d ≡ withEvent (yearIn a) (eventOf area month period (listingAt (at l)))
+pub call-laid : {a b c d l : List ℕ} (n : ℕ) (event : EventHead) → n ≡ at a 2 → n < 16 → length l ≡ 208
+    → Laid (471 + 212 * n) (headRow event) a b → Laid (471 + 212 * n + 4) l b c → Laid 1 (1 ∷ (n + 1) ∷ []) c d
+    → yearIn d ≡ withEvent (yearIn a) (eventOf event (listingAt (at l)))
 unfolding cellEvents
-call-laid {a} {b} {c} {d} {l} n {area} {month} {period} q m e g h i =
-    let row : Laid (471 + 147 * n) ((area ∷ month ∷ period ∷ []) ++ l) a c = laid-on g h in
-    let long : length ((area ∷ month ∷ period ∷ []) ++ l) ≡ 147 = omega (arith, length-append (area ∷ month ∷ period ∷ []) l) in
+call-laid {a} {b} {c} {d} {l} n event q m e g h i =
+    let row : Laid (471 + 212 * n) (headRow event ++ l) a c = laid-on g h in
+    let long : length (headRow event ++ l) ≡ 212 = omega (arith, length-append (headRow event) l) in
     let marks = same-before row 0 7 (omega arith) in
     let terms = same-on (same-before row 3 468 (omega arith)) (same-behind i 3 468 (lit≤ tt)) in
-    let behind = same-on (same-behind row 2823 944 (omega arith)) (same-behind i 2823 944 (lit≤ tt)) in
+    let behind = same-on (same-behind row 3863 944 (omega arith)) (same-behind i 3863 944 (lit≤ tt)) in
     let kept = terms-kept (same-in 4 467 (lit≤ tt) (lit≤ tt) terms) in
     cc (
       q,
@@ -138,38 +144,38 @@ call-laid {a} {b} {c} {d} {l} n {area} {month} {period} q m e g h i =
       i .inside 1 (lit< tt),
       terms .cell 0 (lit< tt),
       kept,
-      clearings-kept (same-in 3447 192 (lit≤ tt) (lit≤ tt) behind),
-      events-kept (same-behind i 471 2352 (lit≤ tt)),
+      clearings-kept (same-in 4487 192 (lit≤ tt) (lit≤ tt) behind),
+      events-kept (same-behind i 471 3392 (lit≤ tt)),
       rows-laid event-view 16 471 n m long row,
-      event-row area month period l,
-      tests-kept (registrations-kept (same-in 7 448 (lit≤ tt) (lit≤ tt) terms)) (same-in 2823 560 (lit≤ tt) (lit≤ tt) behind),
-      retests-kept (same-in 3639 128 (lit≤ tt) (lit≤ tt) behind),
-      billed-kept (same-in 3383 64 (lit≤ tt) (lit≤ tt) behind),
+      event-row event l,
+      tests-kept (registrations-kept (same-in 7 448 (lit≤ tt) (lit≤ tt) terms)) (same-in 3863 560 (lit≤ tt) (lit≤ tt) behind),
+      retests-kept (same-in 4679 128 (lit≤ tt) (lit≤ tt) behind),
+      billed-kept (same-in 4423 64 (lit≤ tt) (lit≤ tt) behind),
     )
 
 -- four rows of amounts
-billed-laid : {b c d e f : List ℕ} (x : Amounts) → SoundAmounts x → Laid 3383 (x .compliance) b c → Laid 3399 (x .test) c d → Laid 3415 (x .credit) d e → Laid 3431 (x .lse) e f → cellBilled f ≡ x
+billed-laid : {b c d e f : List ℕ} (x : Amounts) → SoundAmounts x → Laid 4423 (x .compliance) b c → Laid 4439 (x .test) c d → Laid 4455 (x .credit) d e → Laid 4471 (x .lse) e f → cellBilled f ≡ x
 unfolding cellBilled
 billed-laid {f = f} x s h i j k =
     let parts : cellBilled f ≡ record { compliance = x .compliance; test = x .test; credit = x .credit; lse = x .lse } = cc (
       numbers-anew (x .compliance) (s .compliance .long) h,
-      numbers-kept 16 3383 (same-on (same-on (same-before i 3383 16 (lit≤ tt)) (same-before j 3383 16 (lit≤ tt))) (same-before k 3383 16 (lit≤ tt))),
+      numbers-kept 16 4423 (same-on (same-on (same-before i 4423 16 (lit≤ tt)) (same-before j 4423 16 (lit≤ tt))) (same-before k 4423 16 (lit≤ tt))),
       numbers-anew (x .test) (s .test .long) i,
-      numbers-kept 16 3399 (same-on (same-before j 3399 16 (lit≤ tt)) (same-before k 3399 16 (lit≤ tt))),
+      numbers-kept 16 4439 (same-on (same-before j 4439 16 (lit≤ tt)) (same-before k 4439 16 (lit≤ tt))),
       numbers-anew (x .credit) (s .credit .long) j,
-      numbers-kept 16 3415 (same-before k 3415 16 (lit≤ tt)),
+      numbers-kept 16 4455 (same-before k 4455 16 (lit≤ tt)),
       numbers-anew (x .lse) (s .lse .long) k,
     ) in
     parts
 
 -- a close is laid by five rows: the marks, and the amounts
 pub close-laid : {a b c d e f : List ℕ} {z : ℕ} (x : Amounts) → SoundAmounts x → z ≡ at a 0 → Laid 0 ((z + 1) ∷ 1 ∷ []) a b
-    → Laid 3383 (x .compliance) b c → Laid 3399 (x .test) c d → Laid 3415 (x .credit) d e → Laid 3431 (x .lse) e f → yearIn f ≡ withClose (yearIn a) x
+    → Laid 4423 (x .compliance) b c → Laid 4439 (x .test) c d → Laid 4455 (x .credit) d e → Laid 4471 (x .lse) e f → yearIn f ≡ withClose (yearIn a) x
 close-laid {a = a} {b = b} {f = f} x s q g h i j k =
-    let before : (q w : ℕ) → q + w ≤ 3383 → Same q w b f = λ q w m. same-on (same-on (same-before h q w m) (same-before i q w (omega arith))) (same-on (same-before j q w (omega arith)) (same-before k q w (omega arith))) in
+    let before : (q w : ℕ) → q + w ≤ 4423 → Same q w b f = λ q w m. same-on (same-on (same-before h q w m) (same-before i q w (omega arith))) (same-on (same-before j q w (omega arith)) (same-before k q w (omega arith))) in
     let marks = before 0 2 (lit≤ tt) in
-    let kept = same-on (same-behind g 2 3381 (lit≤ tt)) (before 2 3381 (lit≤ tt)) in
-    let behind : Same 3447 320 a f = same-on (same-behind g 3447 320 (lit≤ tt)) (same-on (same-on (same-behind h 3447 320 (omega (arith, s .compliance .long))) (same-behind i 3447 320 (omega (arith, s .test .long)))) (same-on (same-behind j 3447 320 (omega (arith, s .credit .long))) (same-behind k 3447 320 (omega (arith, s .lse .long))))) in
+    let kept = same-on (same-behind g 2 4421 (lit≤ tt)) (before 2 4421 (lit≤ tt)) in
+    let behind : Same 4487 320 a f = same-on (same-behind g 4487 320 (lit≤ tt)) (same-on (same-on (same-behind h 4487 320 (omega (arith, s .compliance .long))) (same-behind i 4487 320 (omega (arith, s .test .long)))) (same-on (same-behind j 4487 320 (omega (arith, s .credit .long))) (same-behind k 4487 320 (omega (arith, s .lse .long))))) in
     cc (
       q,
       marks .cell 0 (lit< tt),
@@ -179,9 +185,9 @@ close-laid {a = a} {b = b} {f = f} x s q g h i j k =
       kept .cell 0 (lit< tt),
       kept .cell 1 (lit< tt),
       terms-kept (same-in 4 467 (lit≤ tt) (lit≤ tt) kept),
-      clearings-kept (same-in 3447 192 (lit≤ tt) (lit≤ tt) behind),
-      events-kept (same-in 471 2352 (lit≤ tt) (lit≤ tt) kept),
-      tests-kept (registrations-kept (same-in 7 448 (lit≤ tt) (lit≤ tt) kept)) (same-in 2823 560 (lit≤ tt) (lit≤ tt) kept),
-      retests-kept (same-in 3639 128 (lit≤ tt) (lit≤ tt) behind),
+      clearings-kept (same-in 4487 192 (lit≤ tt) (lit≤ tt) behind),
+      events-kept (same-in 471 3392 (lit≤ tt) (lit≤ tt) kept),
+      tests-kept (registrations-kept (same-in 7 448 (lit≤ tt) (lit≤ tt) kept)) (same-in 3863 560 (lit≤ tt) (lit≤ tt) kept),
+      retests-kept (same-in 4679 128 (lit≤ tt) (lit≤ tt) behind),
       billed-laid x s h i j k,
     )

@@ -6,9 +6,9 @@ ghost use lib.ListN.{length};
 ghost use Rattle.ids.specs.Ids.{at};
 ghost use Rattle.year.specs.Year.{clearingsOf};
 ghost use Rattle.year.specs.Steps.{withOpening, withRegistration, withLse, withClearing, withEvent, withClose};
-ghost use Rattle.year.specs.Sound.{SoundRegistration, SoundListing, SoundAmounts, Factors};
+ghost use Rattle.year.specs.Sound.{SoundRegistration, SoundEvent, SoundAmounts, Factors};
 ghost use Rattle.cells.specs.Layout.{listingAt, yearIn, Held};
-ghost use Rattle.steps.specs.Laying.{eventOf};
+ghost use Rattle.heads.specs.Events.{eventOf};
 use cells::BILLED;
 use cells::CLEARING;
 use cells::CLEARINGS;
@@ -23,6 +23,7 @@ use cells::REGISTRATION;
 use cells::REGISTRATIONS;
 use cells::STARTED;
 use cells::lay;
+use heads::EventHead;
 use year::Amounts;
 use year::Registration;
 
@@ -81,18 +82,22 @@ pub fn clear(year: &mut Cells, id: usize, price: u64, kw: u64)
     lay(year, CLEARINGS + CLEARING * id, &row);
 }
 
-// One more event; its listing is a row by id: 64 marks, 64 reductions, 16 deficits.
-pub fn call(year: &mut Cells, area: u64, month: u64, period: u64, listing: &[u64])
+// One more event; its listing is a row by id: 64 marks, 64 reductions, 16 deficits, 64 second reductions.
+pub fn call(year: &mut Cells, e: EventHead, listing: &[u64])
     requires { ⌜ Held (now year) ⌝ }
     requires { ⌜ yearIn (now year) .held < 16 ⌝ }
-    requires { ⌜ month ≤ 12 ⌝ }
-    requires { ⌜ length (now listing) ≡ 144 ⌝ }
-    requires { ⌜ SoundListing (listingAt (at (now listing))) ⌝ }
-    ensures equals { λ r. ⌜ yearIn (now (year .exit)) ≡ withEvent (yearIn (now (year .entry))) (eventOf area month period (listingAt (at (now (listing .entry))))) ⌝ }
+    requires { ⌜ length (now listing) ≡ 208 ⌝ }
+    requires { ⌜ SoundEvent (eventOf e (listingAt (at (now listing)))) ⌝ }
+    ensures equals { λ r. ⌜ yearIn (now (year .exit)) ≡ withEvent (yearIn (now (year .entry))) (eventOf e (listingAt (at (now (listing .entry))))) ⌝ }
     ensures held { λ r. ⌜ Held (now (year .exit)) ⌝ }
 {
     let n = cells::held(year);
-    lay(year, EVENTS + EVENT * n, &[area, month, period]);
+    let apart = e.apart as u64;
+    lay(
+        year,
+        EVENTS + EVENT * n,
+        &[e.area, e.month, e.period, apart],
+    );
     lay(year, EVENTS + EVENT * n + LISTED, listing);
     lay(year, STARTED, &[1, n as u64 + 1]);
 }

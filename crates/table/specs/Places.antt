@@ -2,7 +2,7 @@
 use Prim.Native.Nat.{ℕ, _-_}
 
 abbrev pub size : ℕ
-size = 1080
+size = 1304
 
 -- a registration's terms, its rate in force, and its cap
 abbrev pub sellerRow : ℕ
@@ -37,7 +37,7 @@ complianceRow = 512
 abbrev pub creditRow : ℕ
 creditRow = 528
 
--- one event: two allotments abreast, of shortfalls by lacks and of excesses by what is given more, five rows each; u, e, and 1 where it is listed
+-- one event: two allotments abreast, of shortfalls by lacks and of excesses by what is given more, five rows each; u, e, 1 where it is listed, and its second reduction
 abbrev pub lackRow : ℕ
 lackRow = 544
 
@@ -53,33 +53,55 @@ eRow = 768
 abbrev pub listedRow : ℕ
 listedRow = 832
 
+abbrev pub secondRow : ℕ
+secondRow = 896
+
+-- what is measured off-peak apart: the off-peak u; a third allotment abreast, of shortfalls by lacks; what is given more
+abbrev pub offURow : ℕ
+offURow = 960
+
+abbrev pub offLackRow : ℕ
+offLackRow = 1024
+
+abbrev pub offMoreRow : ℕ
+offMoreRow = 1104
+
 -- a seller's test charges to date, and an LSE's credit
 abbrev pub testRow : ℕ
-testRow = 896
+testRow = 1120
 
 abbrev pub lseRow : ℕ
-lseRow = 912
+lseRow = 1136
 
 -- the place of a registration's test, and its area
 abbrev pub placeRow : ℕ
-placeRow = 928
+placeRow = 1152
 
 abbrev pub areaRow : ℕ
-areaRow = 992
+areaRow = 1216
 
 -- what an area's registrations with a rate of their own committed, what that is worth, and the average
 abbrev pub lentRow : ℕ
-lentRow = 1056
+lentRow = 1280
 
 abbrev pub worthRow : ℕ
-worthRow = 1064
+worthRow = 1288
 
 abbrev pub areaRateRow : ℕ
-areaRateRow = 1072
+areaRateRow = 1296
 
--- how many places there are: of one event's two allotments, and of all its rows; of what the passes over events store, and of what holds 0 before them
+-- how many places there are: of one event's first two allotments, of these and what pass 3 makes of them, of what comes behind the two, of what is measured apart, and of all its rows; of what the passes over events store, and of what holds 0 before them
 abbrev pub abreastPlaces : ℕ
 abreastPlaces = uRow - lackRow
+
+abbrev pub sharedPlaces : ℕ
+sharedPlaces = offURow - lackRow
+
+abbrev pub laterPlaces : ℕ
+laterPlaces = testRow - uRow
+
+abbrev pub apartPlaces : ℕ
+apartPlaces = testRow - offURow
 
 abbrev pub eventPlaces : ℕ
 eventPlaces = testRow - lackRow

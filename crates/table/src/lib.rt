@@ -7,7 +7,7 @@ ghost use Rattle.table.specs.Rows.{Stored, Aside, Row, none};
 ghost use Rattle.table.specs.Places.{size};
 
 // Rows that change together stand together (specs/Places.antt).
-pub type Work = [u64; 1080];
+pub type Work = [u64; 1304];
 
 // By registration, 64 places each: its terms, copied from the lent run; its rate in force, and its cap.
 pub const SELLER: usize = 0;
@@ -32,10 +32,10 @@ pub const COMPLIANCE: usize = 512;
 
 pub const CREDIT: usize = 528;
 
-// One event, 352 places. Five rows by seller (crate abreast): what its entries lack, the shortfall that is allotted by that, the
+// One event, 576 places. Five rows by seller (crate abreast): what its entries lack, the shortfall that is allotted by that, the
 // weights passed, the last quotients and the divisions; the same five of what they give more and the excess. By registration u, e,
-// and whether it is listed (1).
-pub const EVENT: usize = 352;
+// whether it is listed (1), and its second reduction.
+pub const EVENT: usize = 576;
 
 pub const LACK: usize = 544;
 
@@ -47,22 +47,32 @@ pub const E: usize = 768;
 
 pub const LISTED: usize = 832;
 
-// By seller the test charges to date, and by LSE its credit.
-pub const TEST: usize = 896;
+pub const SECOND: usize = 896;
 
-pub const LSE: usize = 912;
+// Of what is measured off-peak apart: by registration u; five rows by seller of what its entries lack and the shortfall; by
+// seller what they give more.
+pub const OFF_U: usize = 960;
+
+pub const OFF_LACK: usize = 1024;
+
+pub const OFF_MORE: usize = 1104;
+
+// By seller the test charges to date, and by LSE its credit.
+pub const TEST: usize = 1120;
+
+pub const LSE: usize = 1136;
 
 // By registration the place of its test, 3 × zone + product, and its area.
-pub const PLACE: usize = 928;
+pub const PLACE: usize = 1152;
 
-pub const AREA: usize = 992;
+pub const AREA: usize = 1216;
 
 // By area, 8 places each: what those with a rate of their own committed, what that is worth at these rates, and its average.
-pub const LENT: usize = 1056;
+pub const LENT: usize = 1280;
 
-pub const WORTH: usize = 1064;
+pub const WORTH: usize = 1288;
 
-pub const AREA_RATE: usize = 1072;
+pub const AREA_RATE: usize = 1296;
 
 // The number at place i of a row.
 pub fn get(work: &Work, row: usize, i: usize) -> u64

@@ -20,7 +20,7 @@ use Rattle.cells.specs.Tested.{tested-in, first-in}
 use Rattle.owed.specs.Owed.{D, raised, unforced, ofSeller, called, shortfallOver, testShortfall, B, testOf}
 use Rattle.owed.specs.Owed as owed
 use Rattle.owed_laws.specs.Limits.{limits}
-use Rattle.looks.specs.declared.Entry.{Entry}
+use Rattle.testing.specs.declared.sums.TestEntry.{TestEntry}
 use Rattle.looks.specs.Looks.{facts}
 use Rattle.table.specs.Places.{calledRow, placeRow}
 use Rattle.table.specs.Rows.{Row, mark}
@@ -34,10 +34,10 @@ unless false e = ap not e
 module _ (c : List ℕ) where
   -- what a look at registration i's entry returns: its reduction is the retested one, if there is one, else the first
   abbrev pub resultAt : ℕ → ℕ
-  resultAt i = cond (retestOf (yearIn c) i .taken) (retestOf (yearIn c) i .reduction) (at c (3255 + (64 + i)))
+  resultAt i = cond (retestOf (yearIn c) i .taken) (retestOf (yearIn c) i .reduction) (at c (4295 + (64 + i)))
 
-  abbrev pub lookAt : ℕ → Entry
-  lookAt i = record { listed = flag (at c (3255 + i)); reduction = record { 0 = resultAt i } }
+  abbrev pub lookAt : ℕ → TestEntry
+  lookAt i = record { listed = flag (at c (4295 + i)); reduction = record { 0 = resultAt i } }
 
   -- does it stand: is it listed, and its registration by no event
   unfoldable pub stands : ℕ → Bool
@@ -67,9 +67,9 @@ module _ (c : List ℕ) where
 
   -- the facts of the test at place p
   module _ {p : ℕ} (l : p < 24) where
-    pub deficit-in : {s : ℕ} → s < 16 → facts c .testDeficit p s ≡ at c (2823 + 18 * p + (2 + s))
+    pub deficit-in : {s : ℕ} → s < 16 → facts c .testDeficit p s ≡ at c (3863 + 18 * p + (2 + s))
     unfolding deficit
-    deficit-in {s} m = rw (test-in c pastTest l) (getD-tabulate (λ j. at c (2823 + 18 * p + (2 + j))) 16 s 0 m)
+    deficit-in {s} m = rw (test-in c pastTest l) (getD-tabulate (λ j. at c (3863 + 18 * p + (2 + j))) 16 s 0 m)
 
     -- a test that was not taken charges nothing
     module _ (h : Held c) (off : takenAt p ≡ false) where

@@ -9,7 +9,6 @@ ghost use Rattle.table.specs.Rows.{Row, none};
 ghost use Rattle.testing.specs.Entries.{lookAt, stands, Ready};
 ghost use Rattle.testing.specs.Sums.{addendAt, Summed};
 use cells::Cells;
-use looks::Entry;
 use table::Work;
 use units::Nominated;
 use year::Retest;
@@ -23,6 +22,11 @@ pub const REDUCTION: usize = 384;
 
 pub const WORTH: usize = 768;
 
+pub struct TestEntry {
+    pub listed: bool,
+    pub reduction: Nominated,
+}
+
 // An entry's reduction: the retested one, if there is one, else the first.
 fn result(first: u64, retest: Retest) -> Nominated
     ensures { λ r. ⌜ r .0 ≡ cond (retest .taken) (retest .reduction) first ⌝ }
@@ -35,14 +39,14 @@ fn result(first: u64, retest: Retest) -> Nominated
 }
 
 // One look at an entry of a test and at that of its retest: nothing else in the closing reads them.
-fn look(year: &Cells, i: usize) -> Entry
+fn look(year: &Cells, i: usize) -> TestEntry
     requires { ⌜ i < 64 ⌝ }
     ensures { λ r. ⌜ r ≡ lookAt (now (year .entry)) i ⌝ }
 {
     let listed = year[cells::TESTED + i] != 0;
     let retest = cells::retest_at(year, i);
     let reduction = result(year[cells::TESTED + (64 + i)], retest);
-    Entry { listed, reduction }
+    TestEntry { listed, reduction }
 }
 
 // Pass 1: which entries stand, since no event lists their registrations.

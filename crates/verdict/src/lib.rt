@@ -37,7 +37,7 @@ fn close_number(year: &Cells, c: CloseHead, room: usize) -> u64
 pub fn number_of(year: &Cells, head: Head, listing: &[u64], room: usize) -> u64
     requires { ⌜ Held (now year) ⌝ }
     requires { ⌜ Within head ⌝ }
-    requires { ⌜ length (now listing) ≡ 144 ⌝ }
+    requires { ⌜ length (now listing) ≡ 208 ⌝ }
     ensures { λ n. ⌜ n ≡ firstFailed (questions monthBegun (yearIn (now (year .entry))) (record { head = head; listing = listingAt (at (now (listing .entry))) }) room) ⌝ }
 {
     match head {

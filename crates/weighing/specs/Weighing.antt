@@ -1,33 +1,32 @@
 -- Pass 2: sums by seller entry by entry, then shortfalls and excesses seller by seller.
 use Prim.Native.Nat.{ℕ, _+_, _-_, _≤_, _<_}
-use mathlib.Core.Path.{_≡_, refl, sym, _∙_}
+use mathlib.Core.Path.{_≡_, sym, _∙_}
 use mathlib.Core.Bool.{true, false}
 use mathlib.Core.List.{List}
 use native.Mathlib.Omega.{arith}
+use lib.Dec.{lit≤}
 use lib.ListN.{length}
 use Rattle.ids.specs.Ids.{at}
 use Rattle.abreast.specs.Abreast.{Abreast, abreast-first}
 use Rattle.owed.specs.Facts.{Facts}
 use Rattle.owed.specs.Owed as owed
-use Rattle.owed.specs.Owed.{ofSeller, unforced, shortfallOver, excess}
-use Rattle.owed_laws.specs.Limits.{Limits}
-use Rattle.owed_laws.specs.Sellers.{ofSeller-le, net-is, excess-is}
-use Rattle.owed_laws.specs.Bounds.{lack-le, more-le}
+use Rattle.owed.specs.Owed.{unforced, excess}
+use Rattle.owed_laws.specs.Sellers.{excess-is}
 use Rattle.table.specs.Columns.{Columns, columns-aside}
-use Rattle.table.specs.Places.{size, lackRow, moreRow, uRow, abreastPlaces}
+use Rattle.table.specs.Places.{size, lackRow, moreRow, uRow, abreastPlaces, laterPlaces}
 use Rattle.weighing.specs.declared.Entry.{Entry}
-use Rattle.table.specs.Rows.{Stored, Aside, Row, Grown, none, aside-none, aside-of, aside-more, row-kept, row-same, row-within, row-first, row-more, grown-first, grown-kept, grown-none, grown-more, grown-most}
+use Rattle.weighing.specs.Sums.{Sums, Summed, sums-first, sums-none, sums-more, sums-all, summed-kept, shortfall-is}
+use Rattle.table.specs.Rows.{Stored, Aside, Row, none, aside-none, aside-of, aside-more, row-kept, row-within, row-first, row-more}
 
 -- an entry as the rules have it
 abbrev pub entryAt : Facts → ℕ → ℕ → Entry
 entryAt F ev i =
-    record { listed = F .listed ev i; seller = F .seller i; lack = record { 0 = F .committed i - F .reduction ev i }; more = record { 0 = F .reduction ev i - F .committed i } }
+    record { listed = F .listed ev i; seller = F .seller i; lack = record { 0 = F .committed i - F .reduction ev i }; more = record { 0 = F .reduction ev i - F .committed i }; second = record { 0 = F .offPeak ev i } }
 
 -- the sums of an event's entries, and nothing allotted yet
 pub record Weighed (F : Facts) (ev : ℕ) (w : List ℕ) : Type 0 where
   pub long : length w ≡ size
-  pub lack : Row w lackRow 16 (λ s. ofSeller F s (owed.lack F ev))
-  pub more : Row w moreRow 16 (λ s. ofSeller F s (owed.more F ev))
+  pub sums : Summed F (F .listed ev) (F .reduction ev) lackRow moreRow w
   pub freshLack : Row w (lackRow + 32) 48 none
   pub freshMore : Row w (moreRow + 32) 48 none
 
@@ -36,8 +35,7 @@ pub record Weighing (F : Facts) (ev i : ℕ) (w₀ w : List ℕ) : Type 0 where
   pub upto : i ≤ 64
   pub columns : Columns F 64 w
   pub aside : Aside lackRow abreastPlaces w₀ w
-  pub lack : Grown w lackRow 16 none (F .seller) (owed.lack F ev) i
-  pub more : Grown w moreRow 16 none (F .seller) (owed.more F ev) i
+  pub sums : Sums F (F .listed ev) (F .reduction ev) lackRow moreRow i w
   pub freshLack : Row w (lackRow + 32) 48 none
   pub freshMore : Row w (moreRow + 32) 48 none
 
@@ -47,8 +45,7 @@ weighing-first {F} ev h r =
       upto = omega arith;
       columns = h;
       aside = aside-none;
-      lack = grown-first (F .seller) (owed.lack F ev) (row-within lackRow 16 r (omega arith) (omega arith));
-      more = grown-first (F .seller) (owed.more F ev) (row-within moreRow 16 r (omega arith) (omega arith));
+      sums = sums-first F (F .listed ev) (F .reduction ev) lackRow moreRow (row-within lackRow 16 r (omega arith) (omega arith)) (row-within moreRow 16 r (omega arith) (omega arith));
       freshLack = row-within (lackRow + 32) 48 r (omega arith) (omega arith);
       freshMore = row-within (moreRow + 32) 48 r (omega arith) (omega arith);
     }
@@ -60,19 +57,10 @@ module _ {F : Facts} {ev i : ℕ} {w₀ w : List ℕ} (h : Weighing F ev i w₀ 
         upto = omega arith;
         columns = h .columns;
         aside = h .aside;
-        lack = grown-none (h .lack) (rw z);
-        more = grown-none (h .more) (rw z);
+        sums = sums-none (h .sums) z;
         freshLack = h .freshLack;
         freshMore = h .freshMore;
       }
-
-  -- room for one more
-  module _ (L : Limits F) (s : ℕ) (q : s < 16) where
-    pub lack-room : at w (lackRow + s) ≤ 6400000
-    lack-room = grown-most (h .lack) 0 100000 (h .upto) (λ j a. omega arith) (λ j a. lack-le L ev j) s q
-
-    pub more-room : at w (moreRow + s) ≤ 6400000
-    more-room = grown-most (h .more) 0 100000 (h .upto) (λ j a. omega arith) (λ j a. more-le L ev j) s q
 
   -- a listed entry
   pub weighing-more : {m y : List ℕ} → i < 64 → F .listed ev i ≡ true → F .seller i < 16 → let x = entryAt F ev i in
@@ -83,22 +71,13 @@ module _ {F : Facts} {ev i : ℕ} {w₀ w : List ℕ} (h : Weighing F ev i w₀ 
         upto = omega arith;
         columns = columns-aside (columns-aside (h .columns) (aside-of s1) (omega arith) (omega arith)) (aside-of s2) (omega arith) (omega arith);
         aside = aside-more (aside-more (h .aside) s1 (omega arith) (omega arith)) s2 (omega arith) (omega arith);
-        lack = grown-kept (grown-more (h .lack) s1 l refl (rw on)) s2 (λ p q. omega arith);
-        more = grown-more (grown-kept (h .more) s1 (λ p q. omega arith)) s2 l refl (rw on);
+        sums = sums-more (h .sums) (lit≤ tt) on l s1 s2;
         freshLack = row-kept (row-kept (h .freshLack) s1 (λ p q. omega arith)) s2 (λ p q. omega arith);
         freshMore = row-kept (row-kept (h .freshMore) s1 (λ p q. omega arith)) s2 (λ p q. omega arith);
       }
 
   pub weighing-all : i ≡ 64 → Weighed F ev w
-  unfolding ofSeller
-  weighing-all q =
-      record {
-        long = h .columns .long;
-        lack = row-same (rw q at (h .lack .row)) (λ j m. omega arith);
-        more = row-same (rw q at (h .more .row)) (λ j m. omega arith);
-        freshLack = h .freshLack;
-        freshMore = h .freshMore;
-      }
+  weighing-all q = record { long = h .columns .long; sums = sums-all (h .sums) q; freshLack = h .freshLack; freshMore = h .freshMore }
 
 -- the shortfalls and excesses of the first s sellers
 pub record Netted (F : Facts) (ev s : ℕ) (w : List ℕ) : Type 0 where
@@ -112,21 +91,9 @@ netted-first {F} {ev} {w} h =
     record { upto = omega arith; weighed = h; shortfall = row-first w (lackRow + 16) (owed.shortfall F ev); excess = row-first w (moreRow + 16) (owed.excess F ev) }
 
 module _ {F : Facts} {ev s : ℕ} {w : List ℕ} (h : Netted F ev s w) where
-  -- the sums are a seller's
-  module _ (L : Limits F) (l : s < 16) where
-    pub lack-most : at w (lackRow + s) ≤ 6400000
-    lack-most = rw (h .weighed .lack .is s l) (ofSeller-le F s 100000 (lack-le L ev))
-
-    pub more-most : at w (moreRow + s) ≤ 6400000
-    more-most = rw (h .weighed .more .is s l) (ofSeller-le F s 100000 (more-le L ev))
-
   module _ {lack more : ℕ} (l : s < 16) (p : lack ≡ at w (lackRow + s)) (q : more ≡ at w (moreRow + s)) where
-    shortfall-is : unforced F (lack - more) - F .deficit ev s ≡ owed.shortfall F ev s
-    unfolding shortfallOver
-    shortfall-is = rw (p, q, h .weighed .lack .is s l, h .weighed .more .is s l, ← (net-is F s ev))
-
     excess-of : more - lack ≡ owed.excess F ev s
-    excess-of = rw (p, q, h .weighed .lack .is s l, h .weighed .more .is s l) (sym (excess-is F s ev))
+    excess-of = let sums = h .weighed .sums in rw (p, q, sums .lack .is s l, sums .more .is s l) (sym (excess-is F s ev))
 
     pub netted-more : {a b : ℕ} {m v : List ℕ} → a ≡ unforced F (lack - more) - F .deficit ev s → b ≡ more - lack
         → Stored (lackRow + 16 + s) a w m → Stored (moreRow + 16 + s) b m v → Netted F ev (s + 1) v
@@ -135,25 +102,24 @@ module _ {F : Facts} {ev s : ℕ} {w : List ℕ} (h : Netted F ev s w) where
           upto = omega arith;
           weighed = record {
             long = s2 .long ∙ s1 .long ∙ h .weighed .long;
-            lack = row-kept (row-kept (h .weighed .lack) s1 (λ x y. omega arith)) s2 (λ x y. omega arith);
-            more = row-kept (row-kept (h .weighed .more) s1 (λ x y. omega arith)) s2 (λ x y. omega arith);
+            sums = summed-kept (summed-kept (h .weighed .sums) s1 (λ x y. omega arith) (λ x y. omega arith)) s2 (λ x y. omega arith) (λ x y. omega arith);
             freshLack = row-kept (row-kept (h .weighed .freshLack) s1 (λ x y. omega arith)) s2 (λ x y. omega arith);
             freshMore = row-kept (row-kept (h .weighed .freshMore) s1 (λ x y. omega arith)) s2 (λ x y. omega arith);
           };
-          shortfall = row-kept (row-more (h .shortfall) s1 (f ∙ shortfall-is)) s2 (λ x y. omega arith);
+          shortfall = row-kept (row-more (h .shortfall) s1 (f ∙ shortfall-is (h .weighed .sums) s l (F .deficit ev) p q)) s2 (λ x y. omega arith);
           excess = row-more (row-kept (h .excess) s1 (λ x y. omega arith)) s2 (g ∙ excess-of);
         }
 
--- both allotments may begin; u, e and the marks of the entries are still 0
+-- both allotments may begin; all that comes behind them is still 0
 pub record Ready (F : Facts) (ev : ℕ) (w : List ℕ) : Type 0 where
   pub lack : Abreast F (F .listed ev) (owed.lack F ev) (owed.shortfall F ev) lackRow 0 w
   pub more : Abreast F (F .listed ev) (owed.more F ev) (owed.excess F ev) moreRow 0 w
-  pub fresh : Row w uRow 192 none
+  pub fresh : Row w uRow laterPlaces none
 
-pub netted-all : {F : Facts} {ev : ℕ} {w : List ℕ} → Netted F ev 16 w → Row w uRow 192 none → Ready F ev w
+pub netted-all : {F : Facts} {ev : ℕ} {w : List ℕ} → Netted F ev 16 w → Row w uRow laterPlaces none → Ready F ev w
 netted-all h z =
     record {
-      lack = abreast-first (h .weighed .lack) (h .shortfall) (h .weighed .freshLack);
-      more = abreast-first (h .weighed .more) (h .excess) (h .weighed .freshMore);
+      lack = abreast-first (h .weighed .sums .lack) (h .shortfall) (h .weighed .freshLack);
+      more = abreast-first (h .weighed .sums .more) (h .excess) (h .weighed .freshMore);
       fresh = z;
     }

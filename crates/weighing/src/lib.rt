@@ -11,12 +11,13 @@ use cells::Cells;
 use table::Work;
 use units::Nominated;
 
-// An entry of an event: whether it is listed, its seller, what it lacks and what it gives more.
+// An entry of an event: whether it is listed, its seller, what it lacks and what it gives more, and its second reduction.
 pub struct Entry {
     pub listed: bool,
     pub seller: usize,
     pub lack: Nominated,
     pub more: Nominated,
+    pub second: Nominated,
 }
 
 // One look at an entry, held against what its registration committed.
@@ -28,6 +29,7 @@ pub fn entry_at(year: &Cells, work: &Work, ev: usize, i: usize) -> Entry
 {
     let x = looks::look(year, ev, i);
     let reduction = x.reduction;
+    let second = x.second;
     let committed = Nominated::new(table::get(work, table::COMMITTED, i));
     let lack = committed.less(reduction);
     let more = reduction.less(committed);
@@ -36,6 +38,7 @@ pub fn entry_at(year: &Cells, work: &Work, ev: usize, i: usize) -> Entry
         seller: table::get(work, table::SELLER, i) as usize,
         lack: lack,
         more: more,
+        second: second,
     }
 }
 

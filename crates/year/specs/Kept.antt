@@ -26,7 +26,7 @@ false-true e t = absurd (let z : _≡_ {A = ℕ} 0 1 = cc in omega arith)
 
 pub sound-no-listing : SoundListing noListing
 sound-no-listing =
-    record { listed = length-replicate 64 false; reductions = each-replicate (AtMost 100000) 0 64 (lit≤ tt); deficits = each-replicate (AtMost 1000000) 0 16 (lit≤ tt); unlisted = λ i l e. getD-replicate 64 i 0 0 l }
+    record { listed = length-replicate 64 false; reductions = each-replicate (AtMost 100000) 0 64 (lit≤ tt); second = each-replicate (AtMost 100000) 0 64 (lit≤ tt); deficits = each-replicate (AtMost 1000000) 0 16 (lit≤ tt); unlisted = λ i l e. getD-replicate 64 i 0 0 l }
 
 sound-no-event : SoundEvent noEvent
 sound-no-event = record { month = lit≤ tt; listing = sound-no-listing }

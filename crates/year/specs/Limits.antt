@@ -13,7 +13,7 @@ use Rattle.ids.specs.Each.{Each}
 use Rattle.year.specs.declared.Listing.{Listing}
 use Rattle.year.specs.declared.Terms.{Terms}
 use Rattle.year.specs.declared.Year.{Year}
-use Rattle.year.specs.Year.{registration, clearingsOf, retestOf, known, seller, area, zone, product, committed, fieldRate, size, lses, reduction}
+use Rattle.year.specs.Year.{registration, clearingsOf, retestOf, known, seller, area, zone, product, committed, fieldRate, size, lses, reduction, second}
 use Rattle.year.specs.Sound.{SoundRegistration, SoundClearings, AtMost, SoundListing, SoundRetest, SoundTerms, Sound}
 use Rattle.year.specs.Kept.{sound-no-registration, sound-no-clearings}
 
@@ -82,3 +82,7 @@ module _ {l : Listing} (s : SoundListing l) where
   pub reduction-most : (i : ℕ) → reduction l i ≤ 100000
   unfolding reduction
   reduction-most = each-anywhere (AtMost 100000) (lit≤ tt) (s .reductions)
+
+  pub second-most : (i : ℕ) → second l i ≤ 100000
+  unfolding second
+  second-most = each-anywhere (AtMost 100000) (lit≤ tt) (s .second)

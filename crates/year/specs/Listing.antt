@@ -1,11 +1,18 @@
--- A listing with one item more: an entry is kept at its registration, a deficit at its seller.
+-- A listing with one item more: an entry is kept at its registration, its second reduction too, a deficit at its seller. And one without second reductions.
 use Prim.Native.Nat.{ℕ}
 use mathlib.Core.Bool.{true}
-use lib.ListN.{set}
+use lib.ListN.{set, replicate}
 use Rattle.year.specs.declared.Listing.{Listing}
 
 abbrev pub withEntry : Listing → ℕ → ℕ → Listing
-withEntry l i kw = record { listed = set (l .listed) i true; reductions = set (l .reductions) i kw; deficits = l .deficits }
+withEntry l i kw = record { listed = set (l .listed) i true; reductions = set (l .reductions) i kw; second = l .second; deficits = l .deficits }
+
+abbrev pub withSecond : Listing → ℕ → ℕ → Listing
+withSecond l i kw = record { listed = l .listed; reductions = l .reductions; second = set (l .second) i kw; deficits = l .deficits }
 
 abbrev pub withDeficit : Listing → ℕ → ℕ → Listing
-withDeficit l s kw = record { listed = l .listed; reductions = l .reductions; deficits = set (l .deficits) s kw }
+withDeficit l s kw = record { listed = l .listed; reductions = l .reductions; second = l .second; deficits = set (l .deficits) s kw }
+
+-- what a test keeps: an entry's first reduction alone
+abbrev pub single : Listing → Listing
+single l = record { listed = l .listed; reductions = l .reductions; second = replicate 64 0; deficits = l .deficits }

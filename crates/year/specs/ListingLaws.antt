@@ -1,16 +1,23 @@
--- An entry or a deficit within its limits keeps a listing sound.
+-- An entry, a second reduction or a deficit within its limits keeps a listing sound, and so it is without second reductions.
 use Prim.Native.Nat.{ℕ, _≤_, _<_}
-use mathlib.Core.Path.{_≡_, sym, _∙_}
+use mathlib.Core.Path.{_≡_, refl, sym, _∙_}
 use mathlib.Core.Bool.{true, false}
 use native.Mathlib.Omega.{arith}
 use native.Mathlib.Decide.{ℕ-discrete}
+use lib.Dec.{lit≤}
 use lib.ListN.{length-set}
 use lib.Seq.{getD-set-same, getD-set-other}
 use Rattle.ids.specs.Ids.{at, holds}
-use Rattle.ids.specs.Each.{each-set}
+use Rattle.ids.specs.Each.{each-set, each-replicate}
 use Rattle.year.specs.declared.Listing.{Listing}
+use Rattle.year.specs.Year.{listed}
 use Rattle.year.specs.Sound.{AtMost, SoundListing}
-use Rattle.year.specs.Listing.{withEntry, withDeficit}
+use Rattle.year.specs.Listing.{withEntry, withSecond, withDeficit, single}
+
+-- without second reductions the same registrations are listed
+pub single-listed : (l : Listing) (i : ℕ) → listed (single l) i ≡ listed l i
+unfolding listed
+single-listed l i = refl
 
 module _ {l : Listing} (s : SoundListing l) where
   -- where nothing is listed there is no reduction
@@ -25,8 +32,16 @@ module _ {l : Listing} (s : SoundListing l) where
 
   pub sound-entry : (e kw : ℕ) → kw ≤ 100000 → SoundListing (withEntry l e kw)
   sound-entry e kw h =
-      record { listed = length-set (l .listed) e true ∙ s .listed; reductions = each-set (AtMost 100000) 0 (s .reductions) e h; deficits = s .deficits; unlisted = unlisted e kw }
+      record { listed = length-set (l .listed) e true ∙ s .listed; reductions = each-set (AtMost 100000) 0 (s .reductions) e h; second = s .second; deficits = s .deficits; unlisted = unlisted e kw }
+
+  pub sound-second : (e kw : ℕ) → kw ≤ 100000 → SoundListing (withSecond l e kw)
+  sound-second e kw h =
+      record { listed = s .listed; reductions = s .reductions; second = each-set (AtMost 100000) 0 (s .second) e h; deficits = s .deficits; unlisted = s .unlisted }
 
   pub sound-deficit : (d kw : ℕ) → kw ≤ 1000000 → SoundListing (withDeficit l d kw)
   sound-deficit d kw h =
-      record { listed = s .listed; reductions = s .reductions; deficits = each-set (AtMost 1000000) 0 (s .deficits) d h; unlisted = s .unlisted }
+      record { listed = s .listed; reductions = s .reductions; second = s .second; deficits = each-set (AtMost 1000000) 0 (s .deficits) d h; unlisted = s .unlisted }
+
+  pub sound-single : SoundListing (single l)
+  sound-single =
+      record { listed = s .listed; reductions = s .reductions; second = each-replicate (AtMost 100000) 0 64 (lit≤ tt); deficits = s .deficits; unlisted = s .unlisted }

@@ -39,6 +39,7 @@ AtMost most x = x ≤ most
 pub record SoundListing (l : Listing) : Type 0 where
   pub listed : length (l .listed) ≡ 64
   pub reductions : Each (AtMost 100000) 0 64 (l .reductions)
+  pub second : Each (AtMost 100000) 0 64 (l .second)
   pub deficits : Each (AtMost 1000000) 0 16 (l .deficits)
   pub unlisted : (i : ℕ) → i < 64 → holds (l .listed) i ≡ false → at (l .reductions) i ≡ 0
 

@@ -22,10 +22,10 @@ abbrev pub noClearings : Clearings
 noClearings = record { count = 0; value = 0; kw = 0 }
 
 abbrev pub noListing : Listing
-noListing = record { listed = replicate 64 false; reductions = replicate 64 0; deficits = replicate 16 0 }
+noListing = record { listed = replicate 64 false; reductions = replicate 64 0; second = replicate 64 0; deficits = replicate 16 0 }
 
 abbrev pub noEvent : Event
-noEvent = record { area = 0; month = 0; period = 0; listing = noListing }
+noEvent = record { area = 0; month = 0; period = 0; apart = false; listing = noListing }
 
 abbrev pub noTest : Test
 noTest = record { taken = false; month = 0; listing = noListing }
@@ -47,10 +47,10 @@ newYear =
 
 -- what the code reads past an array's end: every number 0, every test false, every list empty
 abbrev pub pastListing : Listing
-pastListing = record { listed = []; reductions = []; deficits = [] }
+pastListing = record { listed = []; reductions = []; second = []; deficits = [] }
 
 abbrev pub pastEvent : Event
-pastEvent = record { area = 0; month = 0; period = 0; listing = pastListing }
+pastEvent = record { area = 0; month = 0; period = 0; apart = false; listing = pastListing }
 
 abbrev pub pastTest : Test
 pastTest = record { taken = false; month = 0; listing = pastListing }
@@ -67,12 +67,15 @@ clearingsOf y i = getD (y .clearings) i noClearings
 abbrev pub retestOf : Year → ℕ → Retest
 retestOf y i = getD (y .retests) i noRetest
 
--- is registration i listed, and with which reduction; the deficit of seller s, 0 where it is absent
+-- is registration i listed, with which reduction, and with which second one, 0 where it has none; the deficit of seller s, 0 where it is absent
 unfoldable pub listed : Listing → ℕ → Bool
 listed l i = holds (l .listed) i
 
 unfoldable pub reduction : Listing → ℕ → ℕ
 reduction l i = at (l .reductions) i
+
+unfoldable pub second : Listing → ℕ → ℕ
+second l i = at (l .second) i
 
 unfoldable pub deficit : Listing → ℕ → ℕ
 deficit l s = at (l .deficits) s

@@ -19,17 +19,21 @@ pub struct Clearings {
     pub kw: u64,
 }
 
-// What an event or a test lists: entries by registration, deficits by seller (0: absent).
+// What an event or a test lists: entries by registration, the second reduction of those that have two (0: of one); deficits by
+// seller (0: absent).
 pub struct Listing {
     pub listed: [bool; 64],
     pub reductions: [u32; 64],
+    pub second: [u32; 64],
     pub deficits: [u32; 16],
 }
 
+// `apart`: on-peak and off-peak are measured apart, by the first reductions and by the second.
 pub struct Event {
     pub area: u64,
     pub month: u64,
     pub period: u64,
+    pub apart: bool,
     pub listing: Listing,
 }
 

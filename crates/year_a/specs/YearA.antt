@@ -18,9 +18,9 @@ use Rattle.bits.specs.Pack.{bitsOf, spell, byteOf, bytesOf, pack, encode}
 use Rattle.layouts.specs.Layout.{itemsIn, rulesTo, rulesFor}
 use Rattle.layouts.specs.Questions.{recordQuestions, firstFailed, kindOf, headOf, rulesOf, numbersOf, isKind, isWhole, permits, permitted, isFilled, rises, idsRise, recordNumber, consumed, rulesBy}
 use Rattle.records.specs.Calls.{bytesBy}
-use Rattle.year.specs.Year.{newYear, listed, reduction, deficit, known, seller, area, zone, product, committed, fieldRate, obligation}
+use Rattle.year.specs.Year.{newYear, listed, reduction, second, deficit, known, seller, area, zone, product, committed, fieldRate, obligation}
 use Rattle.owed.specs.Facts.{Facts}
-use Rattle.owed.specs.Owed.{beforeCap, raised, unforced, own, ofArea, areaRate, rate, ofSeller, shareOf, called, calls, shortfallOver, u, cap, daily, spent, charge, excess, e, creditShare, creditLimit, creditOf, result, B, testOf, compliance, test, credit, charges, credits, lse, amounts}
+use Rattle.owed.specs.Owed.{beforeCap, raised, unforced, own, ofArea, areaRate, rate, ofSeller, shareOf, called, calls, shortfallOver, u, measured, offU, asked, cap, daily, spent, charge, excess, e, creditShare, creditLimit, creditOf, result, B, testOf, compliance, test, credit, charges, credits, lse, amounts}
 use Rattle.owed.specs.Retests.{belowQuarter, entryOf, failed, testedKw, failedKw, hadRetest}
 use Rattle.statement.specs.Statement.{difference, hasRegistration, hasObligation, sellerColumns, lineFields, linesTo, statementFields, statementOf}
 use Rattle.statement.specs.Value42.{value42}
@@ -107,7 +107,7 @@ withEvents = parties ++ ((0x61 ∷ 0x62 ∷ 0x63 ∷ 0x64 ∷ []) ++ (juneEvent 
 
 -- what the bill program prints of a file. What computes it is named here, once for all figures.
 bill : List ℕ → List ℕ
-unfolding sumTo anyTo allTo tabulate convert days due callable testable share bitAt number bitsOf spell byteOf bytesOf pack encode itemsIn times rulesTo rulesFor recordQuestions firstFailed kindOf headOf rulesOf numbersOf isKind isWhole permits permitted isFilled rises idsRise listed reduction deficit known seller area zone product committed fieldRate obligation beforeCap raised unforced own ofArea areaRate rate ofSeller shareOf called calls shortfallOver u cap daily spent charge excess e creditShare creditLimit creditOf result belowQuarter entryOf failed testedKw failedKw hadRetest B testOf compliance test credit charges credits lse amounts difference hasRegistration hasObligation sellerColumns lineFields linesTo statementFields statementOf value42 namedHead withItem withItems listingTo listingIn inArea inGroup everyListed deficitsListed listsExactly monthBegun q6 q7 q8 q9 q10 q17 q11 q20 q21 q12 q13 q14 q15 q16 questions postNumber yearBy bufferWith yearAfter bufferAfter digitsTo decimal cents refusalLine linesFrom monthLine partyLine statementLines answerLines bytes recordNumber consumed recordsTo isAccepted isClosing buffered step run answered gather lastOr sumOver summed termsIn clearingsIn eventsIn testsIn retestsIn recorded callsOf answerText textOf
+unfolding sumTo anyTo allTo tabulate convert days due callable testable share bitAt number bitsOf spell byteOf bytesOf pack encode itemsIn times rulesTo rulesFor recordQuestions firstFailed kindOf headOf rulesOf numbersOf isKind isWhole permits permitted isFilled rises idsRise listed reduction second deficit known seller area zone product committed fieldRate obligation beforeCap raised unforced own ofArea areaRate rate ofSeller shareOf called calls shortfallOver u cap measured offU asked daily spent charge excess e creditShare creditLimit creditOf result belowQuarter entryOf failed testedKw failedKw hadRetest B testOf compliance test credit charges credits lse amounts difference hasRegistration hasObligation sellerColumns lineFields linesTo statementFields statementOf value42 namedHead withItem withItems listingTo listingIn inArea inGroup everyListed deficitsListed listsExactly monthBegun q6 q7 q8 q9 q10 q17 q11 q20 q21 q12 q13 q14 q15 q16 questions postNumber yearBy bufferWith yearAfter bufferAfter digitsTo decimal cents refusalLine linesFrom monthLine partyLine statementLines answerLines bytes recordNumber consumed recordsTo isAccepted isClosing buffered step run answered gather lastOr sumOver summed termsIn clearingsIn eventsIn testsIn retestsIn recorded callsOf answerText textOf
 bill file = billText file blank
 
 -- what the rules read of the records that are accepted of a file
@@ -215,6 +215,22 @@ retest-figures : bill (withThird ++ (testOfThree ++ (0x61 ∷ julyRetest ++ (jul
     ≡ bytes "M 1\nS 0 0 147600 0\nS 1 0 0 0\nL 0 110700\nL 1 36900\nN 10 20\nM 2\nS 0 0 -72936 0\nS 1 0 0 0\nL 0 -54702\nL 1 -18234\n"
 unfolding bill
 retest-figures = refl
+
+-- Registration 2, Annual, of seller 0 and in the area of both, commits 2,000 kW at 15,000. A June event with two reductions (C-17) lists 0 with 600 and 1,500, 1 with 2,100 and 0, 2 with 2,000 and 1,000; seller 0 has a
+-- deficit of 100. First 400 kW convert to 410, less 100 is 310: × 10,000 / 2 is 1,550,000 a day, at close 5 237,150 to date and at close 13 565,750. Off-peak 1,000 kW of registration 2 convert to 1,026, less 100
+-- is 926: × 15,000 / 52 is 267,115 a day, at close 13 97,496. Seller 1 is credited 300,000 a day, 45,900 and 109,500; LSE 0 has three quarters of 191,250, then of 553,746.
+abbrev withApart : List ℕ
+withApart =
+    parties
+    ++ ((0x20 ∷ 0x80 ∷ 0x98 ∷ 0x0F ∷ 0xA0 ∷ 0x3A ∷ 0x98 ∷ [])
+    ++ (0x82 ∷ 0x21 ∷ 0x06 ∷ 0x00 ∷ 0x00 ∷ 0xC8 ∷ 0x00 ∷ 0x09 ∷ 0x60 ∷ 0x0B ∷ 0xB8 ∷ 0x08 ∷ 0x20 ∷ 0xD0 ∷ 0x00 ∷ 0x00 ∷ 0x10 ∷ 0x1F ∷ 0x40 ∷ 0x07 ∷ 0xD0 ∷ []))
+
+apart-figures : (numbers (answers newYear (callsIn withApart blank)) ≡ 0 ∷ 0 ∷ 0 ∷ 0 ∷ 0 ∷ 0 ∷ 0 ∷ [])
+    × (compliance (owedBy withApart) 5 0 ≡ 237150) × (compliance (owedBy withApart) 13 0 ≡ 663246)
+    × (credit (owedBy withApart) 5 1 ≡ 45900) × (credit (owedBy withApart) 13 1 ≡ 109500)
+    × (lse (owedBy withApart) 5 0 ≡ 143437) × (lse (owedBy withApart) 13 0 ≡ 415309) × (lse (owedBy withApart) 13 1 ≡ 138437)
+unfolding bill
+apart-figures = (refl, refl, refl, refl, refl, refl, refl, refl)
 
 -- Year A's close, after the six records before it: it is accepted, so demand 3's claims at a close are made of it; and what they say there.
 abbrev earlier : List Call

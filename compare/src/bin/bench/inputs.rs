@@ -10,8 +10,9 @@ pub struct Inputs {
 }
 
 impl Inputs {
-    pub fn new() -> Self {
-        let years = (1..=4).map(|seed| full_year(&mut Random::new(seed)));
+    /// Of 100 events so many measure both periods apart.
+    pub fn new(percent_apart: usize) -> Self {
+        let years = (1..=4).map(|seed| full_year(&mut Random::new(seed), percent_apart));
         Inputs {
             years: years.collect(),
         }
@@ -49,7 +50,7 @@ impl Inputs {
 fn in_june(numbers: &[u64]) -> Numbers {
     let mut numbers = numbers.to_vec();
     match numbers[0] {
-        4 => numbers[2] = 1,
+        4 | 8 => numbers[2] = 1,
         5 => numbers[3] = 1,
         _ => {}
     }
@@ -58,14 +59,18 @@ fn in_june(numbers: &[u64]) -> Numbers {
 
 /// A record of each kind, as its numbers.
 pub fn records() -> Vec<(&'static str, Numbers)> {
+    let deficits = |count: u64| (0..count).flat_map(|seller| [seller, 1_000 + seller]);
     let entries = |count: u64| (0..count).flat_map(|id| [id, 50_000 + id]);
-    let lists = |head: [u64; 4], deficits: u64, count: u64| {
+    let lists = |head: [u64; 4], short: u64, count: u64| {
         let mut numbers = head.to_vec();
-        numbers.extend([deficits, count]);
-        numbers.extend((0..deficits).flat_map(|seller| [seller, 1_000 + seller]));
+        numbers.extend([short, count]);
+        numbers.extend(deficits(short));
         numbers.extend(entries(count));
         numbers
     };
+    let mut apart = vec![8, 1, 1, 16, 64];
+    apart.extend(deficits(16));
+    apart.extend((0..64).flat_map(|id| [id, 50_000 + id, 60_000 + id]));
     let mut retest = vec![9, 1, 1, 0, 1, 64];
     retest.extend(entries(64));
     vec![
@@ -77,6 +82,7 @@ pub fn records() -> Vec<(&'static str, Numbers)> {
         ("a test of 64 entries", lists([5, 1, 0, 1], 16, 64)),
         ("a close", vec![6, 15]),
         ("a clearing", vec![7, 63, 12_345, 99_999]),
+        ("an event of 64 entries of two reductions", apart),
         ("a retest of 64 entries", retest),
     ]
 }

@@ -29,6 +29,7 @@ const EVENTS: (u64, usize) = (4, 16);
 const TESTS: (u64, usize) = (5, 24);
 const CLOSES: (u64, usize) = (6, 15);
 const CLEARINGS: (u64, usize) = (7, 256);
+const EVENTS_APART: (u64, usize) = (8, 16);
 
 /// What the times of Rattle are to be at most, as a multiple of Rust's.
 const READ_OR_WRITE: &str = "1.0";
@@ -64,11 +65,12 @@ fn rust_and_rattle() -> io::Result<()> {
     let records = records();
     print(&read(&records));
     print(&write(&records));
-    let inputs = Inputs::new();
+    let inputs = Inputs::new(0);
     let sides = [settlement::bill, piermint::bill];
     print(&take_records(sides, &inputs));
     print(&close_months(sides, &inputs));
     print(&bill_years(sides, &inputs));
+    print(&measure_apart(sides, &Inputs::new(100)));
     for flood in FLOODS {
         print(&[row(flood.name(), NO_GOAL, flood.race()?)]);
     }
@@ -80,7 +82,7 @@ fn rust_and_rattle() -> io::Result<()> {
 fn before_and_now() {
     println!("| | before | now | ratio |");
     println!("|---|---|---|---|");
-    let inputs = Inputs::new();
+    let inputs = Inputs::new(0);
     let sides = [before::bill, piermint::bill];
     close_months(sides, &inputs).iter().for_each(Row::print);
     bill_years(sides, &inputs).iter().for_each(Row::print);
@@ -136,6 +138,25 @@ fn bill_years(sides: [Bill; 2], inputs: &Inputs) -> [Row; 2] {
     [
         row("a full year, 136 records", YEAR, year),
         row("a full year with 256 clearings", NO_GOAL, cleared),
+    ]
+}
+
+/// Taking events that measure both periods apart, and closing with them.
+fn measure_apart(sides: [Bill; 2], inputs: &Inputs) -> [Row; 2] {
+    let parties = [OPENING, REGISTRATIONS, LSES];
+    let events = [&parties[..], &[EVENTS_APART]].concat();
+    let closes = [&events[..], &[CLOSES]].concat();
+    let sets = [&parties[..], &events, &closes].map(|kinds| inputs.files(kinds));
+    let [parties, events, closes] = bill(sides, sets);
+    let event = events.less(parties).per(EVENTS_APART.1);
+    let close = closes.less(events).per(CLOSES.1);
+    [
+        row(
+            "taking an event of 64 entries of two reductions",
+            NO_GOAL,
+            event,
+        ),
+        row("closing with 16 of these", NO_GOAL, close),
     ]
 }
 

@@ -18,6 +18,9 @@ const NUMBERS: usize = 22;
 /// The kinds that four bits give, also those that are no record's.
 const KINDS: usize = 16;
 
+/// The kind of events that measure both periods apart.
+const APART: usize = 8;
+
 /// How many times each number was given.
 #[derive(Clone, Copy, Default)]
 struct Seen([u64; NUMBERS]);
@@ -154,7 +157,7 @@ fn is_late_event(book: &settlement::Book, bytes: &[u8]) -> bool {
     let mut numbers = [0; MOST_NUMBERS];
     settlement::read(bytes, &mut numbers);
     let z = book.year().map_or(0, |year| year.closed);
-    matches!(numbers, [4, _, month, ..] if comes_late(narrow(month), z))
+    matches!(numbers, [4 | 8, _, month, ..] if comes_late(narrow(month), z))
 }
 
 /// Takes the record at the front with a book of each; one that is refused leaves the cells as they were.
@@ -209,10 +212,15 @@ impl Display for Both {
         let [files, bills, records] = [self.files, self.bills, self.records()];
         let [reads, writes, samples] =
             [self.reads, self.writes, self.samples].map(|seen| seen.all());
-        let [late, accepted] = [self.late_events.all(), self.late_events.accepted()];
         let made = self.made;
         writeln!(f, "{files} files of {records} records, ample buffers")?;
-        writeln!(f, "{late} events came late, {accepted} of them accepted")?;
+        for (events, what) in [
+            (self.late_events, "came late"),
+            (self.by_kind[APART], "had two reductions an entry"),
+        ] {
+            let [all, accepted] = [events.all(), events.accepted()];
+            writeln!(f, "{all} events {what}, {accepted} of them accepted")?;
+        }
         writeln!(f, "{bills} bills with other buffers")?;
         writeln!(f, "{reads} reads, {writes} writes")?;
         writeln!(f, "{samples} samples, {made} records made from samples\n")?;

@@ -1,7 +1,8 @@
 //! Samples of telemetry, and the entries made from them.
 
 use settlement::cases::random::Random;
-use settlement::cases::samples::{reductions, sample_of, samples};
+use settlement::cases::record::{entries_mut, layout};
+use settlement::cases::samples::{sample_of, samples};
 use settlement::layout::MOST_NUMBERS;
 
 use crate::both::{Both, Compared};
@@ -24,12 +25,12 @@ pub fn compare_made(both: &mut Both, file: &[u8], seed: u64) -> Compared {
         let Some(mut numbers) = both.read(record, MOST_NUMBERS)? else {
             continue;
         };
-        let places: Vec<usize> = reductions(&numbers).collect();
-        for at in &places {
-            let kw = &mut numbers[*at];
-            *kw = both.sample(sample_of(&mut random, *kw))?.kw;
+        for entry in entries_mut(&mut numbers) {
+            for kw in &mut entry[1..] {
+                *kw = both.sample(sample_of(&mut random, *kw))?.kw;
+            }
         }
-        if !places.is_empty() {
+        if layout(&numbers).head.has_entries() {
             both.write_made(&numbers, record)?;
         }
     }

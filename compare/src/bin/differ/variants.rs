@@ -2,9 +2,9 @@
 
 use settlement::cases::damage::all_counts;
 use settlement::cases::random::Random;
-use settlement::layout::{Layout, MOST_NUMBERS};
-use settlement::statement::MOST_BYTES;
-use settlement::{take_each, MOST_STATEMENTS};
+use settlement::cases::record::layout;
+use settlement::layout::{MOST_BYTES, MOST_NUMBERS};
+use settlement::{statement, take_each, MOST_STATEMENTS};
 
 use crate::both::{Both, Compared};
 
@@ -18,7 +18,7 @@ pub fn compare_file(both: &mut Both, file: &[u8]) -> Compared {
     for numbers in [0, 1, records / 2, records.saturating_sub(1), records] {
         both.bill(file, numbers, MOST_STATEMENTS)?;
     }
-    let one = MOST_BYTES;
+    let one = statement::MOST_BYTES;
     for statements in [0, 1, one - 1, one, one + 1, 2 * one - 1, 2 * one, 3 * one] {
         both.bill(file, records + 1, statements)?;
     }
@@ -73,7 +73,8 @@ fn flipped(bytes: &[u8], bit: usize) -> Vec<u8> {
 /// changed, also with each bit flipped and each number replaced.
 fn compare_record(both: &mut Both, bytes: &[u8], length: usize, changed: bool) -> Compared {
     let record = &bytes[..length];
-    for room in [0, MOST_NUMBERS - 1, MOST_NUMBERS + 1] {
+    // Before C-17 reading asked for 166.
+    for room in [0, 165, 166, MOST_NUMBERS - 1, MOST_NUMBERS + 1] {
         both.read(bytes, room)?;
     }
     for end in 0..=length {
@@ -95,7 +96,7 @@ fn compare_record(both: &mut Both, bytes: &[u8], length: usize, changed: bool) -
 
 /// Writes the numbers into buffers about as long, and with a number more or fewer.
 fn compare_writes(both: &mut Both, numbers: &[u64], length: usize) -> Compared {
-    for room in [0, length - 1, length, length + 1, 300] {
+    for room in [0, length - 1, length, length + 1, MOST_BYTES] {
         both.write(numbers, room)?;
     }
     both.write(&[numbers, &[0]].concat(), length + 1)?;
@@ -113,16 +114,15 @@ fn compare_changed_writes(both: &mut Both, numbers: &[u64], length: usize) -> Co
         both.write(&numbers[..at], length)?;
     }
     for numbers in all_counts(numbers) {
-        both.write(&numbers, 500)?;
+        both.write(&numbers, MOST_BYTES)?;
     }
     Ok(())
 }
 
-/// Numbers to put at this place: the edges of its field, its neighbours, the id before it in a
-/// list, and numbers that no field holds.
-fn others(numbers: &[u64], at: usize) -> [u64; 9] {
-    let layout = Layout::of(numbers).expect("a record that was read");
-    let field = layout.field(at);
+/// Numbers to put at this place: the edges of its field, its neighbours, the id before it in a list,
+/// which stands two places before or three, and numbers that no field holds.
+fn others(numbers: &[u64], at: usize) -> [u64; 10] {
+    let field = layout(numbers).field(at);
     let number = numbers[at];
     [
         field.low.wrapping_sub(1),
@@ -132,6 +132,7 @@ fn others(numbers: &[u64], at: usize) -> [u64; 9] {
         number.wrapping_sub(1),
         number + 1,
         numbers[at.saturating_sub(2)],
+        numbers[at.saturating_sub(3)],
         number + (1 << 32),
         u64::MAX,
     ]

@@ -52,7 +52,7 @@ unfolding Suits
 call-requires c κs =
     let start = c .before .before .before .before .before .before in
     let t = rw (c .before .before .head4 .given .1) at (start .pre .1 .1 .0) in
-    (start .pre .0, (t .0, (t .1 .month, (start .pre .1 .0, t .1 .listing))))
+    (start .pre .0, (t .0, (start .pre .1 .0, t .1)))
 
 mul-test : tie.Need-mul-test
 unfolding Suits

@@ -9,8 +9,8 @@ use Rattle.cells.proofs.new_year.Tie as tie
 
 returns : tie.Need-returns
 returns c =
-    let e = new-year (replicate 3767 0) (λ k. getD-replicate-same 3767 k 0) in
-    (e, record { long = length-replicate {A = ℕ} 3767 0; sound = rw e sound-new })
+    let e = new-year (replicate 4807 0) (λ k. getD-replicate-same 4807 k 0) in
+    (e, record { long = length-replicate {A = ℕ} 4807 0; sound = rw e sound-new })
 
 pub new-year-spec : {M : Type 1} → statement M
 new-year-spec = tie.close (tie.spec returns)

@@ -1,18 +1,18 @@
--- The window stays within the input buffer, and a report's room free in the output buffer.
+-- The window stays within the input buffer, and a line's room free in the output buffer.
 use mathlib.Core.Path.{_≡_}
 use Prim.Native.Nat.{_+_, _-_, _^_, _≤_}
 use native.Mathlib.Omega.{arith}
 use lib.ListN.{length, take, drop, length-drop}
 use lib.Seq.{length-take-le}
 use borrow.Author.Needs.{needs}
-use Rattle.report.specs.Text.{room}
+use Rattle.line.specs.Line.{lineRoom}
 use Rattle.layouts.specs.QuestionLaws.{consumed-within}
 use Rattle.dump.proofs.dump.Statement.{statement}
 use Rattle.dump.proofs.dump.Tie as tie
 
 abbrev Inv-loop : tie.InvT-loop
 Inv-loop input buffer₀ out₀ window₀ at₀ position₀ buffer out window at position =
-    (length buffer ≡ length buffer₀) × (length out ≡ length out₀) × (window .start ≤ window .end) × (window .end ≤ length buffer) × (at + room ≤ length out)
+    (length buffer ≡ length buffer₀) × (length out ≡ length out₀) × (window .start ≤ window .end) × (window .end ≤ length buffer) × (at + lineRoom ≤ length out)
 
 abbrev μ-loop : tie.MeasureT-loop
 μ-loop input buffer₀ out₀ window₀ at₀ position₀ buffer out window at position = 2 ^ 64 - position

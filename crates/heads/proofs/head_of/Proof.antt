@@ -35,20 +35,25 @@ returns-7 c = rw (c .before .before .before .if7 .taken)
 
 returns-8 : tie.Need-returns-8
 unfolding headOf
-returns-8 c = rw (c .before .before .before .before .if8 .taken)
+returns-8 c = rw (c .before .before .if8 .taken)
 
 returns-9 : tie.Need-returns-9
 unfolding headOf
-returns-9 c =
+returns-9 c = rw (c .before .before .before .before .if9 .taken)
+
+returns-10 : tie.Need-returns-10
+unfolding headOf
+returns-10 c =
     rw (
-      ne-eqb _ 1 (c .before .before .before .before .before .before .before .if1 .left),
-      ne-eqb _ 2 (c .before .before .before .before .before .before .if2 .left),
-      ne-eqb _ 3 (c .before .before .before .before .before .if3 .left),
-      ne-eqb _ 4 (c .before .before .before .before .if4 .left),
-      ne-eqb _ 5 (c .before .before .before .if5 .left),
-      ne-eqb _ 6 (c .before .before .if6 .left),
-      ne-eqb _ 7 (c .before .if7 .left),
-      ne-eqb _ 9 (c .if8 .left),
+      ne-eqb _ 1 (c .before .before .before .before .before .before .before .before .if1 .left),
+      ne-eqb _ 2 (c .before .before .before .before .before .before .before .if2 .left),
+      ne-eqb _ 3 (c .before .before .before .before .before .before .if3 .left),
+      ne-eqb _ 4 (c .before .before .before .before .before .if4 .left),
+      ne-eqb _ 5 (c .before .before .before .before .if5 .left),
+      ne-eqb _ 6 (c .before .before .before .if6 .left),
+      ne-eqb _ 7 (c .before .before .if7 .left),
+      ne-eqb _ 8 (c .before .if8 .left),
+      ne-eqb _ 9 (c .if9 .left),
     )
 
 pub head-of-spec : {M : Type 1} → statement M
@@ -87,7 +92,10 @@ head-of-spec =
     returns-7
     (λ c. search needs)
     (λ c. search needs)
-    (λ c. search needs)
-    (λ c. search needs)
     returns-8
-    returns-9)
+    (λ c. search needs)
+    (λ c. search needs)
+    (λ c. search needs)
+    (λ c. search needs)
+    returns-9
+    returns-10)

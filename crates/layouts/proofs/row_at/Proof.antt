@@ -8,17 +8,19 @@ use Rattle.layouts.proofs.row_at.Statement.{statement}
 use Rattle.layouts.proofs.row_at.Tie as tie
 
 -- the last part
-returns-15 : tie.Need-returns-15
+returns-17 : tie.Need-returns-17
 unfolding join startOf kinds parts fieldsIn
-returns-15 c =
-    let last : c .before .before .args .part ≡ 14 = omega (arith, none-below 14 (c .before .before .args .part) (c .before .match .rest), c .before .before .pre) in
-    rw last (c .row15 .ensures)
+returns-17 c =
+    let last : c .before .before .args .part ≡ 16 = omega (arith, none-below 16 (c .before .before .args .part) (c .before .match .rest), c .before .before .pre) in
+    rw last (c .row17 .ensures)
 
 pub row-at-spec : {M : Type 1} → statement M
 unfolding join startOf kinds parts fieldsIn
 row-at-spec =
     tie.close
     (tie.spec
+    (λ c κs. search needs)
+    (λ c κs. search needs)
     (λ c κs. search needs)
     (λ c κs. search needs)
     (λ c κs. search needs)
@@ -48,4 +50,6 @@ row-at-spec =
     (λ c. rw (c .before .match .keys12) (c .row12 .ensures))
     (λ c. rw (c .before .match .keys13) (c .row13 .ensures))
     (λ c. rw (c .before .match .keys14) (c .row14 .ensures))
-    returns-15)
+    (λ c. rw (c .before .match .keys15) (c .row15 .ensures))
+    (λ c. rw (c .before .match .keys16) (c .row16 .ensures))
+    returns-17)

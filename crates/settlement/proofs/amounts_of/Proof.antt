@@ -65,7 +65,7 @@ abbrev runSlot : Slot 1
 runSlot = ArrayOf (plain (λ _. T.the-row)) (λ _. tt) 64
 
 abbrev yearSlot : Slot 1
-yearSlot = shrRefTo (0 ∷ []) tt (ArrayOf (plain (λ _. u64)) (λ _. tt) 3767)
+yearSlot = shrRefTo (0 ∷ []) tt (ArrayOf (plain (λ _. u64)) (λ _. tt) 4807)
 
 abbrev stayed : Stays (f.ended .signature .params) (f.ended .kept)
 stayed = (stay-dropped runSlot yes, (stay-dropped yearSlot yes, (stay-dropped (plain (λ _. u64)) yes, tt)))
@@ -75,7 +75,7 @@ vals = LL.vals T.the-type T′.the-laws
 
 -- the year's cells, and the run by value
 abbrev Y : RattleType
-Y = Array u64 3767
+Y = Array u64 4807
 
 abbrev R : RattleType
 R = Array T.the-row 64

@@ -83,7 +83,7 @@ abbrev slot : Slot 2
 slot = shrSliceOf (0 ∷ []) tt (plain (λ _. T.the-row))
 
 abbrev yearSlot : Slot 2
-yearSlot = shrRefTo (1 ∷ []) tt (ArrayOf (plain (λ _. u64)) (λ _. tt) 3767)
+yearSlot = shrRefTo (1 ∷ []) tt (ArrayOf (plain (λ _. u64)) (λ _. tt) 4807)
 
 abbrev stayed : Stays (f.ended .signature .params) (f.ended .kept)
 stayed = (stay-dropped slot yes, (stay-dropped yearSlot yes, (stay-dropped (plain (λ _. u64)) yes, tt)))
@@ -100,7 +100,7 @@ wv w = only (array-vals (uint-vals w64) w)
 
 -- the year's cells, and the table
 abbrev Y : RattleType
-Y = Array u64 3767
+Y = Array u64 4807
 
 abbrev R : RattleType
 R = Array u64 size
@@ -205,7 +205,7 @@ module _ {M : Type 1} (𝓤 : URA M) (H : Heap 𝓤) (A : Atoms 𝓤) (W : Given
       slice = sliceTy (tyRef (named 0) imm (pointee (T.the-row .written)))
 
       abbrev yref : Ty
-      yref = tyRef (named 1) imm (tyArray word 3767)
+      yref = tyRef (named 1) imm (tyArray word 4807)
 
       abbrev mref : Ty
       mref = tyRef erased mut arr

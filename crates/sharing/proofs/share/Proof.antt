@@ -40,7 +40,7 @@ loop-again c =
     let v = c .before .before .before .before .loop .inv in
     let e = c .before .entry-at .ensures in
     ⊎-elim
-    (λ a. rw (a .11) (sharing-more v (limits (c .before .before .before .before .before .pre .0 .sound)) (omega arith) (listed (c .before) (a .0 .taken)) (rw e at (a .2 .ensures)) (rw e at (a .4 .ensures)) (a .6 .ensures) (a .8 .ensures) (a .10 .ensures)))
+    (λ a. rw (a .13) (sharing-more v (limits (c .before .before .before .before .before .pre .0 .sound)) (omega arith) (listed (c .before) (a .0 .taken)) (rw e at (a .2 .ensures)) (rw e at (a .4 .ensures)) (a .6 .ensures) (a .8 .ensures) (a .10 .ensures) (rw e at (a .12 .ensures))))
     (λ a. rw (a .1) (sharing-none v (omega arith) (sym (ap (λ (x : Entry). x .listed) e) ∙ a .0 .left)))
     (c .if1 .came)
 
@@ -60,6 +60,7 @@ share-spec =
     (λ c κs. omega (arith, c .before .share2 .ensures .long, c .before .before .before .share .ensures .long, c .before .before .before .before .before .before .before .before .before .loop .inv .columns .long))
     (λ c κs. omega (arith, c .before .put .ensures .long, c .before .before .before .share2 .ensures .long, c .before .before .before .before .before .share .ensures .long, c .before .before .before .before .before .before .before .before .before .before .before .loop .inv .columns .long))
     (λ c κs. omega (arith, c .before .put2 .ensures .long, c .before .before .before .put .ensures .long, c .before .before .before .before .before .share2 .ensures .long, c .before .before .before .before .before .before .before .share .ensures .long, c .before .before .before .before .before .before .before .before .before .before .before .before .before .loop .inv .columns .long))
+    (λ c κs. omega (arith, c .before .put3 .ensures .long, c .before .before .before .put2 .ensures .long, c .before .before .before .before .before .put .ensures .long, c .before .before .before .before .before .before .before .share2 .ensures .long, c .before .before .before .before .before .before .before .before .before .share .ensures .long, c .before .before .before .before .before .before .before .before .before .before .before .before .before .before .before .loop .inv .columns .long))
     (λ c. omega arith)
     (λ c. omega arith)
     loop-again

@@ -6,7 +6,8 @@ use Rattle.looks.specs.Looks.{facts}
 use Rattle.owed_laws.specs.Limits.{limits}
 use Rattle.table.specs.Places.{lackRow, abreastPlaces}
 use Rattle.table.specs.Rows.{Aside, aside-none, aside-more}
-use Rattle.weighing.specs.Weighing.{Netted, netted-first, netted-more, lack-most, more-most}
+use Rattle.weighing.specs.Weighing.{Netted, netted-first, netted-more}
+use Rattle.weighing.specs.Sums.{lack-most, more-most}
 use Rattle.weighing.proofs.nets.Statement.{statement}
 use Rattle.weighing.proofs.nets.Tie as tie
 
@@ -17,10 +18,10 @@ abbrev μ-loop : tie.MeasureT-loop
 μ-loop year work₀ ev s₀ work s = 16 - s
 
 lack-le : (c : tie.After-get Inv-loop μ-loop) → c .get .result ≤ 6400000
-lack-le c = rw (c .get .ensures) (lack-most (c .before .before .before .loop .inv .0) (limits (c .before .before .before .before .pre .0 .sound)) (omega arith))
+lack-le c = rw (c .get .ensures) (lack-most (c .before .before .before .loop .inv .0 .weighed .sums) _ (omega arith) (limits (c .before .before .before .before .pre .0 .sound)))
 
 sum-requires-2 : tie.Need-sum-requires-2 Inv-loop μ-loop
-sum-requires-2 c κs = rw (c .get2 .ensures) (more-most (c .before .before .before .before .before .before .loop .inv .0) (limits (c .before .before .before .before .before .before .before .pre .0 .sound)) (omega arith))
+sum-requires-2 c κs = rw (c .get2 .ensures) (let L = limits (c .before .before .before .before .before .before .before .pre .0 .sound) in more-most (c .before .before .before .before .before .before .loop .inv .0 .weighed .sums) _ (omega arith) L (L .reduction (c .before .before .before .before .before .before .before .args .ev)))
 
 loop-again : tie.Need-loop-again Inv-loop μ-loop
 loop-again c =

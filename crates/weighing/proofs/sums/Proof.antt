@@ -7,7 +7,8 @@ use Rattle.looks.specs.Looks.{facts}
 use Rattle.owed_laws.specs.Limits.{limits}
 use Rattle.table.specs.Places.{moreRow}
 use Rattle.weighing.specs.declared.Entry.{Entry}
-use Rattle.weighing.specs.Weighing.{Weighing, weighing-first, weighing-none, weighing-more, weighing-all, lack-room, more-room}
+use Rattle.weighing.specs.Weighing.{Weighing, weighing-first, weighing-none, weighing-more, weighing-all}
+use Rattle.weighing.specs.Sums.{lack-room, more-room}
 use Rattle.weighing.proofs.sums.Statement.{statement}
 use Rattle.weighing.proofs.sums.Tie as tie
 
@@ -22,7 +23,7 @@ add-at-requires c κs =
     let l = c .before .before .before .before .before .loop in
     let L = limits (c .before .before .before .before .before .before .pre .0 .sound) in
     let b = L .seller (l .i) in
-    rw (c .before .before .entry-at .ensures) (omega (arith, b, l .inv .columns .long), omega (arith, L .committed (l .i), lack-room (l .inv) L _ b))
+    rw (c .before .before .entry-at .ensures) (omega (arith, b, l .inv .columns .long), omega (arith, L .committed (l .i), lack-room (l .inv .sums) L (l .inv .upto) _ b))
 
 add-at-requires-2 : tie.Need-add-at-requires-2 Inv-loop μ-loop
 add-at-requires-2 c κs =
@@ -33,7 +34,7 @@ add-at-requires-2 c κs =
     let e = c .before .before .before .before .entry-at .ensures in
     let d = rw e at (c .before .add-at .ensures) in
     let kept = d .others (moreRow + facts (s .args .year .now) .seller (l .i)) (λ z. omega (arith, b)) in
-    rw e (omega (arith, b, d .long, l .inv .columns .long), omega (arith, L .reduction (s .args .ev) (l .i), kept, more-room (l .inv) L _ b))
+    rw e (omega (arith, b, d .long, l .inv .columns .long), omega (arith, L .reduction (s .args .ev) (l .i), kept, more-room (l .inv .sums) L (l .inv .upto) _ b (L .reduction (s .args .ev))))
 
 loop-again : tie.Need-loop-again Inv-loop μ-loop
 loop-again c =

@@ -1,7 +1,7 @@
 -- `weighing::weigh` meets its contract: the event's rows are cleared, then filled. Assumes nothing.
 use native.Mathlib.Omega.{arith}
 use Rattle.table.specs.Columns.{columns-aside}
-use Rattle.table.specs.Places.{lackRow, uRow, abreastPlaces, eventPlaces}
+use Rattle.table.specs.Places.{lackRow, uRow, abreastPlaces, laterPlaces, eventPlaces}
 use Rattle.table.specs.Rows.{aside-then, row-aside, row-within}
 use Rattle.weighing.specs.Weighing.{netted-all}
 use Rattle.weighing.proofs.weigh.Statement.{statement}
@@ -24,7 +24,7 @@ returns c =
     let k = c .before .before .before .before .clear .ensures in
     let g = c .before .before .sums .ensures in
     let a = c .nets .ensures in
-    let z = row-within uRow 192 (k .0) (omega arith) (omega arith) in (
+    let z = row-within uRow laterPlaces (k .0) (omega arith) (omega arith) in (
       netted-all (a .0) (row-aside (row-aside z (g .1) (λ j l x y. omega arith)) (a .1) (λ j l x y. omega arith)),
       aside-then (aside-then {q = lackRow} {m = eventPlaces} (k .1) (g .1) (omega arith) (omega arith) (omega arith) (omega arith)) (a .1) (omega arith) (omega arith) (omega arith) (omega arith),
     )

@@ -1,0 +1,2 @@
+-- What is measured off-peak apart.
+pub mod OffPeak
