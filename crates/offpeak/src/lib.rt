@@ -73,11 +73,9 @@ fn nets(year: &Cells, work: &mut Work, ev: usize)
 {
     let mut s: usize = 0;
     while s < 16 {
-        let lack = Nominated::sum(table::get(work, table::OFF_LACK, s));
-        let more = Nominated::sum(table::get(work, table::OFF_MORE, s));
         let deficit = looks::deficit_of(year, ev, s);
-        let shortfall = looks::shortfall(year, lack, more, deficit);
-        table::put(work, table::OFF_LACK + abreast::AMOUNT, s, shortfall.0);
+        let net = weighing::net_of(year, work, table::OFF_LACK, s, deficit);
+        table::put(work, table::OFF_LACK + abreast::AMOUNT, s, net.shortfall.0);
         s += 1;
     }
 }

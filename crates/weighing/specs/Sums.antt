@@ -12,6 +12,14 @@ use Rattle.owed_laws.specs.Sellers.{ofSeller-le, net-is}
 use Rattle.owed_laws.specs.Bounds.{lack-le, more-le}
 use Rattle.table.specs.Rows.{Stored, Aside, Row, Grown, none, row-same, row-aside, row-kept, grown-first, grown-kept, grown-none, grown-more, grown-most}
 use Rattle.cells.specs.Rows.{Off}
+use Rattle.weighing.specs.declared.Net.{Net}
+
+-- a seller's sums in the rows from p on and from p + 80 on, and its shortfall from these, with its deficit
+abbrev pub netOf : Facts → List ℕ → ℕ → ℕ → ℕ → Net
+netOf F w p s deficit =
+    let lack = at w (p + s) in
+    let more = at w (p + 80 + s) in
+    record { lack = record { 0 = lack }; more = record { 0 = more }; shortfall = record { 0 = unforced F (lack - more) - deficit } }
 
 -- reductions v of those that are picked; what they lack in the row from p on, what they give more in the one from q on
 module _ (F : Facts) (picked : ℕ → Bool) (v : ℕ → ℕ) (p q : ℕ) where

@@ -1,15 +1,18 @@
 // Pass 2 over an event's entries: what each seller's entries lack and give more, and its shortfall and excess from these.
 ghost use mathlib.Core.Path.{_≡_};
-ghost use Prim.Native.Nat.{_<_};
+ghost use Prim.Native.Nat.{_+_, _≤_, _<_};
 ghost use Rattle.cells.specs.Layout.{Held};
 ghost use Rattle.looks.specs.Looks.{facts};
 ghost use Rattle.table.specs.Columns.{Columns};
-ghost use Rattle.table.specs.Places.{lackRow, abreastPlaces, eventPlaces};
+ghost use Rattle.ids.specs.Ids.{at};
+ghost use Rattle.table.specs.Places.{size, lackRow, abreastPlaces, eventPlaces};
 ghost use Rattle.table.specs.Rows.{Aside, Row, none};
+ghost use Rattle.weighing.specs.Sums.{netOf};
 ghost use Rattle.weighing.specs.Weighing.{entryAt, Weighed, Netted, Ready};
 use cells::Cells;
 use table::Work;
 use units::Nominated;
+use units::Unforced;
 
 // An entry of an event: whether it is listed, its seller, what it lacks and what it gives more, and its second reduction.
 pub struct Entry {
@@ -62,6 +65,30 @@ fn sums(year: &Cells, work: &mut Work, ev: usize)
     }
 }
 
+// What a seller's entries lack and give more in an event, and its shortfall from these.
+pub struct Net {
+    pub lack: Nominated,
+    pub more: Nominated,
+    pub shortfall: Unforced,
+}
+
+// A seller's, where the rows from p on have what entries lack and those from p + 80 on what they give more.
+pub fn net_of(year: &Cells, work: &Work, p: usize, s: usize, deficit: Unforced) -> Net
+    requires { ⌜ Held (now year) ⌝ }
+    requires { ⌜ (p + 96 ≤ size) × (s < 16) ⌝ }
+    requires { ⌜ (at (now work) (p + s) ≤ 6400000) × (at (now work) (p + 80 + s) ≤ 6400000) ⌝ }
+    ensures { λ r. ⌜ r ≡ netOf (facts (now (year .entry))) (now (work .entry)) p s (deficit .0) ⌝ }
+{
+    let lack = Nominated::sum(table::get(work, p, s));
+    let more = Nominated::sum(table::get(work, p + 80, s));
+    let shortfall = looks::shortfall(year, lack, more, deficit);
+    Net {
+        lack: lack,
+        more: more,
+        shortfall: shortfall,
+    }
+}
+
 // Each seller's net, and from it its shortfall and its excess.
 fn nets(year: &Cells, work: &mut Work, ev: usize)
     requires { ⌜ Held (now year) ⌝ }
@@ -72,12 +99,12 @@ fn nets(year: &Cells, work: &mut Work, ev: usize)
 {
     let mut s: usize = 0;
     while s < 16 {
-        let lack = Nominated::sum(table::get(work, table::LACK, s));
-        let more = Nominated::sum(table::get(work, table::MORE, s));
         let deficit = looks::deficit_of(year, ev, s);
-        let shortfall = looks::shortfall(year, lack, more, deficit);
+        let net = net_of(year, work, table::LACK, s, deficit);
+        let lack = net.lack;
+        let more = net.more;
         let excess = more.less(lack);
-        table::put(work, table::LACK + abreast::AMOUNT, s, shortfall.0);
+        table::put(work, table::LACK + abreast::AMOUNT, s, net.shortfall.0);
         table::put(work, table::MORE + abreast::AMOUNT, s, excess.0);
         s += 1;
     }

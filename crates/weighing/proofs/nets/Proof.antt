@@ -1,13 +1,15 @@
 -- `weighing::nets` meets its contract. The loop's invariant: the sellers before s are netted. Assumes nothing.
-use Prim.Native.Nat.{_-_, _≤_}
-use mathlib.Core.Path.{_≡_, _∙_}
+use Prim.Native.Nat.{_-_}
+use mathlib.Core.Path.{_≡_, refl, ap}
 use native.Mathlib.Omega.{arith}
+use lib.Dec.{lit≤}
 use Rattle.looks.specs.Looks.{facts}
 use Rattle.owed_laws.specs.Limits.{limits}
 use Rattle.table.specs.Places.{lackRow, abreastPlaces}
 use Rattle.table.specs.Rows.{Aside, aside-none, aside-more}
-use Rattle.weighing.specs.Weighing.{Netted, netted-first, netted-more}
+use Rattle.weighing.specs.declared.Net.{Net}
 use Rattle.weighing.specs.Sums.{lack-most, more-most}
+use Rattle.weighing.specs.Weighing.{Netted, netted-first, netted-more}
 use Rattle.weighing.proofs.nets.Statement.{statement}
 use Rattle.weighing.proofs.nets.Tie as tie
 
@@ -17,19 +19,21 @@ Inv-loop year work₀ ev s₀ work s = Netted (facts year) ev s work × Aside la
 abbrev μ-loop : tie.MeasureT-loop
 μ-loop year work₀ ev s₀ work s = 16 - s
 
-lack-le : (c : tie.After-get Inv-loop μ-loop) → c .get .result ≤ 6400000
-lack-le c = rw (c .get .ensures) (lack-most (c .before .before .before .loop .inv .0 .weighed .sums) _ (omega arith) (limits (c .before .before .before .before .pre .0 .sound)))
-
-sum-requires-2 : tie.Need-sum-requires-2 Inv-loop μ-loop
-sum-requires-2 c κs = rw (c .get2 .ensures) (let L = limits (c .before .before .before .before .before .before .before .pre .0 .sound) in more-most (c .before .before .before .before .before .before .loop .inv .0 .weighed .sums) _ (omega arith) L (L .reduction (c .before .before .before .before .before .before .before .args .ev)))
+net-of-requires : tie.Need-net-of-requires Inv-loop μ-loop
+net-of-requires c κs =
+    let s = c .before .before .before .before in
+    let L = limits (s .pre .0 .sound) in
+    let sums = c .before .before .before .loop .inv .0 .weighed .sums in
+    (s .pre .0, ((lit≤ tt, omega arith), (lack-most sums _ (omega arith) L, more-most sums _ (omega arith) L (L .reduction (s .args .ev)))))
 
 loop-again : tie.Need-loop-again Inv-loop μ-loop
 loop-again c =
-    let v = c .before .before .before .before .before .before .before .before .before .before .before .before .before .before .loop .inv in
+    let v = c .before .before .before .before .before .before .before .before .before .before .before .loop .inv in
+    let net = c .before .before .before .before .before .before .before .net-of .ensures in
+    let deficit = c .before .before .before .before .before .before .before .before .before .deficit-of .ensures in
     let p = c .before .before .put .ensures in
     let q = c .put2 .ensures in
-    let shortfall = rw (c .before .before .before .before .before .before .deficit-of .ensures) at (c .before .before .before .before .before .shortfall .ensures) in
-    (netted-more (v .0) (c .before .before .before .before .before .before .before .before .before .before .before .before .before .loop-test .taken) (c .before .before .before .before .before .before .before .before .before .before .sum .ensures ∙ c .before .before .before .before .before .before .before .before .before .before .before .get .ensures) (c .before .before .before .before .before .before .before .sum2 .ensures ∙ c .before .before .before .before .before .before .before .before .get2 .ensures) shortfall (c .before .before .before .before .less .ensures) p q, aside-more (aside-more (v .1) p (omega arith) (omega arith)) q (omega arith) (omega arith))
+    (netted-more (v .0) (c .before .before .before .before .before .before .before .before .before .before .loop-test .taken) refl refl (rw deficit at (ap (λ (x : Net). x .shortfall .0) net)) (rw net at (c .before .before .before .before .less .ensures)) p q, aside-more (aside-more (v .1) p (omega arith) (omega arith)) q (omega arith) (omega arith))
 
 returns : tie.Need-returns Inv-loop μ-loop
 returns c = let v = c .before .loop .inv in let z : c .before .loop .s ≡ 16 = omega (arith, v .0 .upto) in (rw z at (v .0), v .1)
@@ -41,17 +45,13 @@ nets-spec =
     Inv-loop
     μ-loop
     (λ c. (netted-first (c .pre .1 .1), aside-none))
-    (λ c κs. omega arith)
-    (λ c κs. lack-le c)
-    (λ c κs. omega arith)
-    sum-requires-2
-    (λ c κs. (c .before .before .before .before .before .before .before .before .pre .1 .0, omega arith))
-    (λ c κs. (c .before .before .before .before .before .before .before .before .before .pre .0, omega (arith, c .before .before .before .before .sum .ensures, lack-le (c .before .before .before .before .before))))
+    (λ c κs. (c .before .before .pre .1 .0, omega arith))
+    net-of-requires
     (λ c κs. tt)
     (λ c. omega arith)
-    (λ c κs. omega (arith, c .before .before .before .before .before .before .before .before .before .before .before .loop .inv .0 .weighed .long))
+    (λ c κs. omega (arith, c .before .before .before .before .before .before .before .before .loop .inv .0 .weighed .long))
     (λ c. omega arith)
-    (λ c κs. omega (arith, c .before .put .ensures .long, c .before .before .before .before .before .before .before .before .before .before .before .before .before .loop .inv .0 .weighed .long))
+    (λ c κs. omega (arith, c .before .put .ensures .long, c .before .before .before .before .before .before .before .before .before .before .loop .inv .0 .weighed .long))
     (λ c. omega arith)
     (λ c. omega arith)
     loop-again
