@@ -20,7 +20,7 @@ use Rattle.heads.specs.declared.Head.{Head}
 use Rattle.heads.specs.declared.Head.the-variants.{Opening, Registration, Lse, Event, Test, Close, Clearing, Retest}
 use Rattle.heads.specs.Record.{Record, recordOf}
 use Rattle.heads.specs.RecordLaws.{record-row}
-use Rattle.heads.specs.Listed.{sound-listed}
+use Rattle.spreading.specs.Listed.{sound-listed}
 use Rattle.heads.specs.Within.{Within}
 use Rattle.owed_laws.specs.Limits.{limits}
 use Rattle.owed_laws.specs.Totals.{sound-amounts}

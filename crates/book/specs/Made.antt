@@ -15,7 +15,7 @@ use Rattle.records.specs.Accepted.{Accepted, kind-number, numbers-few}
 use Rattle.records.specs.Accepted as records
 use Rattle.heads.specs.declared.Head.{Head}
 use Rattle.heads.specs.Record.{headOf}
-use Rattle.heads.specs.Listed.{Permitted}
+use Rattle.spreading.specs.Listed.{Permitted}
 use Rattle.heads.specs.Within.{Within}
 
 either : (P : Head → Type 0) (b : Bool) {x z : Head} → (b ≡ true → P x) → (b ≡ false → P z) → P (cond b x z)

@@ -42,7 +42,7 @@ pub fn post(year: &mut Cells, bytes: &[u8], buffer: &mut [u8]) -> Posted
     }
     let head = heads::head_of(&values);
     let mut listing = [0u64; 208];
-    heads::spread(&values, &mut listing);
+    spreading::spread(&values, &mut listing);
     let number = number_of(year, head, &listing, buffer.len());
     if number != 0 {
         return Posted {

@@ -1,5 +1,5 @@
 -- An event's charges entry by entry.
-use Prim.Native.Nat.{ℕ, _+_, _*_, _-_, _/_, _≤_, _<_, min, max}
+use Prim.Native.Nat.{ℕ, _+_, _*_, _/_, _≤_, _<_}
 use mathlib.Core.Path.{_≡_, refl, sym, _∙_}
 use mathlib.Core.Bool.{Bool, true, false, not, _||_, cond, true≢false}
 use mathlib.Core.List.{List}
@@ -20,18 +20,10 @@ use Rattle.owed_laws.specs.Cap.{spent-le}
 use Rattle.owed_laws.specs.Unlisted.{u-unlisted, off-unlisted, daily-none, charge-none}
 use Rattle.sharing.specs.Sharing.{Shares, shares-aside}
 use Rattle.table.specs.Columns.{Columns, columns-aside}
-use Rattle.table.specs.Places.{sellerRow, productRow, rateRow, capRow, callsRow, spentRow, complianceRow, lackRow, uRow, offURow, eRow}
+use Rattle.table.specs.Places.{callsRow, spentRow, complianceRow, lackRow, offURow}
 use Rattle.table.specs.Rows.{Stored, Aside, Row, Renewed, Grown, none, aside-none, aside-then, aside-more, row-aside, row-same, renewed-first, renewed-kept, renewed-next, renewed-more, renewed-none, grown-first, grown-kept, grown-none, grown-more, grown-most}
-use Rattle.charging.specs.declared.Line.{Line}
-
--- registration i in the table
-abbrev pub lineAt : List ℕ → ℕ → Line
-lineAt w i =
-    record { seller = at w (sellerRow + i); product = at w (productRow + i); calls = at w (callsRow + i); rate = at w (rateRow + i); cap = at w (capRow + i); spent = at w (spentRow + i); u = record { 0 = at w (uRow + i) }; off = record { 0 = at w (offURow + i) }; e = record { 0 = at w (eRow + i) } }
-
--- the lesser of what is asked, which is the higher of both, and the cap's rest
-abbrev pub dailyOf : Bool → Line → ℕ
-dailyOf peak l = min (max (l .u .0 * l .rate / cond peak (max (l .calls) 2) 52) (l .off .0 * l .rate / 52)) (l .cap - l .spent)
+use Rattle.pricing.specs.declared.Line.{Line}
+use Rattle.pricing.specs.Pricing.{lineAt, dailyOf}
 
 -- what an event's charges are made of: the terms, n, and the shares of its entries, off-peak too
 pub record Given (F : Facts) (ev : ℕ) (w : List ℕ) : Type 0 where

@@ -17,7 +17,7 @@ use Rattle.table.specs.Columns.{columns-aside}
 use Rattle.table.specs.Places.{size, callsRow, calledRow, complianceRow, creditRow, testRow, lseRow, passedPlaces}
 use Rattle.table.specs.Rows.{Aside, Row, none, mark, row-aside, row-within}
 use Rattle.rating.specs.Rating.{Rated}
-use Rattle.testing.specs.Entries.{Ready}
+use Rattle.tallying.specs.Entries.{Ready}
 use Rattle.lses.specs.Lses.{net, lses-are}
 
 -- sixteen numbers from p on

@@ -42,11 +42,11 @@ pub fn credit(year: &Cells, work: &mut Work, ev: usize, k: u64, charges: u64) ->
     let mut i: usize = 0;
     while i < 64 {
         if table::get(work, table::LISTED, i) != 0 {
-            let line = charging::line_at(work, i);
+            let line = pricing::line_at(work, i);
             let e = line.e;
             let share = allotment.share(e.0);
             let most = limit(e, line.rate, days);
-            let credit = charging::lesser(share.value, most);
+            let credit = pricing::lesser(share.value, most);
             table::add_at(work, table::CREDIT, line.seller, credit);
             allotment = share.next;
         }

@@ -3,5 +3,3 @@ pub mod Record
 pub mod Events
 pub mod Within
 pub mod RecordLaws
-pub mod Listed
-pub mod Spread

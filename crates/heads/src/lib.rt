@@ -1,12 +1,8 @@
-// A record with names: its head, a case for each kind, and what it lists, from its numbers.
+// A record's head with names, a case for each kind, from its numbers.
 ghost use mathlib.Core.Path.{_≡_};
 ghost use Prim.Native.Nat.{_≤_};
 ghost use lib.ListN.{length};
 ghost use Rattle.heads.specs.Record.{headOf};
-
-mod rows;
-
-pub use rows::spread;
 
 pub struct OpeningHead {
     pub leap: u64,

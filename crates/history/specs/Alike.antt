@@ -19,7 +19,7 @@ use Rattle.year.specs.Year.{seller, reduction, second}
 use Rattle.year.specs.Listing.{withEntry, withSecond}
 use Rattle.heads.specs.Record.{Record, withItem, recordOf}
 use Rattle.heads.specs.RecordLaws.{same-head, listing-keeps}
-use Rattle.heads.specs.Listed.{Permitted, item-as}
+use Rattle.spreading.specs.Listed.{Permitted, item-as}
 use Rattle.reductions.specs.Reductions.{withReductions}
 use Rattle.reductions.specs.Replaced.{kept-head, kept-field, kept-other, kept-id}
 use Rattle.history.specs.Runs.{isOwn}

@@ -8,7 +8,7 @@ use Rattle.layouts.specs.QuestionLaws.{numbers-kind, rules-by}
 use Rattle.records.specs.Accepted.{Accepted, not-failed}
 use Rattle.year.specs.declared.Year.{Year}
 use Rattle.heads.specs.Record.{Record}
-use Rattle.heads.specs.Listed.{Permitted}
+use Rattle.spreading.specs.Listed.{Permitted}
 use Rattle.recorded.specs.Recorded.{termsIn}
 use Rattle.book.specs.Outcome.{recordIn}
 use Rattle.history.specs.Runs.{Call, Varied, refused, accepted}

@@ -6,7 +6,6 @@ use mathlib.Core.List.{List}
 use native.Mathlib.Omega.{arith}
 use native.Mathlib.Nat.{mul-le-mul}
 use lib.Dec.{lit≤, eqb}
-use lib.ListN.{length}
 use Rattle.ids.specs.Ids.{at}
 use Rattle.ids.specs.Sums.{sum-zero}
 use Rattle.ids.specs.Tests.{and-parts, cond-le}
@@ -25,7 +24,7 @@ use Rattle.owed_laws.specs.Unlisted.{off-none}
 use Rattle.sharing.specs.Sharing.{secondOf, Shares, shares-aside}
 use Rattle.table.specs.Columns.{Columns, columns-aside}
 use Rattle.table.specs.Places.{offURow, offLackRow, offMoreRow, testRow, apartPlaces}
-use Rattle.table.specs.Rows.{Stored, Aside, Row, Renewed, none, mark, aside-none, aside-of, aside-more, aside-then, row-same, row-kept, row-aside, row-within, row-first, row-more, renewed-first, renewed-kept, renewed-aside, renewed-more, renewed-none}
+use Rattle.table.specs.Rows.{Stored, Aside, Row, Renewed, none, mark, aside-none, aside-of, aside-more, aside-then, row-same, row-kept, row-within, row-first, row-more, renewed-first, renewed-aside, renewed-more, renewed-none}
 use Rattle.weighing.specs.Sums.{Sums, Summed, sums-first, sums-none, sums-more, sums-all, summed-kept, shortfall-is}
 use Rattle.offpeak.specs.declared.Entry.{Entry}
 

@@ -19,12 +19,12 @@ module _ (F : Facts) where
   abbrev pub uDivisions : ℕ → ℕ → ℕ
   uDivisions ev = divisionsOf (F .listed ev) (lack F ev)
 
+  abbrev pub eDivisions : ℕ → ℕ → ℕ
+  eDivisions ev = divisionsOf (F .listed ev) (more F ev)
+
   -- and of the off-peak u of those that are measured apart
   abbrev pub offDivisions : ℕ → ℕ → ℕ
   offDivisions ev = divisionsOf (measured F ev) (offLack F ev)
-
-  abbrev pub eDivisions : ℕ → ℕ → ℕ
-  eDivisions ev = divisionsOf (F .listed ev) (more F ev)
 
   -- of event ev's credits: its entries are the parties
   unfoldable pub creditDivisions : ℕ → ℕ

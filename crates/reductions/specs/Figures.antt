@@ -1,5 +1,4 @@
 -- Figures of which numbers are reductions: of an event with a deficit and an entry of one reduction, and of one whose entry has two (C-17), each of which is replaced on its own.
-use Prim.Native.Nat.{ℕ}
 use mathlib.Core.Bool.{true}
 use mathlib.Core.List.{[], _∷_}
 use mathlib.Core.Path.{_≡_, refl}

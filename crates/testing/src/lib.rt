@@ -1,6 +1,4 @@
-// What the tests of a year charge each seller: two passes over their entries, which are one table by registration.
-mod sums;
-
+// What the tests of a year charge each seller, from the sums of their entries that stand.
 ghost use mathlib.Core.Path.{_≡_};
 ghost use Prim.Native.Nat.{_*_, _/_, _≤_, _<_};
 ghost use Rattle.ids.specs.Ids.{anyTo};
@@ -9,12 +7,12 @@ ghost use Rattle.owed.specs.Owed.{testShortfall, B, raised, test};
 ghost use Rattle.looks.specs.Looks.{facts};
 ghost use Rattle.table.specs.Places.{testRow};
 ghost use Rattle.table.specs.Rows.{Aside, Row, none};
-ghost use Rattle.testing.specs.Entries.{takenAt, Ready};
-ghost use Rattle.testing.specs.Sums.{Summed};
+ghost use Rattle.tallying.specs.Entries.{takenAt, Ready};
+ghost use Rattle.tallying.specs.Sums.{Summed};
 use cells::Cells;
-use sums::Sums;
-use sums::sum_up;
 use table::Work;
+use tallying::Sums;
+use tallying::sum_up;
 use units::Nominated;
 use units::Unforced;
 
@@ -50,11 +48,11 @@ fn charge_of(year: &Cells, sums: &Sums, place: usize, s: usize, days: u64) -> u6
     ensures { λ r. ⌜ r ≡ testShortfall (facts (now (year .entry))) place s * raised (B (facts (now (year .entry))) place s) * days / 1000 ⌝ }
 {
     let key = 16 * place + s;
-    let committed = Nominated::sum(sums[sums::COMMITTED + key]);
-    let reduction = Nominated::sum(sums[sums::REDUCTION + key]);
+    let committed = Nominated::sum(sums[tallying::COMMITTED + key]);
+    let reduction = Nominated::sum(sums[tallying::REDUCTION + key]);
     let deficit = deficit_of(year, place, s);
     let shortfall = looks::shortfall(year, committed, reduction, deficit);
-    let rate = rate_of(sums[sums::WORTH + key], committed);
+    let rate = rate_of(sums[tallying::WORTH + key], committed);
     shortfall.0 * rate * days / 1000
 }
 

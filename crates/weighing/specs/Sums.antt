@@ -10,7 +10,7 @@ use Rattle.owed.specs.Owed.{ofSeller, unforced, lackOver, moreOver, shortfallOv
 use Rattle.owed_laws.specs.Limits.{Limits}
 use Rattle.owed_laws.specs.Sellers.{ofSeller-le, net-is}
 use Rattle.owed_laws.specs.Bounds.{lack-le, more-le}
-use Rattle.table.specs.Rows.{Stored, Aside, Row, Grown, none, row-same, row-aside, row-kept, grown-first, grown-kept, grown-none, grown-more, grown-most}
+use Rattle.table.specs.Rows.{Stored, Row, Grown, none, row-same, row-kept, grown-first, grown-kept, grown-none, grown-more, grown-most}
 use Rattle.cells.specs.Rows.{Off}
 use Rattle.weighing.specs.declared.Net.{Net}
 

@@ -11,7 +11,7 @@ use Rattle.year.specs.Sound.{SoundListing}
 use Rattle.cells.specs.Layout.{listingAt, yearIn}
 use Rattle.heads.specs.Record.{Record}
 use Rattle.heads.specs.RecordLaws.{record-row}
-use Rattle.heads.specs.Listed.{sound-listed}
+use Rattle.spreading.specs.Listed.{sound-listed}
 use Rattle.heads.specs.Within.{Within}
 use Rattle.questions.specs.Questions.{monthBegun, questions}
 use Rattle.questions.specs.Admitted.{admitted}
@@ -26,7 +26,7 @@ use Rattle.book.proofs.post.Statement.{statement}
 use Rattle.book.proofs.post.Tie as tie
 use Rattle.accepting.proofs.take.Reads as take-reads
 use Rattle.heads.proofs.head_of.Reads as head-of-reads
-use Rattle.heads.proofs.spread.Reads as spread-reads
+use Rattle.spreading.proofs.spread.Reads as spread-reads
 use Rattle.verdict.proofs.number_of.Reads as number-of-reads
 use Rattle.records.proofs.parse.Reads as parse-reads
 

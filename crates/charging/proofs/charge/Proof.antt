@@ -1,6 +1,6 @@
 -- `charging::charge` meets its contract. The loop's invariant: the entries before i are charged. Assumes nothing.
 use Prim.Native.Nat.{_+_, _-_, _≤_}
-use mathlib.Core.Path.{_≡_, ap, sym, _∙_}
+use mathlib.Core.Path.{_≡_, ap, _∙_}
 use mathlib.Core.Logic.{⊎-elim}
 use native.Mathlib.Omega.{arith}
 use Rattle.looks.specs.Looks.{facts}
@@ -10,7 +10,8 @@ use Rattle.owed_laws.specs.Limits.{limits}
 use Rattle.owed_laws.specs.Bounds.{D-le, u-le, off-u-le, daily-le, charge-le}
 use Rattle.table.specs.Places.{complianceRow}
 use Rattle.table.specs.Rows.{renewed-next}
-use Rattle.charging.specs.Charging.{Charging, dailyOf, lineOf, line-is, charging-first, charging-none, charging-more, charging-all, spent-most, compliance-most, sum-most, daily-is, charge-is, any-some, none-some}
+use Rattle.pricing.specs.Pricing.{dailyOf}
+use Rattle.charging.specs.Charging.{Charging, lineOf, line-is, charging-first, charging-none, charging-more, charging-all, spent-most, compliance-most, sum-most, daily-is, charge-is, any-some, none-some}
 use Rattle.charging.proofs.charge.Statement.{statement}
 use Rattle.charging.proofs.charge.Tie as tie
 

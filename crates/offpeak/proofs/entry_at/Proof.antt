@@ -1,5 +1,5 @@
 -- `offpeak::entry_at` meets its contract: what the table has of an entry. Assumes nothing.
-use Prim.Native.Nat.{_-_, _≤_}
+use Prim.Native.Nat.{_-_}
 use mathlib.Core.Path.{_≡_, _∙_}
 use native.Mathlib.Omega.{arith}
 use Rattle.looks.specs.Looks.{facts}

@@ -1,7 +1,6 @@
 -- `offpeak::measure` meets its contract: sums, shortfalls and shares one after the other, or nothing where nothing is measured apart. Assumes nothing.
 use mathlib.Core.Path.{sym, _∙_}
 use native.Mathlib.Omega.{arith}
-use lib.Dec.{lit≤}
 use Rattle.looks.specs.Looks.{facts}
 use Rattle.table.specs.Places.{offURow, offLackRow, apartPlaces}
 use Rattle.table.specs.Rows.{aside-none, aside-then, row-aside, row-within}

@@ -9,7 +9,7 @@ use Rattle.owed.specs.Owed as owed
 use Rattle.owed_laws.specs.Limits.{limits}
 use Rattle.owed_laws.specs.Bounds.{shortfall-le, raised-le}
 use Rattle.looks.specs.Looks.{facts}
-use Rattle.testing.specs.Sums.{committed-most, reduction-most, worth-most, shortfall-is, base-is}
+use Rattle.tallying.specs.Sums.{committed-most, reduction-most, worth-most, shortfall-is, base-is}
 use Rattle.testing.proofs.charge_of.Statement.{statement}
 use Rattle.testing.proofs.charge_of.Tie as tie
 

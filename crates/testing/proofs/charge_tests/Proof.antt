@@ -8,8 +8,8 @@ use Rattle.owed.specs.Owed.{test}
 use Rattle.looks.specs.Looks.{facts}
 use Rattle.table.specs.Places.{size, testRow}
 use Rattle.table.specs.Rows.{Aside, aside-none, aside-more, Row, row-same, row-first, row-more}
-use Rattle.testing.specs.Entries.{unless, none-taken}
-use Rattle.testing.specs.Sums.{Summed}
+use Rattle.tallying.specs.Entries.{unless, none-taken}
+use Rattle.tallying.specs.Sums.{Summed}
 use Rattle.testing.proofs.charge_tests.Statement.{statement}
 use Rattle.testing.proofs.charge_tests.Tie as tie
 

@@ -10,7 +10,7 @@ use Rattle.owed_laws.specs.Limits.{limits}
 use Rattle.owed_laws.specs.Bounds.{D-le, test-le}
 use Rattle.owed_laws.specs.Totals.{test-most}
 use Rattle.looks.specs.Looks.{facts}
-use Rattle.testing.specs.Entries.{untaken}
+use Rattle.tallying.specs.Entries.{untaken}
 use Rattle.testing.proofs.test_of.Statement.{statement}
 use Rattle.testing.proofs.test_of.Tie as tie
 

@@ -1,0 +1,2 @@
+-- What one listed registration is charged.
+pub mod Pricing
