@@ -16,9 +16,10 @@ fn bill(input: i32, buffer: &mut [u8], out: &mut [u8]) -> bool
     let mut statement = [0u8; report::STATEMENT];
     let mut year = book::new_book();
     let mut course = Course { position: 1, at: 0 };
+    let least = file::window();
     let mut window = stream::input::new_window();
     while course.position < u64::MAX {
-        window = stream::input::filled(input, buffer, window, records::LONGEST);
+        window = stream::input::filled(input, buffer, window, least);
         if window.failed {
             return false;
         }

@@ -13,11 +13,12 @@ fn dump(input: i32, buffer: &mut [u8], out: &mut [u8]) -> bool
     requires { ⌜ longestRecord ≤ length (now buffer) ⌝ }
     requires { ⌜ lineRoom ≤ length (now out) ⌝ }
 {
+    let least = file::window();
     let mut window = stream::input::new_window();
     let mut at: usize = 0;
     let mut position: u64 = 1;
     while position < u64::MAX {
-        window = stream::input::filled(input, buffer, window, records::LONGEST);
+        window = stream::input::filled(input, buffer, window, least);
         if window.failed {
             return false;
         }

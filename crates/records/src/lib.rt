@@ -28,9 +28,6 @@ use layouts::shapes::shape_of;
 use layouts::shapes::size_of;
 use layouts::widths_of_parts;
 
-// The bytes of the longest record, by its counts as written.
-pub const LONGEST: usize = 731;
-
 // The bytes of the longest record that is permitted, and so written.
 pub const PERMITTED: usize = 371;
 

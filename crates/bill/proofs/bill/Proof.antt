@@ -12,12 +12,12 @@ use Rattle.bill.proofs.bill.Statement.{statement}
 use Rattle.bill.proofs.bill.Tie as tie
 
 abbrev Inv-loop : tie.InvT-loop
-Inv-loop input buffer₀ out₀ statement₀ year₀ course₀ window₀ buffer out statement year course window =
+Inv-loop input buffer₀ out₀ statement₀ year₀ course₀ least window₀ buffer out statement year course window =
     ((length buffer ≡ length buffer₀) × (length out ≡ length out₀) × (length statement ≡ 684))
     × (Held year × (window .start ≤ window .end) × (window .end ≤ length buffer) × (course .at + room ≤ length out))
 
 abbrev μ-loop : tie.MeasureT-loop
-μ-loop input buffer₀ out₀ statement₀ year₀ course₀ window₀ buffer out statement year course window = 2 ^ 64 - course .position
+μ-loop input buffer₀ out₀ statement₀ year₀ course₀ least window₀ buffer out statement year course window = 2 ^ 64 - course .position
 
 -- the turn of a step: what was filled, the loop's head, and the function's start
 abbrev full : tie.After-step Inv-loop μ-loop → tie.After-filled Inv-loop μ-loop
@@ -27,7 +27,7 @@ abbrev turn : tie.After-step Inv-loop μ-loop → tie.At-loop Inv-loop μ-loop
 turn s = full s .before .before .before .before
 
 abbrev start : tie.After-step Inv-loop μ-loop → tie.Start Inv-loop μ-loop
-start s = turn s .before .before .before .before .before
+start s = turn s .before .before .before .before .before .before
 
 -- after a step the lengths are kept, and it consumed what was at hand
 record Stepped (s : tie.After-step Inv-loop μ-loop) : Type 0 where
@@ -93,6 +93,7 @@ bill-spec =
     (tie.spec
     Inv-loop
     μ-loop
+    (λ c κs. tt)
     (λ c κs. tt)
     (λ c κs. tt)
     (λ c. search needs)

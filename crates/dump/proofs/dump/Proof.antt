@@ -11,11 +11,11 @@ use Rattle.dump.proofs.dump.Statement.{statement}
 use Rattle.dump.proofs.dump.Tie as tie
 
 abbrev Inv-loop : tie.InvT-loop
-Inv-loop input buffer₀ out₀ window₀ at₀ position₀ buffer out window at position =
+Inv-loop input buffer₀ out₀ least window₀ at₀ position₀ buffer out window at position =
     (length buffer ≡ length buffer₀) × (length out ≡ length out₀) × (window .start ≤ window .end) × (window .end ≤ length buffer) × (at + lineRoom ≤ length out)
 
 abbrev μ-loop : tie.MeasureT-loop
-μ-loop input buffer₀ out₀ window₀ at₀ position₀ buffer out window at position = 2 ^ 64 - position
+μ-loop input buffer₀ out₀ least window₀ at₀ position₀ buffer out window at position = 2 ^ 64 - position
 
 -- what is consumed lies within the bytes that were lent
 used-within : (s : tie.After-print Inv-loop μ-loop) → (let w = s .before .before .before .before .before .before .before .before .filled .result in w .start + s .print .result .used ≤ w .end)
@@ -38,6 +38,7 @@ dump-spec =
     (tie.spec
     Inv-loop
     μ-loop
+    (λ c κs. search needs)
     (λ c κs. search needs)
     (λ c. search needs)
     (λ c κs. search needs)
