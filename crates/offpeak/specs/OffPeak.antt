@@ -15,7 +15,6 @@ use Rattle.allotment.specs.Divisions.{divisions}
 use Rattle.calendar.specs.Calendar.{limited}
 use Rattle.owed.specs.Facts.{Facts, registrations}
 use Rattle.owed.specs.Divisions.{divisionsOf, offDivisions}
-use Rattle.owed.specs.Owed as owed
 use Rattle.owed.specs.Owed.{ofSeller, unforced, measured, offShortfall, offLack, offU}
 use Rattle.owed_laws.specs.Limits.{Limits}
 use Rattle.owed_laws.specs.Sellers.{ofSeller-le}
