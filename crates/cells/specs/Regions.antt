@@ -14,7 +14,7 @@ use Rattle.year.specs.declared.Event.{Event}
 use Rattle.year.specs.declared.Test.{Test}
 use Rattle.year.specs.declared.Retest.{Retest}
 use Rattle.year.specs.declared.Year.{Year}
-use Rattle.year.specs.Year.{newYear, noEvent, noTest, noRetest, pastEvent, listed, reduction, deficit, zone, product}
+use Rattle.year.specs.Year.{newYear, noEvent, noTest, noRetest, listed, reduction, deficit, zone, product}
 use Rattle.year.specs.Sound.{Sound}
 use Rattle.cells.specs.Rows.{Same, same-in, from, View, numbers-kept, same-row, rows-kept, row-at, table-of}
 use Rattle.cells.specs.Layout.{flag, registrationAt, clearingsAt, listingAt, eventAt, cellRegistrations, cellObligations, cellTerms, cellEvents, placeIn, entryAt, testAt, cellTests, cellBilled, cellClearings, retestAt, cellRetests, yearIn, Held}
@@ -80,9 +80,9 @@ module _ (c : List ℕ) where
   unfolding cellEvents
   event-in {e} d l = row-at event-view 16 471 e c d l
 
-  pub listed-in : {e i : ℕ} → e < 16 → i < 64 → listed (getD (cellEvents c) e pastEvent .listing) i ≡ flag (at c (471 + 212 * e + (4 + i)))
+  pub listed-in : {e i : ℕ} → e < 16 → i < 64 → listed (getD (cellEvents c) e noEvent .listing) i ≡ flag (at c (471 + 212 * e + (4 + i)))
   unfolding listed
-  listed-in {e} {i} l m = rw (event-in pastEvent l) (getD-tabulate (λ k. flag (at c (471 + 212 * e + (4 + k)))) 64 i false m)
+  listed-in {e} {i} l m = rw (event-in noEvent l) (getD-tabulate (λ k. flag (at c (471 + 212 * e + (4 + k)))) 64 i false m)
 
   pub test-in : {k : ℕ} (d : Test) → k < 24 → getD (cellTests c) k d ≡ testAt (placeIn c) (from 4295 c) k (from (3863 + 18 * k) c)
   unfolding cellTests

@@ -9,7 +9,8 @@ use lib.ListN.{getD, List·getD-eq-default}
 use borrow.Author.Tests.{ne-eqb}
 use Rattle.ids.specs.Ids.{at}
 use Rattle.ids.specs.Tables.{getD-tabulate}
-use Rattle.year.specs.Year.{pastTest, listed, reduction}
+use Rattle.ids.specs.Sets.{getD-replicate-same}
+use Rattle.year.specs.Year.{noTest, listed, reduction}
 use Rattle.year.specs.Sound.{Sound}
 use Rattle.year.specs.Limits.{zone-below, product-below}
 use Rattle.cells.specs.Rows.{from}
@@ -31,22 +32,22 @@ module _ (c : List ℕ) (s : Sound (yearIn c)) where
 
   -- no registration has a place past the last test
   module _ {p : ℕ} (l : 24 ≤ p) where
-    past : getD (cellTests c) p pastTest ≡ pastTest
-    past = List·getD-eq-default (cellTests c) pastTest (omega (arith, s .places))
+    past : getD (cellTests c) p noTest ≡ noTest
+    past = List·getD-eq-default (cellTests c) noTest (omega (arith, s .places))
 
     off : (i : ℕ) → testedAt c p i ≡ false
     off i = rw (ne-eqb (placeIn c i) p (λ q. omega (arith, place-below i))) (and-false (flag (at c (4295 + i))))
 
-  pub tested-in : (p : ℕ) {i : ℕ} → i < 64 → listed (getD (cellTests c) p pastTest .listing) i ≡ testedAt c p i
+  pub tested-in : (p : ℕ) {i : ℕ} → i < 64 → listed (getD (cellTests c) p noTest .listing) i ≡ testedAt c p i
   unfolding listed
   tested-in p {i} m = elim (decLt p 24) [
-    | yes l ↦ rw (test-in c pastTest l) (getD-tabulate (testedAt c p) 64 i false m)
-    | no l ↦ rw (past {p = p} (omega arith), off {p = p} (omega arith) i)
+    | yes l ↦ rw (test-in c noTest l) (getD-tabulate (testedAt c p) 64 i false m)
+    | no l ↦ rw (past {p = p} (omega arith), off {p = p} (omega arith) i) (getD-replicate-same 64 i false)
   ]
 
-  pub first-in : (p : ℕ) {i : ℕ} → i < 64 → reduction (getD (cellTests c) p pastTest .listing) i ≡ firstAt c p i
+  pub first-in : (p : ℕ) {i : ℕ} → i < 64 → reduction (getD (cellTests c) p noTest .listing) i ≡ firstAt c p i
   unfolding reduction
   first-in p {i} m = elim (decLt p 24) [
-    | yes l ↦ rw (test-in c pastTest l) (getD-tabulate (firstAt c p) 64 i 0 m)
-    | no l ↦ rw (past {p = p} (omega arith), off {p = p} (omega arith) i)
+    | yes l ↦ rw (test-in c noTest l) (getD-tabulate (firstAt c p) 64 i 0 m)
+    | no l ↦ rw (past {p = p} (omega arith), off {p = p} (omega arith) i) (getD-replicate-same 64 i 0)
   ]

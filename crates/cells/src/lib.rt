@@ -2,7 +2,7 @@
 ghost use mathlib.Core.Path.{_≡_};
 ghost use Prim.Native.Nat.{_+_, _≤_, _<_};
 ghost use lib.ListN.{length, getD};
-ghost use Rattle.year.specs.Year.{newYear, pastEvent, pastTest, clearingsOf, retestOf, registration, obligation, listed, reduction};
+ghost use Rattle.year.specs.Year.{newYear, noEvent, noTest, clearingsOf, retestOf, registration, obligation, listed, reduction};
 ghost use Rattle.cells.specs.Rows.{Laid};
 ghost use Rattle.cells.specs.Layout.{yearIn, Held};
 use units::Nominated;
@@ -163,7 +163,7 @@ pub fn obligation_of(year: &Cells, j: usize) -> u64
 pub fn listed_in(year: &Cells, e: usize, i: usize) -> bool
     requires { ⌜ e < 16 ⌝ }
     requires { ⌜ i < 64 ⌝ }
-    ensures { λ r. ⌜ r ≡ listed (getD (yearIn (now (year .entry)) .events) e pastEvent .listing) i ⌝ }
+    ensures { λ r. ⌜ r ≡ listed (getD (yearIn (now (year .entry)) .events) e noEvent .listing) i ⌝ }
 {
     let p = EVENTS + EVENT * e;
     year[p + (LISTED + i)] != 0
@@ -172,7 +172,7 @@ pub fn listed_in(year: &Cells, e: usize, i: usize) -> bool
 // Is the test of a place taken?
 pub fn test_taken(year: &Cells, place: usize) -> bool
     requires { ⌜ place < 24 ⌝ }
-    ensures { λ r. ⌜ r ≡ getD (yearIn (now (year .entry)) .tests) place pastTest .taken ⌝ }
+    ensures { λ r. ⌜ r ≡ getD (yearIn (now (year .entry)) .tests) place noTest .taken ⌝ }
 {
     let p = TESTS + TEST * place;
     year[p + 0] != 0
@@ -181,7 +181,7 @@ pub fn test_taken(year: &Cells, place: usize) -> bool
 // The month of a place's test, 0 where it has none.
 pub fn test_month(year: &Cells, place: usize) -> u64
     requires { ⌜ place < 24 ⌝ }
-    ensures { λ r. ⌜ r ≡ getD (yearIn (now (year .entry)) .tests) place pastTest .month ⌝ }
+    ensures { λ r. ⌜ r ≡ getD (yearIn (now (year .entry)) .tests) place noTest .month ⌝ }
 {
     let p = TESTS + TEST * place;
     year[p + 1]
@@ -191,7 +191,7 @@ pub fn test_month(year: &Cells, place: usize) -> u64
 pub fn tested_in(year: &Cells, place: u64, i: usize) -> bool
     requires { ⌜ Held (now year) ⌝ }
     requires { ⌜ i < 64 ⌝ }
-    ensures { λ r. ⌜ r ≡ listed (getD (yearIn (now (year .entry)) .tests) place pastTest .listing) i ⌝ }
+    ensures { λ r. ⌜ r ≡ listed (getD (yearIn (now (year .entry)) .tests) place noTest .listing) i ⌝ }
 {
     let r = registration_at(year, i);
     year[TESTED + i] != 0 && 3 * r.zone + r.product == place
@@ -201,7 +201,7 @@ pub fn tested_in(year: &Cells, place: u64, i: usize) -> bool
 pub fn first_in(year: &Cells, place: u64, i: usize) -> u64
     requires { ⌜ Held (now year) ⌝ }
     requires { ⌜ i < 64 ⌝ }
-    ensures { λ r. ⌜ r ≡ reduction (getD (yearIn (now (year .entry)) .tests) place pastTest .listing) i ⌝ }
+    ensures { λ r. ⌜ r ≡ reduction (getD (yearIn (now (year .entry)) .tests) place noTest .listing) i ⌝ }
 {
     if tested_in(year, place, i) {
         year[TESTED + (64 + i)]

@@ -10,6 +10,7 @@ use borrow.Author.Tests.{eq-eqb, eqb-true}
 use Rattle.calendar.specs.Calendar.{due}
 use Rattle.ids.specs.Ids.{at, sumTo}
 use Rattle.ids.specs.Sums.{sum-step, sum-bound}
+use Rattle.year.specs.Year as year
 use Rattle.owed.specs.Facts.{Facts}
 use Rattle.owed.specs.Owed as owed
 use Rattle.owed.specs.Owed.{oneOrThree, D, ofSeller, beforeCap}
@@ -45,7 +46,7 @@ given-aside g a b d =
 -- registration i as the rules have it, where t is spent of its cap
 abbrev pub lineOf : Facts → ℕ → ℕ → ℕ → Line
 lineOf F ev i t =
-    record { seller = F .seller i; product = F .product i; calls = owed.calls F i; rate = owed.rate F i; cap = owed.cap F i; spent = t; u = record { 0 = owed.u F ev i }; off = record { 0 = owed.offU F ev i }; e = record { 0 = owed.e F ev i } }
+    record { seller = F .seller i; product = year.product (F .terms) i; calls = owed.calls F i; rate = owed.rate F i; cap = owed.cap F i; spent = t; u = record { 0 = owed.u F ev i }; off = record { 0 = owed.offU F ev i }; e = record { 0 = owed.e F ev i } }
 
 pub line-is : {F : Facts} {ev i t : ℕ} {w : List ℕ} → Given F ev w → i < 64 → at w (spentRow + i) ≡ t → lineAt w i ≡ lineOf F ev i t
 line-is {i = i} g l e =
@@ -117,19 +118,19 @@ none-some {a} {b} e p q =
 
 -- the charge of one with a share, which is listed, by its line
 module _ (F : Facts) (ev i : ℕ) (some : (owed.u F ev i ≡ 0) × (owed.offU F ev i ≡ 0) → ⊥) where
-  listed : F .listed ev i ≡ true
-  listed = go (F .listed ev i) refl
+  listed : year.listed (F .event ev .listing) i ≡ true
+  listed = go (year.listed (F .event ev .listing) i) refl
     where
-      go : (b : Bool) → F .listed ev i ≡ b → b ≡ true
+      go : (b : Bool) → year.listed (F .event ev .listing) i ≡ b → b ≡ true
       go true e = refl
       go false e = absurd (some (u-unlisted F ev i e, off-unlisted F ev i e))
 
-  pub daily-is : {b : Bool} (x : ℕ) → b ≡ oneOrThree (F .period ev) → dailyOf b (lineOf F ev i x) ≡ owed.daily F ev x i
+  pub daily-is : {b : Bool} (x : ℕ) → b ≡ oneOrThree (F .event ev .period) → dailyOf b (lineOf F ev i x) ≡ owed.daily F ev x i
   unfolding owed.asked owed.daily beforeCap
   daily-is x p = rw (p, listed)
 
-pub charge-is : (F : Facts) (k ev i : ℕ) {d m days : ℕ} → d ≡ owed.daily F ev (owed.spent F ev i) i → m ≡ F .month ev → days ≡ D F k
-    → cond (leb (due (F .product i) m) k) (d * days / 1000) 0 ≡ owed.charge F k ev i
+pub charge-is : (F : Facts) (k ev i : ℕ) {d m days : ℕ} → d ≡ owed.daily F ev (owed.spent F ev i) i → m ≡ F .event ev .month → days ≡ D F k
+    → cond (leb (due (year.product (F .terms) i) m) k) (d * days / 1000) 0 ≡ owed.charge F k ev i
 unfolding owed.charge
 charge-is F k ev i e p q = rw (p, q, e)
 

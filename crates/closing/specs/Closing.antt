@@ -9,6 +9,7 @@ use Rattle.ids.specs.Tables.{tabulate-same}
 use Rattle.year.specs.declared.Amounts.{Amounts}
 use Rattle.cells.specs.Rows.{from}
 use Rattle.allotment.specs.Allot.{share}
+use Rattle.year.specs.Year as year
 use Rattle.owed.specs.Facts.{Facts}
 use Rattle.owed.specs.Owed.{amounts}
 use Rattle.owed.specs.Owed as owed
@@ -64,7 +65,7 @@ module _ (c : List ℕ) (k : ℕ) where
       }
 
   -- the amounts in their rows
-  pub amounts-are : {w v : List ℕ} → Tested w → Aside lseRow 16 w v → Row v lseRow 16 (share 16 (F .obligation) (net w))
+  pub amounts-are : {w v : List ℕ} → Tested w → Aside lseRow 16 w v → Row v lseRow 16 (share 16 (year.obligation (F .terms)) (net w))
       → _≡_ {A = Amounts} (record { compliance = numbers v complianceRow; test = numbers v testRow; credit = numbers v creditRow; lse = numbers v lseRow }) (amounts F k)
   unfolding amounts
   amounts-are {w} {v} h a r =

@@ -9,6 +9,7 @@ use lib.ListN.{length}
 use Rattle.ids.specs.Ids.{at, sumTo, countTo, anyTo}
 use Rattle.ids.specs.Sums.{sum-step, sum-bound}
 use Rattle.ids.specs.Tests.{cond-le, any-step}
+use Rattle.year.specs.Year as year
 use Rattle.owed.specs.Facts.{Facts}
 use Rattle.owed.specs.Owed.{oneOrThree, calls, called}
 use Rattle.table.specs.Places.{size, callsRow, calledRow}
@@ -17,10 +18,10 @@ use Rattle.table.specs.Rows.{Stored, Aside, Row, Renewed, none, mark, aside-non
 -- n and the mark of a called registration, by the first m events
 module _ (F : Facts) (m i : ℕ) where
   unfoldable pub callsBy : ℕ
-  callsBy = countTo m (λ ev. F .listed ev i && oneOrThree (F .period ev))
+  callsBy = countTo m (λ ev. year.listed (F .event ev .listing) i && oneOrThree (F .event ev .period))
 
   unfoldable pub calledBy : ℕ
-  calledBy = mark (anyTo m (λ ev. F .listed ev i))
+  calledBy = mark (anyTo m (λ ev. year.listed (F .event ev .listing) i))
 
 -- after m events
 pub record Counting (F : Facts) (m : ℕ) (w : List ℕ) : Type 0 where
@@ -49,36 +50,36 @@ module _ {F : Facts} {w : List ℕ} (h : Counting F (F .events) w) where
 
 -- one more event
 module _ (F : Facts) (ev i : ℕ) where
-  calls-step : callsBy F (ev + 1) i ≡ callsBy F ev i + cond (F .listed ev i && oneOrThree (F .period ev)) 1 0
+  calls-step : callsBy F (ev + 1) i ≡ callsBy F ev i + cond (year.listed (F .event ev .listing) i && oneOrThree (F .event ev .period)) 1 0
   unfolding callsBy
-  calls-step = sum-step ev (λ d. cond (F .listed d i && oneOrThree (F .period d)) 1 0)
+  calls-step = sum-step ev (λ d. cond (year.listed (F .event d .listing) i && oneOrThree (F .event d .period)) 1 0)
 
-  called-step : calledBy F (ev + 1) i ≡ mark (anyTo ev (λ d. F .listed d i) || F .listed ev i)
+  called-step : calledBy F (ev + 1) i ≡ mark (anyTo ev (λ d. year.listed (F .event d .listing) i) || year.listed (F .event ev .listing) i)
   unfolding calledBy
-  called-step = ap mark (any-step ev (λ d. F .listed d i))
+  called-step = ap mark (any-step ev (λ d. year.listed (F .event d .listing) i))
 
   pub calls-most : callsBy F ev i ≤ ev
   unfolding callsBy
-  calls-most = omega (arith, sum-bound ev 1 _ (λ d l. cond-le (F .listed d i && oneOrThree (F .period d)) (le-refl 1)))
+  calls-most = omega (arith, sum-bound ev 1 _ (λ d l. cond-le (year.listed (F .event d .listing) i && oneOrThree (F .event d .period)) (le-refl 1)))
 
-  module _ (off : F .listed ev i ≡ false) where
+  module _ (off : year.listed (F .event ev .listing) i ≡ false) where
     calls-same : callsBy F ev i ≡ callsBy F (ev + 1) i
     calls-same = omega (arith, calls-step, rw off at calls-step)
 
     called-same : calledBy F ev i ≡ calledBy F (ev + 1) i
     unfolding calledBy
-    called-same = sym (called-step ∙ rw off (go (anyTo ev (λ d. F .listed d i))))
+    called-same = sym (called-step ∙ rw off (go (anyTo ev (λ d. year.listed (F .event d .listing) i))))
       where
         go : (b : Bool) → mark (b || false) ≡ mark b
         go true = refl
         go false = refl
 
-  module _ (on : F .listed ev i ≡ true) where
-    calls-one : callsBy F ev i + mark (oneOrThree (F .period ev)) ≡ callsBy F (ev + 1) i
+  module _ (on : year.listed (F .event ev .listing) i ≡ true) where
+    calls-one : callsBy F ev i + mark (oneOrThree (F .event ev .period)) ≡ callsBy F (ev + 1) i
     calls-one = sym (calls-step ∙ rw on)
 
     called-one : 1 ≡ calledBy F (ev + 1) i
-    called-one = sym (called-step ∙ rw on (go (anyTo ev (λ d. F .listed d i))))
+    called-one = sym (called-step ∙ rw on (go (anyTo ev (λ d. year.listed (F .event d .listing) i))))
       where
         go : (b : Bool) → mark (b || true) ≡ 1
         go true = refl
@@ -103,7 +104,7 @@ counts-first {F} {ev} h =
     }
 
 module _ {F : Facts} {ev i : ℕ} {w₀ w : List ℕ} (h : Counts F ev i w₀ w) where
-  pub counts-none : i < 64 → F .listed ev i ≡ false → Counts F ev (i + 1) w₀ w
+  pub counts-none : i < 64 → year.listed (F .event ev .listing) i ≡ false → Counts F ev (i + 1) w₀ w
   counts-none l off =
       record {
         upto = omega arith;
@@ -116,7 +117,7 @@ module _ {F : Facts} {ev i : ℕ} {w₀ w : List ℕ} (h : Counts F ev i w₀ w)
   pub counts-next : {m : List ℕ} → i < 64 → Stored (calledRow + i) 1 w m → at m (callsRow + i) ≡ callsBy F ev i
   counts-next l s = s .others (callsRow + i) (λ e. omega arith) ∙ renewed-next (h .calls) l
 
-  pub counts-more : {n : ℕ} {m v : List ℕ} → i < 64 → F .listed ev i ≡ true → n ≡ mark (oneOrThree (F .period ev))
+  pub counts-more : {n : ℕ} {m v : List ℕ} → i < 64 → year.listed (F .event ev .listing) i ≡ true → n ≡ mark (oneOrThree (F .event ev .period))
       → Stored (calledRow + i) 1 w m → Stored (callsRow + i) (at m (callsRow + i) + n) m v → Counts F ev (i + 1) w₀ v
   counts-more {n} {m} {v} l on e s t =
       record {

@@ -11,6 +11,7 @@ use Rattle.allotment.specs.Stepper.{Carried, Asks, Gives, Before, before-first,
 use Rattle.charging.specs.Charging.{Given, given-aside}
 use Rattle.ids.specs.Ids.{at, sumTo}
 use Rattle.ids.specs.Sums.{sum-step, sum-same, sum-bound}
+use Rattle.year.specs.Year as year
 use Rattle.owed.specs.Facts.{Facts}
 use Rattle.owed.specs.Divisions.{creditDivisions}
 use Rattle.owed.specs.Owed as owed
@@ -47,7 +48,7 @@ pub record Crediting (F : Facts) (k ev i : ℕ) (w₀ w : List ℕ) (a : Allotme
   pub upto : i ≤ 64
   pub given : Given F ev w
   pub aside : Aside creditRow 16 w₀ w
-  pub before : Before 64 (F .listed ev) (owed.e F ev) (sumTo 64 (owed.charge F k ev)) i a
+  pub before : Before 64 (year.listed (F .event ev .listing)) (owed.e F ev) (sumTo 64 (owed.charge F k ev)) i a
   pub credit : Grown w creditRow 16 (creditBy F k ev) (F .seller) (creditOf F k ev) i
 
 pub crediting-first : {F : Facts} {k ev b t : ℕ} {w : List ℕ} {a : Allotment} → Given F ev w → Row w creditRow 16 (creditBy F k ev)
@@ -63,7 +64,7 @@ crediting-first {F} {k} {ev} g r p q c =
 
 module _ {F : Facts} {k ev i : ℕ} {w₀ w : List ℕ} {a : Allotment} (h : Crediting F k ev i w₀ w a) where
   -- an entry that is not listed
-  pub crediting-none : i < 64 → F .listed ev i ≡ false → Crediting F k ev (i + 1) w₀ w a
+  pub crediting-none : i < 64 → year.listed (F .event ev .listing) i ≡ false → Crediting F k ev (i + 1) w₀ w a
   crediting-none l off =
       record {
         upto = omega arith;
@@ -85,7 +86,7 @@ module _ {F : Facts} {k ev i : ℕ} {w₀ w : List ℕ} {a : Allotment} (h : Cre
     unfolding creditOf creditShare creditLimit
     credit-is f z d = d ∙ rw (share-value (h .before) refl v, z, f)
 
-    pub crediting-more : {c : ℕ} {y : List ℕ} → i < 64 → F .listed ev i ≡ true → F .seller i < 16 → c ≡ creditOf F k ev i → Stored (creditRow + F .seller i) (at w (creditRow + F .seller i) + c) w y → Crediting F k ev (i + 1) w₀ y (r .next)
+    pub crediting-more : {c : ℕ} {y : List ℕ} → i < 64 → year.listed (F .event ev .listing) i ≡ true → F .seller i < 16 → c ≡ creditOf F k ev i → Stored (creditRow + F .seller i) (at w (creditRow + F .seller i) + c) w y → Crediting F k ev (i + 1) w₀ y (r .next)
     crediting-more l on b d t =
         record {
           upto = omega arith;

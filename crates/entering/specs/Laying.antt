@@ -11,7 +11,7 @@ use lib.ListN.{length, getD, take, drop, length-append, length-drop}
 use lib.Seq.{getD-append-add, getD-take, getD-drop, length-take-le}
 use Rattle.ids.specs.Ids.{at}
 use Rattle.ids.specs.Tables.{tabulate-same}
-use Rattle.year.specs.Year.{noRetest, pastTest, listed}
+use Rattle.year.specs.Year.{noRetest, noTest, listed}
 use Rattle.year.specs.Steps.{retestBy, withTest, withRetest}
 use Rattle.year.specs.Sound.{SoundTest}
 use Rattle.cells.specs.Rows.{from, Laid, laid-on, Same, same-on, same-in, same-before, same-behind}
@@ -55,7 +55,7 @@ module _ {a b c d f : List ℕ} (l : List ℕ) (place : ℕ) {month : ℕ} (p : 
       apart k m x (yes y) = same-before row (3863 + 18 * k) 18 (omega arith)
       apart k m x (no y) = same-behind row (3863 + 18 * k) 18 (omega (arith, eighteen))
 
-  pub test-laid : Held a → getD (cellTests a) place pastTest .taken ≡ false → SoundTest (cellTerms a) place (testOf month (listingAt (at l)))
+  pub test-laid : Held a → getD (cellTests a) place noTest .taken ≡ false → SoundTest (cellTerms a) place (testOf month (listingAt (at l)))
       → yearIn f ≡ withTest (yearIn a) place (testOf month (listingAt (at l)))
   test-laid k x s =
       let kept = between 2 3861 (lit≤ tt) (lit≤ tt) in

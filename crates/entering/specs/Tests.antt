@@ -13,7 +13,7 @@ use Rattle.ids.specs.Ids.{at}
 use Rattle.ids.specs.Tables.{length-tabulate, is-tabulate, tabulate-same}
 use Rattle.year.specs.declared.Listing.{Listing}
 use Rattle.year.specs.declared.Test.{Test}
-use Rattle.year.specs.Year.{pastTest, listed, reduction}
+use Rattle.year.specs.Year.{noTest, listed, reduction}
 use Rattle.year.specs.Listing.{single}
 use Rattle.year.specs.Sound.{SoundTest, Sound}
 use Rattle.cells.specs.Rows.{from, Same}
@@ -26,7 +26,7 @@ abbrev pub testOf : ℕ → Listing → Test
 testOf month l = record { taken = true; month = month; listing = single l }
 
 -- a place without a test lists nothing
-pub untaken-free : (c : List ℕ) → Sound (yearIn c) → {k : ℕ} → k < 24 → getD (cellTests c) k pastTest .taken ≡ false → (i : ℕ) → i < 64 → testedAt c k i ≡ false
+pub untaken-free : (c : List ℕ) → Sound (yearIn c) → {k : ℕ} → k < 24 → getD (cellTests c) k noTest .taken ≡ false → (i : ℕ) → i < 64 → testedAt c k i ≡ false
 untaken-free c s {k} l e i m = sym (tested-in c s k m) ∙ s .tests k l .untaken e i m
 
 -- d is c with a test at a place: its row, and the entries that it lists, from the row of its listing
@@ -66,17 +66,17 @@ module _ {place month : ℕ} {l c d : List ℕ} (h : Tested place month l c d) (
   pub tests-laid : cellTests d ≡ set (cellTests c) place (testOf month (listingAt (at l)))
   unfolding cellTests
   tests-laid =
-      sym (is-tabulate (λ k. testAt (placeIn d) (from 4295 d) k (from (3863 + 18 * k) d)) 24 pastTest (set (cellTests c) place new)
+      sym (is-tabulate (λ k. testAt (placeIn d) (from 4295 d) k (from (3863 + 18 * k) d)) 24 noTest (set (cellTests c) place new)
       (length-set (cellTests c) place new ∙ length-tabulate (λ k. testAt (placeIn c) (from 4295 c) k (from (3863 + 18 * k) c)) 24)
       (λ k m. go k m (ℕ-discrete k place)))
     where
       new : Test
       new = testOf month (listingAt (at l))
 
-      go : (k : ℕ) → k < 24 → Dec (k ≡ place) → getD (set (cellTests c) place new) k pastTest ≡ testAt (placeIn d) (from 4295 d) k (from (3863 + 18 * k) d)
+      go : (k : ℕ) → k < 24 → Dec (k ≡ place) → getD (set (cellTests c) place new) k noTest ≡ testAt (placeIn d) (from 4295 d) k (from (3863 + 18 * k) d)
       go k m (yes e) =
           let here : (i : ℕ) → i < 64 → _ = λ i b. entries-here i b (flag (at l i)) refl in
-          rw e (getD-set-same (cellTests c) place new pastTest (omega (arith, length-tabulate (λ k. testAt (placeIn c) (from 4295 c) k (from (3863 + 18 * k) c)) 24))
+          rw e (getD-set-same (cellTests c) place new noTest (omega (arith, length-tabulate (λ k. testAt (placeIn c) (from 4295 c) k (from (3863 + 18 * k) c)) 24))
           ∙ sym (cc (
             h .taken,
             h .month,
@@ -85,6 +85,6 @@ module _ {place month : ℕ} {l c d : List ℕ} (h : Tested place month l c d) (
             tabulate-same 16 {f = λ j. at d (3863 + 18 * place + (2 + j))} {g = λ j. at l (128 + j)} (h .deficits),
           )))
       go k m (no n) =
-          getD-set-other (cellTests c) place k new pastTest n ∙ test-in c pastTest m
+          getD-set-other (cellTests c) place k new noTest n ∙ test-in c noTest m
           ∙ sym (test-same k (placeIn d) (placeIn c) (from 4295 d) (from 4295 c) (from (3863 + 18 * k) d) (from (3863 + 18 * k) c)
           (h .others k m n .cell) (λ i b. entries-there k n i b (flag (at l i)) refl))

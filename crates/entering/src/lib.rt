@@ -4,7 +4,7 @@ ghost use mathlib.Core.Bool.{true, false};
 ghost use Prim.Native.Nat.{_+_, _≤_, _<_};
 ghost use lib.ListN.{length, getD};
 ghost use Rattle.ids.specs.Ids.{at};
-ghost use Rattle.year.specs.Year.{pastTest};
+ghost use Rattle.year.specs.Year.{noTest};
 ghost use Rattle.year.specs.Steps.{withTest, withRetest};
 ghost use Rattle.year.specs.Sound.{SoundListing, SoundTest};
 ghost use Rattle.cells.specs.Layout.{listingAt, yearIn, Held};
@@ -64,7 +64,7 @@ fn enter(year: &mut Cells, table: usize, listing: &[u64])
 pub fn test(year: &mut Cells, place: usize, month: u64, listing: &[u64])
     requires { ⌜ Held (now year) ⌝ }
     requires { ⌜ place < 24 ⌝ }
-    requires { ⌜ getD (yearIn (now year) .tests) place pastTest .taken ≡ false ⌝ }
+    requires { ⌜ getD (yearIn (now year) .tests) place noTest .taken ≡ false ⌝ }
     requires { ⌜ length (now listing) ≡ 208 ⌝ }
     requires { ⌜ SoundTest (yearIn (now year) .terms) place (testOf month (listingAt (at (now listing)))) ⌝ }
     ensures equals { λ r. ⌜ yearIn (now (year .exit)) ≡ withTest (yearIn (now (year .entry))) place (testOf month (listingAt (at (now (listing .entry))))) ⌝ }

@@ -16,4 +16,4 @@ module _ (y : Year) where
   selects (Uncalled z p) i = inGroup (y .terms) z p i && not (called (factsOf y) i)
   selects (Tested p s) i = entryOf (factsOf y) p s i
   selects (Failed p s) i = failed (factsOf y) p s i
-  selects (Retested p s) i = entryOf (factsOf y) p s i && factsOf y .retested i
+  selects (Retested p s) i = entryOf (factsOf y) p s i && factsOf y .retest i .taken

@@ -53,7 +53,7 @@ fn has_failed(year: &Cells, i: usize, place: u64, seller: u64) -> bool
 fn is_retested(year: &Cells, i: usize, place: u64, seller: u64) -> bool
     requires { ⌜ Held (now year) ⌝ }
     requires { ⌜ i < 64 ⌝ }
-    ensures { λ b. ⌜ b ≡ (let F = factsOf (yearIn (now (year .entry))) in entryOf F place seller i && F .retested i) ⌝ }
+    ensures { λ b. ⌜ b ≡ (let F = factsOf (yearIn (now (year .entry))) in entryOf F place seller i && F .retest i .taken) ⌝ }
 {
     let retest = cells::retest_at(year, i);
     is_entry(year, i, place, seller) && retest.taken

@@ -62,42 +62,31 @@ listingIn vs = listingTo (at vs 0) vs (length (lists (at vs 0)))
 abbrev pub recordOf : List ℕ → Record
 recordOf vs = record { head = headOf vs; listing = listingIn vs }
 
--- by its kind
+-- f of the head of one kind, and for the others what g says
 module _ {A : Type 0} where
-  abbrev byKind : (OpeningHead → A) → (RegistrationHead → A) → (LseHead → A) → (EventHead → A) → (TestHead → A) → (CloseHead → A) → (ClearingHead → A) → (RetestHead → A) → Head → A
-  byKind o r l e t c p a (Opening h) = o h
-  byKind o r l e t c p a (Registration h) = r h
-  byKind o r l e t c p a (Lse h) = l h
-  byKind o r l e t c p a (Event h) = e h
-  byKind o r l e t c p a (Test h) = t h
-  byKind o r l e t c p a (Close h) = c h
-  byKind o r l e t c p a (Clearing h) = p h
-  byKind o r l e t c p a (Retest h) = a h
-
-  -- f of the head of one kind, and for the others what g says
   abbrev pub forOpening : (OpeningHead → A) → (Head → A) → Head → A
-  forOpening f g h = byKind f (λ _. g h) (λ _. g h) (λ _. g h) (λ _. g h) (λ _. g h) (λ _. g h) (λ _. g h) h
+  forOpening f g h = elim h [ Opening t ↦ f t | Registration t ↦ g (Registration t) | Lse t ↦ g (Lse t) | Event t ↦ g (Event t) | Test t ↦ g (Test t) | Close t ↦ g (Close t) | Clearing t ↦ g (Clearing t) | Retest t ↦ g (Retest t) ]
 
   abbrev pub forRegistration : (RegistrationHead → A) → (Head → A) → Head → A
-  forRegistration f g h = byKind (λ _. g h) f (λ _. g h) (λ _. g h) (λ _. g h) (λ _. g h) (λ _. g h) (λ _. g h) h
+  forRegistration f g h = elim h [ Opening t ↦ g (Opening t) | Registration t ↦ f t | Lse t ↦ g (Lse t) | Event t ↦ g (Event t) | Test t ↦ g (Test t) | Close t ↦ g (Close t) | Clearing t ↦ g (Clearing t) | Retest t ↦ g (Retest t) ]
 
   abbrev pub forLse : (LseHead → A) → (Head → A) → Head → A
-  forLse f g h = byKind (λ _. g h) (λ _. g h) f (λ _. g h) (λ _. g h) (λ _. g h) (λ _. g h) (λ _. g h) h
+  forLse f g h = elim h [ Opening t ↦ g (Opening t) | Registration t ↦ g (Registration t) | Lse t ↦ f t | Event t ↦ g (Event t) | Test t ↦ g (Test t) | Close t ↦ g (Close t) | Clearing t ↦ g (Clearing t) | Retest t ↦ g (Retest t) ]
 
   abbrev pub forEvent : (EventHead → A) → (Head → A) → Head → A
-  forEvent f g h = byKind (λ _. g h) (λ _. g h) (λ _. g h) f (λ _. g h) (λ _. g h) (λ _. g h) (λ _. g h) h
+  forEvent f g h = elim h [ Opening t ↦ g (Opening t) | Registration t ↦ g (Registration t) | Lse t ↦ g (Lse t) | Event t ↦ f t | Test t ↦ g (Test t) | Close t ↦ g (Close t) | Clearing t ↦ g (Clearing t) | Retest t ↦ g (Retest t) ]
 
   abbrev pub forTest : (TestHead → A) → (Head → A) → Head → A
-  forTest f g h = byKind (λ _. g h) (λ _. g h) (λ _. g h) (λ _. g h) f (λ _. g h) (λ _. g h) (λ _. g h) h
+  forTest f g h = elim h [ Opening t ↦ g (Opening t) | Registration t ↦ g (Registration t) | Lse t ↦ g (Lse t) | Event t ↦ g (Event t) | Test t ↦ f t | Close t ↦ g (Close t) | Clearing t ↦ g (Clearing t) | Retest t ↦ g (Retest t) ]
 
   abbrev pub forClose : (CloseHead → A) → (Head → A) → Head → A
-  forClose f g h = byKind (λ _. g h) (λ _. g h) (λ _. g h) (λ _. g h) (λ _. g h) f (λ _. g h) (λ _. g h) h
+  forClose f g h = elim h [ Opening t ↦ g (Opening t) | Registration t ↦ g (Registration t) | Lse t ↦ g (Lse t) | Event t ↦ g (Event t) | Test t ↦ g (Test t) | Close t ↦ f t | Clearing t ↦ g (Clearing t) | Retest t ↦ g (Retest t) ]
 
   abbrev pub forClearing : (ClearingHead → A) → (Head → A) → Head → A
-  forClearing f g h = byKind (λ _. g h) (λ _. g h) (λ _. g h) (λ _. g h) (λ _. g h) (λ _. g h) f (λ _. g h) h
+  forClearing f g h = elim h [ Opening t ↦ g (Opening t) | Registration t ↦ g (Registration t) | Lse t ↦ g (Lse t) | Event t ↦ g (Event t) | Test t ↦ g (Test t) | Close t ↦ g (Close t) | Clearing t ↦ f t | Retest t ↦ g (Retest t) ]
 
   abbrev pub forRetest : (RetestHead → A) → (Head → A) → Head → A
-  forRetest f g h = byKind (λ _. g h) (λ _. g h) (λ _. g h) (λ _. g h) (λ _. g h) (λ _. g h) (λ _. g h) f h
+  forRetest f g h = elim h [ Opening t ↦ g (Opening t) | Registration t ↦ g (Registration t) | Lse t ↦ g (Lse t) | Event t ↦ g (Event t) | Test t ↦ g (Test t) | Close t ↦ g (Close t) | Clearing t ↦ g (Clearing t) | Retest t ↦ f t ]
 
 -- is it a close, and is it a retest of seller s; the month that it names, 0 where it names none
 abbrev pub isClose : Head → Bool

@@ -15,7 +15,7 @@ use Rattle.owed_laws.specs.Cap.{yearly-limit}
 use Rattle.statement.specs.Starts.{starts}
 use Rattle.heads.specs.Record.{Record, monthOf}
 use Rattle.book.specs.Outcome.{recordIn}
-use Rattle.recorded.specs.Recorded.{termsIn, factsIn, recorded}
+use Rattle.recorded.specs.Recorded.{termsIn, recorded}
 use Rattle.recorded.specs.Booked.{booked, facts-booked}
 use Rattle.history.specs.Runs.{Call, acceptedIn, statements, soFar}
 use Rattle.history.specs.Taking.{closes, shown, answers, run}
@@ -63,7 +63,7 @@ module _ (cs : List Call) (c : Call) (e : closes (run newYear cs) c ≡ true) wh
   unfolding booked recorded
   terms-are = rw (run-years cs)
 
-  facts-are : factsOf there ≡ factsIn records
+  facts-are : factsOf there ≡ factsOf (recorded records)
   facts-are = rw (run-years cs) (facts-booked records)
 
   pub at-close : AtClose (answers newYear cs) (shown there c)

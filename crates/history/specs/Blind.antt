@@ -5,7 +5,7 @@ use mathlib.Core.Path.{_≡_, fun-ext}
 use lib.ListN.{getD}
 use Rattle.year.specs.declared.Listing.{Listing}
 use Rattle.year.specs.declared.Year.{Year}
-use Rattle.year.specs.Year.{pastTest, testPlace}
+use Rattle.year.specs.Year.{noTest, testPlace}
 use Rattle.owed.specs.Facts.{factsOf}
 use Rattle.owed.specs.Owed.{called}
 use Rattle.owed.specs.Retests.{failed}
@@ -17,10 +17,10 @@ use Rattle.questions.specs.Questions.{q6, q7, q8, q9, q10, q17, q11, q20, q21, 
 use Rattle.history.specs.Same.{Same, same-facts, same-called}
 
 module _ {s : ℕ} {y z : Year} (h : Same s y z) where
-  taken : (k : ℕ) → getD (y .tests) k pastTest .taken ≡ getD (z .tests) k pastTest .taken
+  taken : (k : ℕ) → getD (y .tests) k noTest .taken ≡ getD (z .tests) k noTest .taken
   taken k = h .tests k .taken
 
-  month : (k : ℕ) → getD (y .tests) k pastTest .month ≡ getD (z .tests) k pastTest .month
+  month : (k : ℕ) → getD (y .tests) k noTest .month ≡ getD (z .tests) k noTest .month
   month k = h .tests k .month
 
   same-calls : called (factsOf y) ≡ called (factsOf z)

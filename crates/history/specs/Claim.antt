@@ -6,12 +6,12 @@ use mathlib.Core.Path.{_≡_}
 use lib.ListN.{length}
 use lib.IntN.{ℤ, pos}
 use Rattle.year.specs.declared.Terms.{Terms}
-use Rattle.owed.specs.Facts.{Facts}
+use Rattle.owed.specs.Facts.{Facts, factsOf}
 use Rattle.owed.specs.Owed.{compliance, test, credit, lse, revenue}
 use Rattle.statement.specs.Statement.{hasRegistration, hasObligation}
 use Rattle.statement.specs.ReadBack.{complianceIn, testIn, creditIn, lseIn, chargesIn, creditsIn}
 use Rattle.heads.specs.Record.{monthOf}
-use Rattle.recorded.specs.Recorded.{gather, alone, termsIn, factsIn, recorded}
+use Rattle.recorded.specs.Recorded.{gather, alone, termsIn, recorded}
 use Rattle.book.specs.Outcome.{recordIn, postNumber}
 use Rattle.history.specs.Runs.{Call, Answered, isClosing, acceptances, acceptedIn, statements, soFar, Variant}
 
@@ -22,7 +22,7 @@ module _ (before : List Answered) (x : Answered) where
   terms = termsIn (acceptedIn before)
 
   abbrev facts : Facts
-  facts = factsIn (acceptedIn before)
+  facts = factsOf (recorded (acceptedIn before))
 
   abbrev month : ℕ
   month = monthOf (recordIn (x .call .bytes) .head)

@@ -14,10 +14,10 @@ use Rattle.ids.specs.Tables.{getD-tabulate}
 use Rattle.ids.specs.Tests.{and-parts, any-some}
 use Rattle.year.specs.declared.Terms.{Terms}
 use Rattle.year.specs.declared.Amounts.{Amounts}
-use Rattle.year.specs.Year.{known, seller, obligation, size}
+use Rattle.year.specs.Year.{known, seller, obligation, size, sellers}
 use Rattle.year.specs.Sound.{SoundTerms}
 use Rattle.year.specs.Limits.{seller-below, lses-is}
-use Rattle.owed.specs.Facts.{Facts, sellers, lses}
+use Rattle.owed.specs.Facts.{Facts, lses}
 use Rattle.owed.specs.Owed.{compliance, test, credit, lse, amounts}
 use Rattle.statement.specs.Statement.{hasRegistration, hasObligation}
 use Rattle.statement.specs.ReadBack.{complianceIn, testIn, creditIn, lseIn}

@@ -6,19 +6,18 @@ use mathlib.Core.Path.{_≡_, refl, sym, _∙_}
 use native.Mathlib.Nat.{not-suc-le-zero}
 use native.Mathlib.Omega.{arith}
 use lib.ListN.{length, getD, replicate}
-use Rattle.ids.specs.Each.{each-replicate}
 use Rattle.year.specs.declared.Listing.{Listing}
 use Rattle.year.specs.declared.Event.{Event}
 use Rattle.year.specs.declared.Test.{Test}
 use Rattle.year.specs.declared.Terms.{Terms}
 use Rattle.year.specs.declared.Year.{Year}
-use Rattle.year.specs.Year.{newYear, noAmounts, noTest, testPlace, listed, known, pastEvent, pastTest}
+use Rattle.year.specs.Year.{newYear, noAmounts, noTest, testPlace, listed, known, noEvent}
 use Rattle.ids.specs.Sets.{kept-set, related-next, getD-replicate-same}
 use Rattle.year.specs.ListingLaws.{single-listed}
 use Rattle.year.specs.Steps.{withTerms}
 use Rattle.year.specs.Sound.{SoundTerms, Sound}
 use Rattle.year.specs.Kept.{sound-new}
-use Rattle.year.specs.Limits.{each-anywhere, size-is, lses-is}
+use Rattle.year.specs.Limits.{size-is, lses-is}
 use Rattle.owed.specs.Facts.{factsOf, registrations, places}
 use Rattle.owed_laws.specs.Parties.{Known}
 use Rattle.heads.specs.declared.Head.{Head}
@@ -51,11 +50,10 @@ knows : {T : Terms} → SoundTerms T → (l : Listing) → Knows T l → (i : �
 knows S x k i l = k i (omega (arith, size-is S))
 
 -- a test that is not taken lists nothing
-blank-tests : (T : Terms) {ts : List Test} → ts ≡ replicate 24 noTest → (p : ℕ) → Knows T (getD ts p pastTest .listing)
+blank-tests : (T : Terms) {ts : List Test} → ts ≡ replicate 24 noTest → (p : ℕ) → Knows T (getD ts p noTest .listing)
 unfolding listed
 blank-tests T e p =
-    rw e (each-anywhere (λ t. Knows T (t .listing)) {d = pastTest} (λ i l q. never refl q)
-    (each-replicate (λ t. Knows T (t .listing)) pastTest 24 (λ i l q. never (getD-replicate-same 64 i false) q)) p)
+    rw (e, getD-replicate-same 24 p noTest) (λ i l q. never (getD-replicate-same 64 i false) q)
 
 pub kept-new : Kept newYear
 kept-new =
@@ -96,7 +94,7 @@ module _ {y : Year} (k : Kept y) {l : Listing} {room : ℕ} where
         sound = s;
         begun = λ b. event-open a;
         unbilled = λ b. never b refl;
-        known = record { events = related-next P pastEvent (y .events) (y .events) (y .held) {v = eventOf e l} {w = eventOf e l} m m (knows (k .sound .terms) l (event-knows a)) (k .known .events); tests = k .known .tests };
+        known = record { events = related-next P noEvent (y .events) (y .events) (y .held) {v = eventOf e l} {w = eventOf e l} m m (knows (k .sound .terms) l (event-knows a)) (k .known .events); tests = k .known .tests };
         billed = k .billed;
       })
   kept-by (test t q) = rw q (λ a s.
@@ -105,7 +103,7 @@ module _ {y : Year} (k : Kept y) {l : Listing} {room : ℕ} where
         sound = s;
         begun = λ b. test-open a;
         unbilled = λ b. never b refl;
-        known = record { events = k .known .events; tests = kept-set P pastTest (y .tests) (testPlace (t .zone) (t .product)) (λ m i b n. knows (k .sound .terms) l (test-knows a) i b (sym (single-listed l i) ∙ n)) (k .known .tests) };
+        known = record { events = k .known .events; tests = kept-set P noTest (y .tests) (testPlace (t .zone) (t .product)) (λ m i b n. knows (k .sound .terms) l (test-knows a) i b (sym (single-listed l i) ∙ n)) (k .known .tests) };
         billed = k .billed;
       })
   kept-by (close c q) = rw q (λ a s.

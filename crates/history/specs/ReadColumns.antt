@@ -11,9 +11,9 @@ use Rattle.year.specs.declared.Terms.{Terms}
 use Rattle.year.specs.declared.Amounts.{Amounts}
 use Rattle.year.specs.Sound.{SoundTerms, SoundAmounts}
 use Rattle.statement.specs.Statement.{hasRegistration, hasObligation}
-use Rattle.statement.specs.ReadBack.{sellersIn, lsesIn, lineSeller, lineLse, complianceIn, testIn, creditIn, lseIn}
+use Rattle.statement.specs.ReadBack.{sellersIn, lsesIn, complianceIn, testIn, creditIn, lseIn}
 use Rattle.statement.specs.Reading.{sum-none}
-use Rattle.statement.specs.Starts.{less, Starts}
+use Rattle.statement.specs.Starts.{less, Starts, lineSeller, lineLse}
 use Rattle.statement.specs.ReadBackLaws.{compliance-reads, test-reads, credit-reads, lse-reads, line-has-seller, line-has-lse}
 use Rattle.history.specs.Columns.{Column, pays, tests, gets, receives, party, party-below, column, lineIn}
 

@@ -18,11 +18,12 @@ use Rattle.year.specs.declared.Test.{Test}
 use Rattle.year.specs.declared.Retest.{Retest}
 use Rattle.year.specs.declared.Terms.{Terms}
 use Rattle.year.specs.declared.Year.{Year}
-use Rattle.year.specs.Year.{newYear, noTest, noRetest, retestOf, pastEvent, pastTest, listed, reduction, second, deficit, seller}
+use Rattle.year.specs.Year.{newYear, noTest, noRetest, retestOf, noEvent, listed, reduction, second, deficit, seller, sellers}
 use Rattle.year.specs.Listing.{single}
 use Rattle.year.specs.Steps.{withTerms, withEvent, withTest, withRetests, retestBy, withRetest, withClose}
 use Rattle.year.specs.Sound.{Sound}
-use Rattle.owed.specs.Facts.{factsOf, sellers}
+use Rattle.year.specs.Year as year
+use Rattle.owed.specs.Facts.{factsOf}
 use Rattle.owed.specs.Owed.{own, ofArea, areaRate, rate, called, compliance, test, amounts}
 use Rattle.owed_laws.specs.Independent as independent
 
@@ -68,15 +69,15 @@ pub record Same (s : ℕ) (y z : Year) : Type 0 where
   pub held : y .held ≡ z .held
   pub terms : y .terms ≡ z .terms
   pub clearings : y .clearings ≡ z .clearings
-  pub events : (ev : ℕ) → ev < y .held → SameEvent (y .terms) s (getD (y .events) ev pastEvent) (getD (z .events) ev pastEvent)
-  pub tests : (p : ℕ) → SameTest (y .terms) s (getD (y .tests) p pastTest) (getD (z .tests) p pastTest)
+  pub events : (ev : ℕ) → ev < y .held → SameEvent (y .terms) s (getD (y .events) ev noEvent) (getD (z .events) ev noEvent)
+  pub tests : (p : ℕ) → SameTest (y .terms) s (getD (y .tests) p noTest) (getD (z .tests) p noTest)
   pub retests : SameRetests (y .terms) s (y .retests) (z .retests)
   pub pays : (r : ℕ) → (r ≡ s → ⊥) → at (y .billed .compliance) r ≡ at (z .billed .compliance) r
   pub fails : (r : ℕ) → (r ≡ s → ⊥) → at (y .billed .test) r ≡ at (z .billed .test) r
 
 pub same-new : (s : ℕ) → Same s newYear newYear
 same-new s =
-    record { opened = refl; started = refl; closed = refl; held = refl; terms = refl; clearings = refl; events = λ ev l. absurd (not-suc-le-zero l); tests = λ p. test-refl (newYear .terms) s (getD (newYear .tests) p pastTest); retests = λ i n. refl; pays = λ r n. refl; fails = λ r n. refl }
+    record { opened = refl; started = refl; closed = refl; held = refl; terms = refl; clearings = refl; events = λ ev l. absurd (not-suc-le-zero l); tests = λ p. test-refl (newYear .terms) s (getD (newYear .tests) p noTest); retests = λ i n. refl; pays = λ r n. refl; fails = λ r n. refl }
 
 -- two tables at one place
 pub table-at : {A : Type 0} (n : ℕ) (d : A) (f g : ℕ → A) (i : ℕ) → f i ≡ g i → getD (tabulate n f) i d ≡ getD (tabulate n g) i d
@@ -86,7 +87,7 @@ table-at n d f g i e = elim (decLt i n) [
 ]
 
 module _ {s : ℕ} {y z : Year} (h : Same s y z) where
-  listed-same : (ev : ℕ) → ev < y .held → (i : ℕ) → factsOf y .listed ev i ≡ factsOf z .listed ev i
+  listed-same : (ev : ℕ) → ev < y .held → (i : ℕ) → year.listed (factsOf y .event ev .listing) i ≡ year.listed (factsOf z .event ev .listing) i
   unfolding listed
   listed-same ev l i = rw (h .events ev l .listing .listed)
 
@@ -121,8 +122,8 @@ module _ {s : ℕ} {y z : Year} (h : Same s y z) where
   pub same-called : (i : ℕ) → called (factsOf y) i ≡ called (factsOf z) i
   unfolding called
   same-called i =
-      any-same (y .held) {q = λ ev. factsOf z .listed ev i} (λ ev l. listed-same ev l i)
-      ∙ ap (λ n. anyTo n (λ ev. factsOf z .listed ev i)) (h .held)
+      any-same (y .held) {q = λ ev. year.listed (factsOf z .event ev .listing) i} (λ ev l. listed-same ev l i)
+      ∙ ap (λ n. anyTo n (λ ev. year.listed (factsOf z .event ev .listing) i)) (h .held)
 
   -- before the first event, test or close
   pub same-terms : Sound y → Sound z → y .started ≡ false → (o : Bool) (T : Terms) (cs : List Clearings) → Same s (withTerms y o T cs) (withTerms z o T cs)
@@ -137,7 +138,7 @@ module _ {s : ℕ} {y z : Year} (h : Same s y z) where
         terms = refl;
         clearings = refl;
         events = λ ev l. absurd (omega (arith, f .0));
-        tests = rw (f .2, g .2) (λ p. test-refl T s (getD (replicate 24 noTest) p pastTest));
+        tests = rw (f .2, g .2) (λ p. test-refl T s (getD (replicate 24 noTest) p noTest));
         retests = rw (f .3, g .3) (λ i n. refl);
         pays = h .pays;
         fails = h .fails;
@@ -154,7 +155,7 @@ module _ {s : ℕ} {y z : Year} (h : Same s y z) where
         clearings = h .clearings;
         events =
             rw (← (h .held))
-            (related-next (SameEvent (y .terms) s) pastEvent (y .events) (z .events) (y .held) (omega (arith, S .events .long)) (omega (arith, U .events .long)) q (h .events));
+            (related-next (SameEvent (y .terms) s) noEvent (y .events) (z .events) (y .held) (omega (arith, S .events .long)) (omega (arith, U .events .long)) q (h .events));
         tests = h .tests;
         retests = h .retests;
         pays = h .pays;
@@ -171,7 +172,7 @@ module _ {s : ℕ} {y z : Year} (h : Same s y z) where
         terms = h .terms;
         clearings = h .clearings;
         events = h .events;
-        tests = related-set (SameTest (y .terms) s) pastTest (y .tests) (z .tests) place (S .places ∙ sym (U .places)) q (h .tests);
+        tests = related-set (SameTest (y .terms) s) noTest (y .tests) (z .tests) place (S .places ∙ sym (U .places)) q (h .tests);
         retests = h .retests;
         pays = h .pays;
         fails = h .fails;

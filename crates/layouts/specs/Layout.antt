@@ -31,43 +31,30 @@ field w l h = record { width = w; low = l; high = h }
 abbrev kind : ℕ → Rule
 kind k = field 4 k k
 
--- a deficit: seller, kW; an entry: registration, reduction kW; one of two reductions: registration, on-peak kW, off-peak kW
-abbrev deficit : List Rule
-deficit = field 4 0 15 ∷ field 20 1 1000000 ∷ []
-
-abbrev entry : List Rule
-entry = field 6 0 63 ∷ field 17 0 100000 ∷ []
-
-abbrev pair : List Rule
-pair = field 6 0 63 ∷ field 17 0 100000 ∷ field 17 0 100000 ∷ []
-
-abbrev bare : List Rule → Layout
+abbrev pub bare : List Rule → Layout
 bare h = record { head = h; lists = [] }
 
--- past the last field, list and kind; a number that is no kind has an empty head
+-- past the last field and list; past the last kind, and for a number that is none, there is an empty head
 abbrev pub noRule : Rule
-noRule = record { width = 0; low = 0; high = 0 }
+noRule = field 0 0 0
 
 abbrev pub noItems : Items
 noItems = record { count = 0; fields = []; reductions = [] }
 
-abbrev pub noLayout : Layout
-noLayout = bare []
-
--- lists by the number that counts them: deficits, entries, entries of two reductions
+-- lists by the number that counts them. Deficits: seller, kW; entries: registration, reduction kW; entries of two reductions: registration, on-peak kW, off-peak kW
 abbrev deficits : ℕ → Items
-deficits n = record { count = n; fields = deficit; reductions = [] }
+deficits n = record { count = n; fields = field 4 0 15 ∷ field 20 1 1000000 ∷ []; reductions = [] }
 
 abbrev entries : ℕ → Items
-entries n = record { count = n; fields = entry; reductions = 1 ∷ [] }
+entries n = record { count = n; fields = field 6 0 63 ∷ field 17 0 100000 ∷ []; reductions = 1 ∷ [] }
 
 abbrev pairs : ℕ → Items
-pairs n = record { count = n; fields = pair; reductions = 1 ∷ 2 ∷ [] }
+pairs n = record { count = n; fields = field 6 0 63 ∷ field 17 0 100000 ∷ field 17 0 100000 ∷ []; reductions = 1 ∷ 2 ∷ [] }
 
 -- the kinds from 0 on
 abbrev pub layouts : List Layout
 layouts =
-    noLayout
+    bare []
     -- opening: leap, DR Factor, Forecast Pool Requirement
     ∷ bare (kind 1 ∷ field 1 0 1 ∷ field 14 1 12000 ∷ field 14 1 12000 ∷ [])
     -- registration: registration, seller, area, zone, product, committed kW, rate
@@ -89,7 +76,7 @@ layouts =
     ∷ []
 
 abbrev pub layoutOf : ℕ → Layout
-layoutOf k = getD layouts k noLayout
+layoutOf k = getD layouts k (bare [])
 
 abbrev pub head : ℕ → List Rule
 head k = layoutOf k .head

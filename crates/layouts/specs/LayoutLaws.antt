@@ -14,7 +14,7 @@ use Rattle.ids.specs.Tests.{and-parts}
 use Rattle.bits.specs.Table.{total, times, narrow}
 use Rattle.bits.specs.TableLaws.{total-append}
 use Rattle.bits.specs.Pack.{bytesFor}
-use Rattle.layouts.specs.Layout.{Rule, noRule, Items, noItems, Layout, noLayout, layouts, layoutOf, head, lists, listAt, itemsIn, rulesTo, rulesFor, widths, mostTo, bitsMost, numbersMost, asWritten, asPermitted, highest, longestRecord, longestPermitted, most}
+use Rattle.layouts.specs.Layout.{Rule, noRule, Items, noItems, Layout, bare, layouts, layoutOf, head, lists, listAt, itemsIn, rulesTo, rulesFor, widths, mostTo, bitsMost, numbersMost, asWritten, asPermitted, highest, longestRecord, longestPermitted, most}
 
 -- does p hold of every element
 unfoldable pub every : {A : Type 0} → (A → Bool) → List A → Bool
@@ -47,25 +47,25 @@ sound r = (leb 1 (r .width) && leb (r .width) 42) && ltb (r .high) (2 ^ r .width
 
 pub sound-heads : (k : ℕ) → every sound (head k) ≡ true
 unfolding every sound
-sound-heads k = every-at (λ l. every sound (l .head)) layouts noLayout k refl refl
+sound-heads k = every-at (λ l. every sound (l .head)) layouts (bare []) k refl refl
 
 pub sound-items : (k i : ℕ) → every sound (listAt k i .fields) ≡ true
 unfolding every sound
 sound-items k i =
-    every-at (λ x. every sound (x .fields)) (lists k) noItems i (every-at (λ l. every (λ x. every sound (x .fields)) (l .lists)) layouts noLayout k refl refl) refl
+    every-at (λ x. every sound (x .fields)) (lists k) noItems i (every-at (λ l. every (λ x. every sound (x .fields)) (l .lists)) layouts (bare []) k refl refl) refl
 
 -- a head has at most 8 fields, of at most 56 bits
 pub head-small : (k : ℕ) → (length (head k) ≤ 8) × (total (widths (head k)) ≤ 56)
 unfolding every
 head-small k =
     let small : Layout → Bool = λ l. leb (length (l .head)) 8 && leb (total (widths (l .head))) 56 in
-    let a = and-parts (leb (length (head k)) 8) (leb (total (widths (head k))) 56) (every-at small layouts noLayout k refl refl) in
+    let a = and-parts (leb (length (head k)) 8) (leb (total (widths (head k))) 56) (every-at small layouts (bare []) k refl refl) in
     (leb-true (length (head k)) 8 (a .0), leb-true (total (widths (head k))) 56 (a .1))
 
 -- a kind has at most 16 lists
 pub lists-few : (k : ℕ) → length (lists k) ≤ 16
 unfolding every
-lists-few k = leb-true (length (lists k)) 16 (every-at (λ l. leb (length (l .lists)) 16) layouts noLayout k refl refl)
+lists-few k = leb-true (length (lists k)) 16 (every-at (λ l. leb (length (l .lists)) 16) layouts (bare []) k refl refl)
 
 -- a list's count is among the head's numbers
 pub count-in : (k i : ℕ) → i < length (lists k) → listAt k i .count < length (head k)
@@ -73,7 +73,7 @@ unfolding every
 count-in k i l =
     ltb-true (listAt k i .count) (length (head k))
     (every-in (λ x. ltb (x .count) (length (head k))) (lists k) noItems i
-    (every-at (λ l. every (λ x. ltb (x .count) (length (l .head))) (l .lists)) layouts noLayout k refl refl) l)
+    (every-at (λ l. every (λ x. ltb (x .count) (length (l .head))) (l .lists)) layouts (bare []) k refl refl) l)
 
 -- an item has at least one bit, and its fields lie in eight bytes wherever it begins
 pub item-small : (k i : ℕ) → i < length (lists k) → (1 ≤ total (widths (listAt k i .fields))) × (total (widths (listAt k i .fields)) ≤ 57)
@@ -81,7 +81,7 @@ unfolding every
 item-small k i l =
     let small : Items → Bool = λ x. leb 1 (total (widths (x .fields))) && leb (total (widths (x .fields))) 57 in
     let t = total (widths (listAt k i .fields)) in
-    let a = and-parts (leb 1 t) (leb t 57) (every-in small (lists k) noItems i (every-at (λ l. every small (l .lists)) layouts noLayout k refl refl) l) in
+    let a = and-parts (leb 1 t) (leb t 57) (every-in small (lists k) noItems i (every-at (λ l. every small (l .lists)) layouts (bare []) k refl refl) l) in
     (leb-true 1 t (a .0), leb-true t 57 (a .1))
 
 pub items-count : (k : ℕ) (vs : List ℕ) (i : ℕ) → i < length (lists k) → itemsIn k vs i ≡ at vs (listAt k i .count)
@@ -174,7 +174,7 @@ module _ (limit : Rule → ℕ) (size : List Rule → ℕ) (none : size [] ≡ 0
       let more = mul-le-mul-right (size fs) (h i (omega arith)) in
       rw (adds (rulesTo k vs i) (times (itemsIn k vs i) fs), size-times (itemsIn k vs i) fs) (omega arith)
 
-highest-at : (f : Layout → ℕ) (ls : List Layout) (k : ℕ) → f noLayout ≡ 0 → f (getD ls k noLayout) ≤ highest f ls
+highest-at : (f : Layout → ℕ) (ls : List Layout) (k : ℕ) → f (bare []) ≡ 0 → f (getD ls k (bare [])) ≤ highest f ls
 unfolding highest
 highest-at f [] k e = omega arith
 highest-at f (l ∷ ls) zero e = le-max-left (f l) (highest f ls)

@@ -9,7 +9,7 @@ use lib.ListN.{length, getD, drop, length-append, length-map, List·getD-append,
 use lib.Seq.{take-at, drop-append-add, getD-append-add}
 use Rattle.ids.specs.Ids.{at}
 use Rattle.bits.specs.Table.{total}
-use Rattle.layouts.specs.Layout.{Rule, Items, noItems, noLayout, layouts, layoutOf, lists, widths}
+use Rattle.layouts.specs.Layout.{Rule, Items, noItems, bare, layouts, layoutOf, lists, widths}
 use Rattle.layouts.specs.Parts.{join, startOf, partsIn, partAt, kinds, parts, fieldsIn, rules, rowAt, Placed}
 
 -- a number that is none of those below n is at least n: the last arm of a match
@@ -72,7 +72,7 @@ module _ {A B : Type 0} (f : A → B) where
 module _ (k : ℕ) (l : k < length layouts) where
   kind-is : getD kinds k [] ≡ partsIn (layoutOf k)
   unfolding kinds
-  kind-is = getD-mapped partsIn layouts k noLayout [] l
+  kind-is = getD-mapped partsIn layouts k (bare []) [] l
 
   kind-in : k < length kinds
   unfolding kinds

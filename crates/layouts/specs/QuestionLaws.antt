@@ -1,7 +1,7 @@
 -- Laws of the questions: what a record's numbers say of it, and what each question depends on.
 use Prim.Native.Nat.{ℕ, zero, suc, _+_, _-_, _*_, _^_, _≤_, _<_}
 use mathlib.Core.Bool.{Bool, true, false, _&&_, cond}
-use mathlib.Core.List.{List, _++_}
+use mathlib.Core.List.{List, [], _++_}
 use mathlib.Core.Path.{_≡_, refl, sym, ap, _∙_}
 use native.Mathlib.Decide.{decLt}
 use native.Mathlib.Nat.{sub-zero, zero-sub, suc-sub-suc, add-zero}
@@ -16,7 +16,7 @@ use Rattle.ids.specs.Tests.{and-parts, all-same, all-at}
 use Rattle.bits.specs.BitLaws.{field-lt, field-past}
 use Rattle.bits.specs.Table.{total, fieldsAt, laid}
 use Rattle.bits.specs.TableLaws.{fields-append, fields-at, length-fields}
-use Rattle.layouts.specs.Layout.{Rule, noRule, Layout, noLayout, layouts, layoutOf, head, lists, listAt, itemsIn, rulesTo, rulesFor, placeOf, widths, sizeOf, longestRecord, longestPermitted, most}
+use Rattle.layouts.specs.Layout.{Rule, noRule, Layout, bare, layouts, layoutOf, head, lists, listAt, itemsIn, rulesTo, rulesFor, placeOf, widths, sizeOf, longestRecord, longestPermitted, most}
 use Rattle.layouts.specs.LayoutLaws.{every, every-at, count-in, items-count, width-at, widths-append, length-widths, rules-front, rules-long, rule-head, bits-most, permitted-most, numbers-most}
 use Rattle.layouts.specs.Questions.{kindOf, headOf, rulesOf, numbersOf, rulesBy, isKind, isWhole, permits, permitted, rises, idsRise, row, consumed}
 
@@ -167,8 +167,8 @@ fields-head bytes k us j l =
     let r = rules-front k us in
     rw (r .1) (fields-front bytes (head k) (r .0) j l)
 
-past-table : (k : ℕ) → length layouts ≤ k → layoutOf k ≡ noLayout
-past-table k l = List·getD-eq-default layouts noLayout l
+past-table : (k : ℕ) → length layouts ≤ k → layoutOf k ≡ (bare [])
+past-table k l = List·getD-eq-default layouts (bare []) l
 
 pub not-kind : (k : ℕ) → length layouts ≤ k → isKind k ≡ false
 unfolding isKind
@@ -185,7 +185,7 @@ pub head-kind : (k : ℕ) → isKind k ≡ true → (1 ≤ length (head k)) × (
 unfolding isKind every
 head-kind k e =
     let four : Layout → Bool = λ l. cond (ltb 0 (length (l .head))) (eqb (getD (widths (l .head)) 0 0) 4) true in
-    (ltb-true 0 (length (head k)) e, eqb-true (getD (widths (head k)) 0 0) 4 (rw e at (every-at four layouts noLayout k refl refl)))
+    (ltb-true 0 (length (head k)) e, eqb-true (getD (widths (head k)) 0 0) 4 (rw e at (every-at four layouts (bare []) k refl refl)))
 
 pub kind-at : (bytes : List ℕ) (k : ℕ) → isKind k ≡ true → at (fieldsAt bytes 0 (widths (head k))) 0 ≡ kindOf bytes
 unfolding kindOf

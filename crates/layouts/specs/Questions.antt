@@ -64,12 +64,7 @@ idsRise vs =
 -- questions 1 to 5 of a record's bytes, and the first of them that fails
 unfoldable pub recordQuestions : List ℕ → List (ℕ × Bool)
 recordQuestions bytes =
-    (1, isKind (kindOf bytes))
-    ∷ (2, isWhole bytes)
-    ∷ (3, permitted (rulesOf bytes) (numbersOf bytes))
-    ∷ (4, isFilled bytes)
-    ∷ (5, idsRise (numbersOf bytes))
-    ∷ []
+    (1, isKind (kindOf bytes)) ∷ (2, isWhole bytes) ∷ (3, permitted (rulesOf bytes) (numbersOf bytes)) ∷ (4, isFilled bytes) ∷ (5, idsRise (numbersOf bytes)) ∷ []
 
 unfoldable pub recordNumber : List ℕ → ℕ
 recordNumber bytes = firstFailed (recordQuestions bytes)

@@ -9,6 +9,7 @@ use lib.ListN.{length, replicate, length-replicate}
 use Rattle.ids.specs.Ids.{at, only}
 use Rattle.ids.specs.Sets.{getD-replicate-same}
 use Rattle.ids.specs.Tests.{cond-le}
+use Rattle.year.specs.Year as year
 use Rattle.cells.specs.Layout.{placeIn}
 use Rattle.owed.specs.Facts.{Facts}
 use Rattle.owed.specs.Owed.{lends}
@@ -21,26 +22,26 @@ use Rattle.table.specs.Rows.{Stored, Aside, Row, Grown, none, aside-none, aside
 -- registration i's cap by its own rate; what it lends: kilowatts, and what they are worth
 module _ (F : Facts) where
   abbrev pub ownCap : ℕ → ℕ
-  ownCap i = owed.unforced F (F .committed i) * owed.own F i
+  ownCap i = owed.unforced F (year.committed (F .terms) i) * owed.own F i
 
   abbrev pub lentAt : ℕ → ℕ
-  lentAt = only (lends F) (F .committed)
+  lentAt = only (lends F) (year.committed (F .terms))
 
   abbrev pub worthAt : ℕ → ℕ
-  worthAt = only (lends F) (λ i. F .committed i * owed.own F i)
+  worthAt = only (lends F) (λ i. year.committed (F .terms) i * owed.own F i)
 
 -- the first i registrations' terms, but for their rates
 pub record Entered (c : List ℕ) (i : ℕ) (w : List ℕ) : Type 0 where
   pub seller : Row w sellerRow i (facts c .seller)
-  pub product : Row w productRow i (facts c .product)
-  pub committed : Row w committedRow i (facts c .committed)
+  pub product : Row w productRow i (year.product (facts c .terms))
+  pub committed : Row w committedRow i (year.committed (facts c .terms))
   pub place : Row w placeRow i (placeIn c)
-  pub area : Row w areaRow i (facts c .area)
+  pub area : Row w areaRow i (year.area (facts c .terms))
 
 -- by area what they lend
 pub record Lending (F : Facts) (i : ℕ) (w : List ℕ) : Type 0 where
-  pub lent : Grown w lentRow 8 none (F .area) (lentAt F) i
-  pub worth : Grown w worthRow 8 none (F .area) (worthAt F) i
+  pub lent : Grown w lentRow 8 none (year.area (F .terms)) (lentAt F) i
+  pub worth : Grown w worthRow 8 none (year.area (F .terms)) (worthAt F) i
 
 -- both stand in the table, with their own rates and the caps by these, and nothing else
 pub record Begun (c : List ℕ) (i : ℕ) (w : List ℕ) : Type 0 where
@@ -58,10 +59,10 @@ begun-first c =
     let zeros : (p n : ℕ) → Row w p n none = λ p n. record { is = λ j m. getD-replicate-same {A = ℕ} size (p + j) 0 } in
     record {
       long = length-replicate {A = ℕ} size 0;
-      entered = record { seller = row-first w sellerRow (F .seller); product = row-first w productRow (F .product); committed = row-first w committedRow (F .committed); place = row-first w placeRow (placeIn c); area = row-first w areaRow (F .area) };
+      entered = record { seller = row-first w sellerRow (F .seller); product = row-first w productRow (year.product (F .terms)); committed = row-first w committedRow (year.committed (F .terms)); place = row-first w placeRow (placeIn c); area = row-first w areaRow (year.area (F .terms)) };
       own = row-first w rateRow (owed.own F);
       cap = row-first w capRow (ownCap F);
-      lending = record { lent = grown-first (F .area) (lentAt F) (zeros lentRow 8); worth = grown-first (F .area) (worthAt F) (zeros worthRow 8) };
+      lending = record { lent = grown-first (year.area (F .terms)) (lentAt F) (zeros lentRow 8); worth = grown-first (year.area (F .terms)) (worthAt F) (zeros worthRow 8) };
       fresh = zeros callsRow freshPlaces;
     }
 
@@ -69,7 +70,7 @@ begun-first c =
 pub worth-is : (F : Facts) (i : ℕ) → lentAt F i * owed.own F i ≡ worthAt F i
 worth-is F i = go (lends F i)
   where
-    go : (b : Bool) → cond b (F .committed i) 0 * owed.own F i ≡ cond b (F .committed i * owed.own F i) 0
+    go : (b : Bool) → cond b (year.committed (F .terms) i) 0 * owed.own F i ≡ cond b (year.committed (F .terms) i * owed.own F i) 0
     go true = refl
     go false = zero-mul (owed.own F i)
 
@@ -89,8 +90,8 @@ module _ {F : Facts} (L : Limits F) {i : ℕ} (b : i ≤ 64) {w : List ℕ} (h :
   worth-room = grown-most (h .worth) 0 10000000000 b (λ j l. le-refl 0) (λ j l. worth-at-le L j) a m
 
 -- one more lends
-module _ (F : Facts) {i : ℕ} {w m v : List ℕ} (l : F .area i < 8)
-    (s₁ : Stored (lentRow + F .area i) (at w (lentRow + F .area i) + lentAt F i) w m) (s₂ : Stored (worthRow + F .area i) (at m (worthRow + F .area i) + worthAt F i) m v) where
+module _ (F : Facts) (i : ℕ) {w m v : List ℕ} (l : year.area (F .terms) i < 8)
+    (s₁ : Stored (lentRow + year.area (F .terms) i) (at w (lentRow + year.area (F .terms) i) + lentAt F i) w m) (s₂ : Stored (worthRow + year.area (F .terms) i) (at m (worthRow + year.area (F .terms) i) + worthAt F i) m v) where
   pub lending-more : Lending F i w → Lending F (i + 1) v
   lending-more h =
       record {
@@ -109,9 +110,9 @@ lending-kept h s l =
 -- and its terms are entered
 pub begun-more : {c : List ℕ} {i : ℕ} {w w₀ w₁ w₂ w₃ w₄ w₅ w₆ v : List ℕ} → Begun c i w → i < 64 → let F = facts c in
     Lending F (i + 1) w₀ → Aside lentRow 16 w w₀
-    → Stored (sellerRow + i) (F .seller i) w₀ w₁ → Stored (productRow + i) (F .product i) w₁ w₂ → Stored (committedRow + i) (F .committed i) w₂ w₃
+    → Stored (sellerRow + i) (F .seller i) w₀ w₁ → Stored (productRow + i) (year.product (F .terms) i) w₁ w₂ → Stored (committedRow + i) (year.committed (F .terms) i) w₂ w₃
     → Stored (rateRow + i) (owed.own F i) w₃ w₄ → Stored (capRow + i) (ownCap F i) w₄ w₅
-    → Stored (placeRow + i) (placeIn c i) w₅ w₆ → Stored (areaRow + i) (F .area i) w₆ v → Begun c (i + 1) v
+    → Stored (placeRow + i) (placeIn c i) w₅ w₆ → Stored (areaRow + i) (year.area (F .terms) i) w₆ v → Begun c (i + 1) v
 begun-more h l n a s₁ s₂ s₃ s₄ s₅ s₆ s₇ =
     record {
       long = s₇ .long ∙ s₆ .long ∙ s₅ .long ∙ s₄ .long ∙ s₃ .long ∙ s₂ .long ∙ s₁ .long ∙ a .long ∙ h .long;

@@ -1,7 +1,7 @@
 // What the closing reads of the year: of an event its entries, one look at a time, month, period, whether it is measured apart, and deficits; a registration's own rate; the factors.
 ghost use mathlib.Core.Path.{_≡_};
 ghost use Prim.Native.Nat.{_-_, _≤_, _<_};
-ghost use Rattle.year.specs.Year.{registration};
+ghost use Rattle.year.specs.Year.{registration, deficit};
 ghost use Rattle.cells.specs.Layout.{yearIn, Held};
 ghost use Rattle.owed.specs.Owed.{oneOrThree, D, unforced, own};
 ghost use Rattle.looks.specs.Looks.{facts, lookAt};
@@ -35,7 +35,7 @@ pub fn look(year: &Cells, ev: usize, i: usize) -> Entry
 
 pub fn month_of(year: &Cells, ev: usize) -> u64
     requires { ⌜ ev < 16 ⌝ }
-    ensures { λ r. ⌜ r ≡ facts (now (year .entry)) .month ev ⌝ }
+    ensures { λ r. ⌜ r ≡ facts (now (year .entry)) .event ev .month ⌝ }
 {
     let p = cells::EVENTS + cells::EVENT * ev;
     year[p + cells::MONTH]
@@ -44,7 +44,7 @@ pub fn month_of(year: &Cells, ev: usize) -> u64
 // Is an event of period 1 or 3?
 pub fn one_or_three(year: &Cells, ev: usize) -> bool
     requires { ⌜ ev < 16 ⌝ }
-    ensures { λ r. ⌜ r ≡ oneOrThree (facts (now (year .entry)) .period ev) ⌝ }
+    ensures { λ r. ⌜ r ≡ oneOrThree (facts (now (year .entry)) .event ev .period) ⌝ }
 {
     let p = cells::EVENTS + cells::EVENT * ev;
     let period = year[p + cells::PERIOD];
@@ -54,7 +54,7 @@ pub fn one_or_three(year: &Cells, ev: usize) -> bool
 // Is off-peak measured apart in an event?
 pub fn is_apart(year: &Cells, ev: usize) -> bool
     requires { ⌜ ev < 16 ⌝ }
-    ensures { λ r. ⌜ r ≡ facts (now (year .entry)) .apart ev ⌝ }
+    ensures { λ r. ⌜ r ≡ facts (now (year .entry)) .event ev .apart ⌝ }
 {
     let p = cells::EVENTS + cells::EVENT * ev;
     year[p + cells::APART] != 0
@@ -64,7 +64,7 @@ pub fn is_apart(year: &Cells, ev: usize) -> bool
 pub fn deficit_of(year: &Cells, ev: usize, s: usize) -> Unforced
     requires { ⌜ ev < 16 ⌝ }
     requires { ⌜ s < 16 ⌝ }
-    ensures { λ r. ⌜ r .0 ≡ facts (now (year .entry)) .deficit ev s ⌝ }
+    ensures { λ r. ⌜ r .0 ≡ deficit (facts (now (year .entry)) .event ev .listing) s ⌝ }
 {
     let p = cells::EVENTS + cells::EVENT * ev;
     Unforced(year[p + (cells::DEFICITS + s)])

@@ -6,10 +6,11 @@ use native.Mathlib.Omega.{arith}
 use Rattle.ids.specs.Ids.{at, sumTo}
 use Rattle.ids.specs.Sums.{sum-same, sum-add}
 use Rattle.allotment.specs.Allot.{share}
-use Rattle.year.specs.Year.{obligation}
+use Rattle.year.specs.Year.{obligation, sellers}
+use Rattle.year.specs.Year as year
 use Rattle.cells.specs.Layout.{Held}
 use Rattle.cells.specs.Regions.{obligation-in}
-use Rattle.owed.specs.Facts.{Facts, sellers}
+use Rattle.owed.specs.Facts.{Facts}
 use Rattle.owed.specs.Owed.{compliance, test, credit, charges, credits, lse}
 use Rattle.owed_laws.specs.Limits.{limits}
 use Rattle.owed_laws.specs.Balance.{credits-le-charges}
@@ -31,7 +32,7 @@ pub record Covered (w : List ℕ) : Type 0 where
   pub credits : rowSum w creditRow ≤ rowSum w complianceRow + rowSum w testRow
 
 -- all obligations, in the year's cells
-pub obligations : (c : List ℕ) → sumTo 16 (λ j. at c (455 + j)) ≡ sumTo 16 (facts c .obligation)
+pub obligations : (c : List ℕ) → sumTo 16 (λ j. at c (455 + j)) ≡ sumTo 16 (year.obligation (facts c .terms))
 unfolding obligation
 obligations c = sum-same 16 (λ j l. sym (obligation-in c l))
 
@@ -64,9 +65,9 @@ module _ (c : List ℕ) (k : ℕ) {w : List ℕ} (x : Row w complianceRow 16 (co
         let L = limits (h .sound) in
         record { charges = omega (arith, charges-are, charges-le L k); credits = rw (charges-are, credits-are) (credits-le-charges L k) }
 
-    pub net-fits : net w * sumTo 16 (F .obligation) < 2 ^ 64
+    pub net-fits : net w * sumTo 16 (year.obligation (F .terms)) < 2 ^ 64
     net-fits = rw net-is (lse-fits (limits (h .sound)) k)
 
-  pub lses-are : (j : ℕ) → share 16 (F .obligation) (net w) j ≡ lse F k j
+  pub lses-are : (j : ℕ) → share 16 (year.obligation (F .terms)) (net w) j ≡ lse F k j
   unfolding lse
   lses-are j = rw net-is

@@ -4,6 +4,7 @@ ghost use Prim.Native.Nat.{_*_, _<_, _^_};
 ghost use lib.ListN.{length};
 ghost use Rattle.ids.specs.Ids.{sumTo};
 ghost use Rattle.allotment.specs.Allot.{share};
+ghost use Rattle.year.specs.Year.{obligation};
 ghost use Rattle.cells.specs.Layout.{Held};
 ghost use Rattle.looks.specs.Looks.{facts};
 ghost use Rattle.owed.specs.Divisions.{lseDivisions};
@@ -29,9 +30,9 @@ fn net_of(work: &Work) -> u64
 pub fn credit_lses(year: &Cells, work: &mut Work) -> u64
     requires { ⌜ Held (now year) ⌝ }
     requires { ⌜ Covered (now work) ⌝ }
-    requires { ⌜ net (now work) * sumTo 16 (facts (now year) .obligation) < 2 ^ 64 ⌝ }
+    requires { ⌜ net (now work) * sumTo 16 (obligation (facts (now year) .terms)) < 2 ^ 64 ⌝ }
     requires { ⌜ (length (now work) ≡ size) × Row (now work) lseRow 16 none ⌝ }
-    ensures credited { λ _. ⌜ Row (now (work .exit)) lseRow 16 (share 16 (facts (now (year .entry)) .obligation) (net (now (work .entry)))) ⌝ }
+    ensures credited { λ _. ⌜ Row (now (work .exit)) lseRow 16 (share 16 (obligation (facts (now (year .entry)) .terms)) (net (now (work .entry)))) ⌝ }
     ensures divisions { λ r. ⌜ r ≡ lseDivisions (facts (now (year .entry))) ⌝ }
     ensures aside { λ _. ⌜ Aside lseRow 16 (now (work .entry)) (now (work .exit)) ⌝ }
 {

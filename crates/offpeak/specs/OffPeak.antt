@@ -13,6 +13,7 @@ use Rattle.abreast.specs.Abreast.{Abreast, Shared, stepper, shared-aside, abrea
 use Rattle.allotment.specs.Stepper.{Asks}
 use Rattle.allotment.specs.Divisions.{divisions}
 use Rattle.calendar.specs.Calendar.{limited}
+use Rattle.year.specs.Year as year
 use Rattle.owed.specs.Facts.{Facts, registrations}
 use Rattle.owed.specs.Divisions.{divisionsOf, offDivisions}
 use Rattle.owed.specs.Owed.{ofSeller, unforced, measured, offShortfall, offLack, offU}
@@ -39,29 +40,29 @@ entries-aside h a l =
 -- an entry as the rules have it
 abbrev pub entryAt : Facts → ℕ → ℕ → Entry
 entryAt F ev i =
-    record { measured = measured F ev i; seller = F .seller i; lack = record { 0 = F .committed i - secondOf F ev i }; more = record { 0 = secondOf F ev i - F .committed i } }
+    record { measured = measured F ev i; seller = F .seller i; lack = record { 0 = year.committed (F .terms) i - secondOf F ev i }; more = record { 0 = secondOf F ev i - year.committed (F .terms) i } }
 
 marked : (b : Bool) → not (eqb (mark b) 0) ≡ b
 marked true = refl
 marked false = refl
 
 -- made of its parts
-pub entry-is : (F : Facts) (ev i : ℕ) {a : Bool} {l p s x y : ℕ} → a ≡ F .apart ev → l ≡ mark (F .listed ev i) → p ≡ F .product i → s ≡ F .seller i
-    → x ≡ F .committed i - secondOf F ev i → y ≡ secondOf F ev i - F .committed i
+pub entry-is : (F : Facts) (ev i : ℕ) {a : Bool} {l p s x y : ℕ} → a ≡ F .event ev .apart → l ≡ mark (year.listed (F .event ev .listing) i) → p ≡ year.product (F .terms) i → s ≡ F .seller i
+    → x ≡ year.committed (F .terms) i - secondOf F ev i → y ≡ secondOf F ev i - year.committed (F .terms) i
     → _≡_ {A = Entry} (record { measured = a && (not (eqb l 0) && not (eqb p limited)); seller = s; lack = record { 0 = x }; more = record { 0 = y } }) (entryAt F ev i)
 unfolding measured
-entry-is F ev i a l p s x y = rw (a, l, p, s, x, y, marked (F .listed ev i))
+entry-is F ev i a l p s x y = rw (a, l, p, s, x, y, marked (year.listed (F .event ev .listing) i))
 
 -- one that is measured is listed, and so its second reduction counts
-pub second-is : (F : Facts) (ev i : ℕ) → measured F ev i ≡ true → secondOf F ev i ≡ F .offPeak ev i
+pub second-is : (F : Facts) (ev i : ℕ) → measured F ev i ≡ true → secondOf F ev i ≡ year.second (F .event ev .listing) i
 unfolding measured
 second-is F ev i on =
-    let a = and-parts (F .apart ev) (F .listed ev i && not (eqb (F .product i) limited)) on in
-    rw (and-parts (F .listed ev i) (not (eqb (F .product i) limited)) (a .1) .0)
+    let a = and-parts (F .event ev .apart) (year.listed (F .event ev .listing) i && not (eqb (year.product (F .terms) i) limited)) on in
+    rw (and-parts (year.listed (F .event ev .listing) i) (not (eqb (year.product (F .terms) i) limited)) (a .1) .0)
 
 -- and it is small
 pub second-small : {F : Facts} → Limits F → (ev i : ℕ) → secondOf F ev i ≤ 100000
-second-small {F} L ev i = cond-le (F .listed ev i) (L .offPeak ev i)
+second-small {F} L ev i = cond-le (year.listed (F .event ev .listing) i) (L .offPeak ev i)
 
 -- how many places there are of the third allotment and of what is given more
 abbrev pub sumPlaces : ℕ
@@ -70,7 +71,7 @@ sumPlaces = testRow - offLackRow
 -- the sums of the measured entries, and nothing allotted yet
 pub record Weighed (F : Facts) (ev : ℕ) (w : List ℕ) : Type 0 where
   pub entries : Entries F ev w
-  pub sums : Summed F (measured F ev) (F .offPeak ev) offLackRow offMoreRow w
+  pub sums : Summed F (measured F ev) (year.second (F .event ev .listing)) offLackRow offMoreRow w
   pub fresh : Row w (offLackRow + 32) 48 none
 
 -- before entry i; w₀ is the table before the loop
@@ -78,7 +79,7 @@ pub record Weighing (F : Facts) (ev i : ℕ) (w₀ w : List ℕ) : Type 0 where
   pub upto : i ≤ 64
   pub entries : Entries F ev w
   pub aside : Aside offLackRow sumPlaces w₀ w
-  pub sums : Sums F (measured F ev) (F .offPeak ev) offLackRow offMoreRow i w
+  pub sums : Sums F (measured F ev) (year.second (F .event ev .listing)) offLackRow offMoreRow i w
   pub fresh : Row w (offLackRow + 32) 48 none
 
 pub weighing-first : {F : Facts} (ev : ℕ) {w : List ℕ} → Entries F ev w → Row w offLackRow sumPlaces none → Weighing F ev 0 w w
@@ -87,7 +88,7 @@ weighing-first {F} ev h r =
       upto = omega arith;
       entries = h;
       aside = aside-none;
-      sums = sums-first F (measured F ev) (F .offPeak ev) offLackRow offMoreRow (row-within offLackRow 16 r (omega arith) (omega arith)) (row-within offMoreRow 16 r (omega arith) (omega arith));
+      sums = sums-first F (measured F ev) (year.second (F .event ev .listing)) offLackRow offMoreRow (row-within offLackRow 16 r (omega arith) (omega arith)) (row-within offMoreRow 16 r (omega arith) (omega arith));
       fresh = row-within (offLackRow + 32) 48 r (omega arith) (omega arith);
     }
 
@@ -122,7 +123,7 @@ pub netted-first : {F : Facts} {ev : ℕ} {w : List ℕ} → Weighed F ev w → 
 netted-first {F} {ev} {w} h = record { upto = omega arith; weighed = h; shortfall = row-first w (offLackRow + 16) (offShortfall F ev) }
 
 pub netted-more : {F : Facts} {ev s lack more a : ℕ} {w v : List ℕ} → Netted F ev s w → s < 16 → lack ≡ at w (offLackRow + s) → more ≡ at w (offMoreRow + s)
-    → a ≡ unforced F (lack - more) - F .deficit ev s → Stored (offLackRow + 16 + s) a w v → Netted F ev (s + 1) v
+    → a ≡ unforced F (lack - more) - year.deficit (F .event ev .listing) s → Stored (offLackRow + 16 + s) a w v → Netted F ev (s + 1) v
 netted-more {F} {ev} {s} {v = v} h l p q f st =
     let stores : Aside offLackRow sumPlaces _ v = aside-more aside-none st (omega arith) (omega arith) in
     record {
@@ -132,7 +133,7 @@ netted-more {F} {ev} {s} {v = v} h l p q f st =
         sums = summed-kept (h .weighed .sums) st (λ x y. omega arith) (λ x y. omega arith);
         fresh = row-kept (h .weighed .fresh) st (λ x y. omega arith);
       };
-      shortfall = row-more (h .shortfall) st (f ∙ shortfall-is (h .weighed .sums) s l (F .deficit ev) p q);
+      shortfall = row-more (h .shortfall) st (f ∙ shortfall-is (h .weighed .sums) s l (year.deficit (F .event ev .listing)) p q);
     }
 
 -- the allotment may begin; no entry has its off-peak u yet
@@ -173,7 +174,7 @@ module _ {F : Facts} {ev i : ℕ} {w₀ w : List ℕ} (h : Sharing F ev i w₀ w
     pub u-asks : Asks (stepper offLackRow w (F .seller i)) (entryAt F ev i .lack .0)
     u-asks =
         abreast-asks (h .lack) (L .seller i) lack-is l
-        (omega (arith, mul-le-mul (shortfall-le L (measured F ev) (F .offPeak ev) (F .deficit ev) (F .seller i)) (ofSeller-le F (F .seller i) 100000 (lack-le L (measured F ev) (F .offPeak ev)))))
+        (omega (arith, mul-le-mul (shortfall-le L (measured F ev) (year.second (F .event ev .listing)) (year.deficit (F .event ev .listing)) (F .seller i)) (ofSeller-le F (F .seller i) 100000 (lack-le L (measured F ev) (year.second (F .event ev .listing))))))
 
     pub sharing-more : {m v : List ℕ} {u : ℕ} → Shared offLackRow (F .seller i) (entryAt F ev i .lack .0) w m u → Stored (offURow + i) u m v → Sharing F ev (i + 1) w₀ v
     unfolding offU
@@ -189,7 +190,7 @@ module _ {F : Facts} {ev i : ℕ} {w₀ w : List ℕ} (h : Sharing F ev i w₀ w
         }
 
 -- where nothing is measured apart there is no off-peak u, and nothing is divided
-module _ (F : Facts) (ev : ℕ) (off : F .apart ev ≡ false) where
+module _ (F : Facts) (ev : ℕ) (off : F .event ev .apart ≡ false) where
   unmeasured : (i : ℕ) → measured F ev i ≡ false
   unfolding measured
   unmeasured i = rw off

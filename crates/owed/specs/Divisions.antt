@@ -4,6 +4,7 @@ use mathlib.Core.Bool.{Bool, _&&_}
 use lib.Dec.{eqb, ltb}
 use Rattle.ids.specs.Ids.{sumTo, countTo}
 use Rattle.allotment.specs.Divisions.{divisions}
+use Rattle.year.specs.Year.{listed, obligation}
 use Rattle.owed.specs.Facts.{Facts, registrations, lses}
 use Rattle.owed.specs.Owed.{ofSeller, lack, more, measured, offLack, e}
 
@@ -17,10 +18,10 @@ module _ (F : Facts) where
 
   -- of u and e of seller s's entries in event ev
   abbrev pub uDivisions : ℕ → ℕ → ℕ
-  uDivisions ev = divisionsOf (F .listed ev) (lack F ev)
+  uDivisions ev = divisionsOf (listed (F .event ev .listing)) (lack F ev)
 
   abbrev pub eDivisions : ℕ → ℕ → ℕ
-  eDivisions ev = divisionsOf (F .listed ev) (more F ev)
+  eDivisions ev = divisionsOf (listed (F .event ev .listing)) (more F ev)
 
   -- and of the off-peak u of those that are measured apart
   abbrev pub offDivisions : ℕ → ℕ → ℕ
@@ -28,11 +29,11 @@ module _ (F : Facts) where
 
   -- of event ev's credits: its entries are the parties
   unfoldable pub creditDivisions : ℕ → ℕ
-  creditDivisions ev = divisions (countTo registrations (F .listed ev)) (sumTo registrations (e F ev))
+  creditDivisions ev = divisions (countTo registrations (listed (F .event ev .listing))) (sumTo registrations (e F ev))
 
   -- of what the LSEs are credited: those that are known are the parties
   abbrev pub knownLse : ℕ → Bool
-  knownLse j = ltb 0 (F .obligation j)
+  knownLse j = ltb 0 (obligation (F .terms) j)
 
   unfoldable pub lseDivisions : ℕ
-  lseDivisions = divisions (countTo lses knownLse) (sumTo lses (F .obligation))
+  lseDivisions = divisions (countTo lses knownLse) (sumTo lses (obligation (F .terms)))

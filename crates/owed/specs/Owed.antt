@@ -8,8 +8,11 @@ use Rattle.ids.specs.Ids.{sumTo, countTo, anyTo, tabulate, only, keyed}
 use Rattle.units.specs.Units.{convert}
 use Rattle.calendar.specs.Calendar.{limited, offPeak, days, due}
 use Rattle.allotment.specs.Allot.{share}
+use Rattle.year.specs.declared.Listing.{Listing}
+use Rattle.year.specs.declared.Terms.{Terms}
 use Rattle.year.specs.declared.Amounts.{Amounts}
-use Rattle.owed.specs.Facts.{Facts, registrations, sellers, lses, places}
+use Rattle.year.specs.Year.{listed, reduction, second, deficit, known, area, product, committed, fieldRate, obligation, sellers}
+use Rattle.owed.specs.Facts.{Facts, registrations, lses, places}
 
 -- a period of the daily charge's first rule
 abbrev pub oneOrThree : ℕ → Bool
@@ -24,31 +27,41 @@ unfoldable pub raised : ℕ → ℕ
 raised b = b + max (b / 5) 2000
 
 module _ (F : Facts) where
+  -- the terms; what event ev lists, and the test at place p
+  abbrev T : Terms
+  T = F .terms
+
+  abbrev inEvent : ℕ → Listing
+  inEvent ev = F .event ev .listing
+
+  abbrev inTest : ℕ → Listing
+  inTest p = F .test p .listing
+
   -- D(k)
   abbrev pub D : ℕ → ℕ
-  D k = days (F .leap) k
+  D k = days (T .leap) k
 
   -- conversion to unforced kilowatts
   unfoldable pub unforced : ℕ → ℕ
-  unforced a = convert (F .factor) (F .requirement) a
+  unforced a = convert (T .factor) (T .requirement) a
 
   -- registration i's own rate: of its clearings, where it has any, the average by kW, rounded down; else its field; 0 where it is not known
   unfoldable pub own : ℕ → ℕ
-  own = only (F .known) (λ i. cond (ltb 0 (F .clearings i)) (F .clearedValue i / F .clearedKw i) (F .fieldRate i))
+  own = only (known T) (λ i. cond (ltb 0 (F .clearings i .count)) (F .clearings i .value / F .clearings i .kw) (fieldRate T i))
 
   -- an area's rate: the average of the own rates above 0 of its registrations, by committed kW, rounded down
   abbrev pub lends : ℕ → Bool
   lends i = ltb 0 (own i)
 
   unfoldable pub ofArea : ℕ → (ℕ → ℕ) → ℕ
-  ofArea a f = sumTo registrations (keyed (F .area) f a)
+  ofArea a f = sumTo registrations (keyed (area T) f a)
 
   unfoldable pub areaRate : ℕ → ℕ
-  areaRate a = ofArea a (only lends (λ i. F .committed i * own i)) / ofArea a (only lends (F .committed))
+  areaRate a = ofArea a (only lends (λ i. committed T i * own i)) / ofArea a (only lends (committed T))
 
   -- the rate in force: its own; where that is 0, a known registration has its area's
   unfoldable pub rate : ℕ → ℕ
-  rate i = cond (F .known i && eqb (own i) 0) (areaRate (F .area i)) (own i)
+  rate i = cond (known T i && eqb (own i) 0) (areaRate (area T i)) (own i)
 
   -- what f sums up to over seller s's registrations
   unfoldable pub ofSeller : ℕ → (ℕ → ℕ) → ℕ
@@ -60,32 +73,30 @@ module _ (F : Facts) where
 
   -- is registration i listed by an event, and by how many of period 1 or 3 (n)
   unfoldable pub called : ℕ → Bool
-  called i = anyTo (F .events) (λ ev. F .listed ev i)
+  called i = anyTo (F .events) (λ ev. listed (inEvent ev) i)
 
   unfoldable pub calls : ℕ → ℕ
-  calls i = countTo (F .events) (λ ev. F .listed ev i && oneOrThree (F .period ev))
+  calls i = countTo (F .events) (λ ev. listed (inEvent ev) i && oneOrThree (F .event ev .period))
 
   -- compliance, step 1: a seller's unforced shortfall, of the entries that are picked, with their reductions and the sellers' deficits
   unfoldable pub shortfallOver : (ℕ → Bool) → (ℕ → ℕ) → (ℕ → ℕ) → ℕ → ℕ
-  shortfallOver picked reduction deficit s =
-      let net = ofSeller s (only picked (F .committed)) - ofSeller s (only picked reduction) in
-      unforced net - deficit s
+  shortfallOver picked reduction deficit s = let net = ofSeller s (only picked (committed T)) - ofSeller s (only picked reduction) in unforced net - deficit s
 
   abbrev pub shortfall : ℕ → ℕ → ℕ
-  shortfall ev = shortfallOver (F .listed ev) (F .reduction ev) (F .deficit ev)
+  shortfall ev = shortfallOver (listed (inEvent ev)) (reduction (inEvent ev)) (deficit (inEvent ev))
 
   -- what an entry lacks, max(0, c − v), and what it gives more, max(0, v − c)
   abbrev pub lackOver : (ℕ → Bool) → (ℕ → ℕ) → ℕ → ℕ
-  lackOver picked reduction = only picked (λ i. F .committed i - reduction i)
+  lackOver picked reduction = only picked (λ i. committed T i - reduction i)
 
   abbrev pub moreOver : (ℕ → Bool) → (ℕ → ℕ) → ℕ → ℕ
-  moreOver picked reduction = only picked (λ i. reduction i - F .committed i)
+  moreOver picked reduction = only picked (λ i. reduction i - committed T i)
 
   abbrev pub lack : ℕ → ℕ → ℕ
-  lack ev = lackOver (F .listed ev) (F .reduction ev)
+  lack ev = lackOver (listed (inEvent ev)) (reduction (inEvent ev))
 
   abbrev pub more : ℕ → ℕ → ℕ
-  more ev = moreOver (F .listed ev) (F .reduction ev)
+  more ev = moreOver (listed (inEvent ev)) (reduction (inEvent ev))
 
   -- step 2
   unfoldable pub u : ℕ → ℕ → ℕ
@@ -93,13 +104,13 @@ module _ (F : Facts) where
 
   -- steps 1 and 2 of what is measured off-peak apart: of all entries but Limited ones, by their second reductions, the whole deficit taken off here too
   unfoldable pub measured : ℕ → ℕ → Bool
-  measured ev i = F .apart ev && (F .listed ev i && not (eqb (F .product i) limited))
+  measured ev i = F .event ev .apart && (listed (inEvent ev) i && not (eqb (product T i) limited))
 
   abbrev pub offShortfall : ℕ → ℕ → ℕ
-  offShortfall ev = shortfallOver (measured ev) (F .offPeak ev) (F .deficit ev)
+  offShortfall ev = shortfallOver (measured ev) (second (inEvent ev)) (deficit (inEvent ev))
 
   abbrev pub offLack : ℕ → ℕ → ℕ
-  offLack ev = lackOver (measured ev) (F .offPeak ev)
+  offLack ev = lackOver (measured ev) (second (inEvent ev))
 
   unfoldable pub offU : ℕ → ℕ → ℕ
   offU ev i = shareOf (offLack ev) (offShortfall ev) i
@@ -107,20 +118,20 @@ module _ (F : Facts) where
   -- step 3 of an entry: the higher of what u and what the off-peak u comes to, of which the second is 0 where nothing is measured apart
   unfoldable pub asked : ℕ → ℕ → ℕ
   asked ev i =
-      let first = beforeCap (F .period ev) (calls i) (u ev i) (rate i) in
+      let first = beforeCap (F .event ev .period) (calls i) (u ev i) (rate i) in
       let second = beforeCap offPeak (calls i) (offU ev i) (rate i) in
       max first second
 
   -- step 4: the cap, and its rest when x of it is spent
   unfoldable pub cap : ℕ → ℕ
-  cap i = unforced (F .committed i) * rate i
+  cap i = unforced (committed T i) * rate i
 
   abbrev pub rest : ℕ → ℕ → ℕ
   rest i x = cap i - x
 
   -- the daily charge: the lesser of step 3 and the cap's rest
   unfoldable pub daily : ℕ → ℕ → ℕ → ℕ
-  daily ev x i = only (F .listed ev) (λ i. min (asked ev i) (rest i x)) i
+  daily ev x i = only (listed (inEvent ev)) (λ i. min (asked ev i) (rest i x)) i
 
   -- what the events before ev spent of the cap, due or not
   unfoldable pub spent : ℕ → ℕ → ℕ
@@ -129,15 +140,15 @@ module _ (F : Facts) where
 
   -- a seller's revenue to date
   unfoldable pub revenue : ℕ → ℕ → ℕ
-  revenue k s = ofSeller s (only (F .known) cap) * D k
+  revenue k s = ofSeller s (only (known T) cap) * D k
 
   -- step 5: the charge to date in cents
   unfoldable pub charge : ℕ → ℕ → ℕ → ℕ
-  charge k ev i = cond (leb (due (F .product i) (F .month ev)) k) (daily ev (spent ev i) i * D k / 1000) 0
+  charge k ev i = cond (leb (due (product T i) (F .event ev .month)) k) (daily ev (spent ev i) i * D k / 1000) 0
 
   -- excess credit: a seller's excess, and e
   unfoldable pub excess : ℕ → ℕ → ℕ
-  excess ev s = ofSeller s (only (F .listed ev) (F .reduction ev)) - ofSeller s (only (F .listed ev) (F .committed))
+  excess ev = let l = inEvent ev in λ s. ofSeller s (only (listed l) (reduction l)) - ofSeller s (only (listed l) (committed T))
 
   unfoldable pub e : ℕ → ℕ → ℕ
   e ev i = shareOf (more ev) (excess ev) i
@@ -147,25 +158,23 @@ module _ (F : Facts) where
   creditShare k ev i = share registrations (e ev) (sumTo registrations (charge k ev)) i
 
   unfoldable pub creditLimit : ℕ → ℕ → ℕ → ℕ
-  creditLimit k ev i =
-      let bracket = e ev i * rate i / 5 in
-      bracket * D k / 1000
+  creditLimit k ev i = let bracket = e ev i * rate i / 5 in bracket * D k / 1000
 
   unfoldable pub creditOf : ℕ → ℕ → ℕ → ℕ
   creditOf k ev i = min (creditShare k ev i) (creditLimit k ev i)
 
   -- test: the entries whose registration no event lists; an entry's reduction, the retested one, if there is one, else the first; the shortfall as in step 1, B, and the charge to date
   abbrev pub stands : ℕ → ℕ → Bool
-  stands p i = F .tested p i && not (called i)
+  stands p i = listed (inTest p) i && not (called i)
 
   unfoldable pub result : ℕ → ℕ → ℕ
-  result p i = cond (F .retested i) (F .retestReduction i) (F .testReduction p i)
+  result p i = cond (F .retest i .taken) (F .retest i .reduction) (reduction (inTest p) i)
 
   abbrev pub testShortfall : ℕ → ℕ → ℕ
-  testShortfall p = shortfallOver (stands p) (result p) (F .testDeficit p)
+  testShortfall p = shortfallOver (stands p) (result p) (deficit (inTest p))
 
   unfoldable pub B : ℕ → ℕ → ℕ
-  B p s = ofSeller s (only (stands p) (λ i. F .committed i * rate i)) / ofSeller s (only (stands p) (F .committed))
+  B p s = ofSeller s (only (stands p) (λ i. committed T i * rate i)) / ofSeller s (only (stands p) (committed T))
 
   unfoldable pub testOf : ℕ → ℕ → ℕ → ℕ
   testOf k p s = testShortfall p s * raised (B p s) * D k / 1000
@@ -187,7 +196,7 @@ module _ (F : Facts) where
   credits k = sumTo sellers (credit k)
 
   unfoldable pub lse : ℕ → ℕ → ℕ
-  lse k j = share lses (F .obligation) (charges k - credits k) j
+  lse k j = share lses (obligation T) (charges k - credits k) j
 
   unfoldable pub amounts : ℕ → Amounts
   amounts k =

@@ -6,6 +6,7 @@ use lib.Dec.{eqb}
 use borrow.Author.Tests.{eqb-true}
 use Rattle.ids.specs.Ids.{sumTo, keyed}
 use Rattle.allotment.specs.Allot.{Allotted, allotted, share, share-zero}
+use Rattle.year.specs.Year as year
 use Rattle.owed.specs.Facts.{Facts, registrations, lses}
 use Rattle.owed.specs.Owed.{shareOf, shortfall, lack, more, u, offShortfall, offLack, offU, charge, excess, e, creditShare, charges, credits, lse}
 
@@ -38,6 +39,6 @@ module _ (F : Facts) where
   unfolding creditShare
   credit-allotted k ev = allotted registrations (e F ev) _
 
-  pub lse-allotted : (k : ℕ) → Allotted lses (F .obligation) (charges F k - credits F k) (lse F k)
+  pub lse-allotted : (k : ℕ) → Allotted lses (year.obligation (F .terms)) (charges F k - credits F k) (lse F k)
   unfolding lse
-  lse-allotted k = allotted lses (F .obligation) _
+  lse-allotted k = allotted lses (year.obligation (F .terms)) _

@@ -5,7 +5,9 @@ use native.Mathlib.Omega.{arith}
 use native.Mathlib.Nat.{le-trans, min-le-left}
 use Rattle.ids.specs.Ids.{sumTo}
 use Rattle.ids.specs.Sums.{sum-add, sum-le}
-use Rattle.owed.specs.Facts.{Facts, registrations, sellers, lses}
+use Rattle.year.specs.Year.{sellers}
+use Rattle.year.specs.Year as year
+use Rattle.owed.specs.Facts.{Facts, registrations, lses}
 use Rattle.owed.specs.Owed.{ofSeller, charge, creditShare, creditLimit, creditOf, compliance, credit, test, charges, credits, lse}
 use Rattle.owed_laws.specs.Limits.{Limits}
 use Rattle.owed_laws.specs.Sellers.{sellers-events}
@@ -28,5 +30,5 @@ module _ {F : Facts} (L : Limits F) (k : ℕ) where
   unfolding charges credits credit compliance
   credits-le-charges = omega (arith, sellers-credits (F .events), sum-add sellers (compliance F k) (test F k))
 
-  pub balance : 0 < sumTo lses (F .obligation) → charges F k ≡ credits F k + sumTo lses (lse F k)
+  pub balance : 0 < sumTo lses (year.obligation (F .terms)) → charges F k ≡ credits F k + sumTo lses (lse F k)
   balance l = omega (arith, credits-le-charges, lse-allotted F k .all l)

@@ -12,6 +12,7 @@ use Rattle.ids.specs.Tests.{cond-le}
 use Rattle.units.specs.Units.{convert-scaled}
 use Rattle.calendar.specs.Calendar.{due, days-le}
 use Rattle.allotment.specs.Allot.{share-most}
+use Rattle.year.specs.Year as year
 use Rattle.owed.specs.Facts.{Facts, registrations}
 use Rattle.owed.specs.Owed.{raised, D, unforced, own, areaRate, rate, ofSeller, shareOf, shortfallOver, lackOver, moreOver, more, u, measured, offU, cap, daily, spent, charge, excess, e, creditLimit, creditOf, stands, result, testShortfall, B, testOf}
 use Rattle.owed_laws.specs.Limits.{Limits}
@@ -39,14 +40,14 @@ module _ {F : Facts} (L : Limits F) where
   more-le p h i = cond-le (p i) (omega (arith, h i))
 
   -- a seller's: what is committed, the shortfall, the excess
-  pub committed-le : (p : ℕ → Bool) (s : ℕ) → ofSeller F s (only p (F .committed)) ≤ 6400000
+  pub committed-le : (p : ℕ → Bool) (s : ℕ) → ofSeller F s (only p (year.committed (F .terms))) ≤ 6400000
   committed-le p s = ofSeller-le F s 100000 (λ i. cond-le (p i) (L .committed i))
 
   shortfall-scaled : (p : ℕ → Bool) (v d : ℕ → ℕ) (s : ℕ)
-      → shortfallOver F p v d s * 100 ≤ (ofSeller F s (only p (F .committed)) - ofSeller F s (only p v)) * 144
+      → shortfallOver F p v d s * 100 ≤ (ofSeller F s (only p (year.committed (F .terms))) - ofSeller F s (only p v)) * 144
   unfolding shortfallOver
   shortfall-scaled p v d s =
-      omega (arith, unforced-scaled (ofSeller F s (only p (F .committed)) - ofSeller F s (only p v)))
+      omega (arith, unforced-scaled (ofSeller F s (only p (year.committed (F .terms))) - ofSeller F s (only p v)))
 
   pub shortfall-le : (p : ℕ → Bool) (v d : ℕ → ℕ) (s : ℕ) → shortfallOver F p v d s ≤ 9216000
   shortfall-le p v d s = omega (arith, shortfall-scaled p v d s, committed-le p s)
@@ -67,17 +68,17 @@ module _ {F : Facts} (L : Limits F) where
 
   pub u-le : (ev i : ℕ) → u F ev i ≤ 144000
   unfolding u
-  u-le ev i = share-le (F .listed ev) (F .reduction ev) (F .deficit ev) i
+  u-le ev i = share-le (year.listed (F .event ev .listing)) (year.reduction (F .event ev .listing)) (year.deficit (F .event ev .listing)) i
 
   pub off-u-le : (ev i : ℕ) → offU F ev i ≤ 144000
   unfolding offU
-  off-u-le ev i = share-le (measured F ev) (F .offPeak ev) (F .deficit ev) i
+  off-u-le ev i = share-le (measured F ev) (year.second (F .event ev .listing)) (year.deficit (F .event ev .listing)) i
 
   pub e-le : (ev i : ℕ) → e F ev i ≤ 100000
   unfolding ofSeller
   e-le ev i =
       let s = F .seller i in
-      le-trans (rw (eq-eqb s s refl) at (e-allotted F ev s .most (excess-le ev s) i)) (more-le (F .listed ev) (L .reduction ev) i)
+      le-trans (rw (eq-eqb s s refl) at (e-allotted F ev s .most (excess-le ev s) i)) (more-le (year.listed (F .event ev .listing)) (L .reduction ev) i)
 
   -- a registration's cap, and what is spent of it
   pub cap-le : (i : ℕ) → cap F i ≤ 14400000000
@@ -86,11 +87,11 @@ module _ {F : Facts} (L : Limits F) where
 
   pub daily-le : (ev x i : ℕ) → daily F ev x i ≤ 14400000000
   unfolding daily
-  daily-le ev x i = cond-le (F .listed ev i) (omega (arith, cap-le i))
+  daily-le ev x i = cond-le (year.listed (F .event ev .listing) i) (omega (arith, cap-le i))
 
   pub charge-le : (k ev i : ℕ) → charge F k ev i ≤ 5270400000
   unfolding charge
-  charge-le k ev i = cond-le (leb (due (F .product i) (F .month ev)) k) (omega (arith, mul-le-mul (daily-le ev (spent F ev i) i) (D-le k)))
+  charge-le k ev i = cond-le (leb (due (year.product (F .terms) i) (F .event ev .month)) k) (omega (arith, mul-le-mul (daily-le ev (spent F ev i) i) (D-le k)))
 
   -- all e of an event, and what is allotted of its charges
   pub e-sum : (ev : ℕ) → sumTo registrations (e F ev) ≤ 6400000
@@ -107,30 +108,30 @@ module _ {F : Facts} (L : Limits F) where
       omega (arith, mul-le-mul h (D-le k))
 
   -- a rate is at least 1 where a registration of its area has one of its own
-  pub rate-some : (i j : ℕ) → F .known i ≡ true → F .area i ≡ F .area j → j < registrations → F .known j ≡ true → 1 ≤ own F j → 1 ≤ rate F i
+  pub rate-some : (i j : ℕ) → year.known (F .terms) i ≡ true → year.area (F .terms) i ≡ year.area (F .terms) j → j < registrations → year.known (F .terms) j ≡ true → 1 ≤ own F j → 1 ≤ rate F i
   unfolding rate
   rate-some i j here same l there lent = rw (here, same) (go (eqb (own F i) 0) refl)
     where
-      go : (b : Bool) → eqb (own F i) 0 ≡ b → 1 ≤ cond b (areaRate F (F .area j)) (own F i)
+      go : (b : Bool) → eqb (own F i) 0 ≡ b → 1 ≤ cond b (areaRate F (year.area (F .terms) j)) (own F i)
       go true e = area-rate-some F j l lent (L .some j there)
       go false e = let z = eqb-false (own F i) 0 e in omega arith
 
   -- a test's base, at most the highest rate, its rate, and its charge
   pub worth-le : (p : ℕ → Bool) (s : ℕ)
-      → ofSeller F s (only p (λ i. F .committed i * rate F i)) ≤ ofSeller F s (only p (F .committed)) * 100000
+      → ofSeller F s (only p (λ i. year.committed (F .terms) i * rate F i)) ≤ ofSeller F s (only p (year.committed (F .terms))) * 100000
   unfolding ofSeller
-  worth-le p s = worth-most registrations (F .seller) (F .committed) (rate F) p s 100000 (L .rate)
+  worth-le p s = worth-most registrations (F .seller) (year.committed (F .terms)) (rate F) p s 100000 (L .rate)
 
   pub B-le : (p s : ℕ) → B F p s ≤ 100000
   unfolding B
-  B-le p s = div-le-of-le-mul (ofSeller F s (only (stands F p) (F .committed))) (worth-le (stands F p) s)
+  B-le p s = div-le-of-le-mul (ofSeller F s (only (stands F p) (year.committed (F .terms)))) (worth-le (stands F p) s)
 
   pub raised-le : (p s : ℕ) → raised (B F p s) ≤ 120000
   unfolding raised
   raised-le p s = omega (arith, B-le p s)
 
   -- by what is committed in it
-  pub test-scaled : (k p s : ℕ) → testOf F k p s * 100000 ≤ ofSeller F s (only (stands F p) (F .committed)) * 6324480000
+  pub test-scaled : (k p s : ℕ) → testOf F k p s * 100000 ≤ ofSeller F s (only (stands F p) (year.committed (F .terms))) * 6324480000
   unfolding testOf
   test-scaled k p s =
       let a = testShortfall F p s in
@@ -138,7 +139,7 @@ module _ {F : Facts} (L : Limits F) where
         arith,
         div-mul-le-self (a * raised (B F p s) * D F k) 1000,
         mul-le-mul (mul-le-mul (le-refl a) (raised-le p s)) (D-le k),
-        shortfall-scaled (stands F p) (result F p) (F .testDeficit p) s,
+        shortfall-scaled (stands F p) (result F p) (year.deficit (F .test p .listing)) s,
       )
 
   pub test-le : (k p s : ℕ) → testOf F k p s ≤ 404766720000

@@ -8,6 +8,7 @@ use lib.Dec.{leb}
 use Rattle.ids.specs.Ids.{sumTo, only}
 use Rattle.units.specs.Units.{convert-zero}
 use Rattle.calendar.specs.Calendar.{due}
+use Rattle.year.specs.Year as year
 use Rattle.owed.specs.Facts.{Facts}
 use Rattle.owed.specs.Owed.{D, unforced, rate, ofSeller, cap, daily, spent, revenue, charge, compliance}
 use Rattle.owed_laws.specs.Limits.{Limits}
@@ -17,7 +18,7 @@ module _ (F : Facts) where
   pub spent-le : (ev i : ℕ) → spent F ev i ≤ cap F i
   unfolding spent daily
   spent-le zero i = omega arith
-  spent-le (suc ev) i = go (F .listed ev i) _ (spent-le ev i)
+  spent-le (suc ev) i = go (year.listed (F .event ev .listing) i) _ (spent-le ev i)
     where
       go : (b : Bool) (a : ℕ) {c x : ℕ} → x ≤ c → x + cond b (min a (c - x)) 0 ≤ c
       go true a h = omega arith
@@ -26,7 +27,7 @@ module _ (F : Facts) where
   module _ (k i : ℕ) where
     charge-days : (ev : ℕ) → charge F k ev i * 1000 ≤ daily F ev (spent F ev i) i * D F k
     unfolding charge
-    charge-days ev = go (leb (due (F .product i) (F .month ev)) k) (daily F ev (spent F ev i) i * D F k)
+    charge-days ev = go (leb (due (year.product (F .terms) i) (F .event ev .month)) k) (daily F ev (spent F ev i) i * D F k)
       where
         go : (b : Bool) (x : ℕ) → cond b (x / 1000) 0 * 1000 ≤ x
         go true x = div-mul-le-self x 1000
@@ -54,13 +55,13 @@ module _ (F : Facts) where
 
 module _ {F : Facts} (L : Limits F) where
   -- where there is no registration nothing is committed
-  cap-known : (i : ℕ) → cap F i ≤ only (F .known) (cap F) i
+  cap-known : (i : ℕ) → cap F i ≤ only (year.known (F .terms)) (cap F) i
   unfolding cap unforced
-  cap-known i = go (F .known i) (L .blank i)
+  cap-known i = go (year.known (F .terms) i) (L .blank i)
     where
-      go : (b : Bool) → (b ≡ false → F .committed i ≡ 0) → cap F i ≤ cond b (cap F i) 0
+      go : (b : Bool) → (b ≡ false → year.committed (F .terms) i ≡ 0) → cap F i ≤ cond b (cap F i) 0
       go true h = omega arith
-      go false h = rw (h refl, convert-zero (F .factor) (F .requirement), zero-mul (rate F i)) (omega arith)
+      go false h = rw (h refl, convert-zero (F .terms .factor) (F .terms .requirement), zero-mul (rate F i)) (omega arith)
 
   pub yearly-limit : (k s : ℕ) → compliance F k s * 1000 ≤ revenue F k s
   unfolding compliance revenue

@@ -8,32 +8,33 @@ use borrow.Author.Tests.{eqb-true}
 use Rattle.ids.specs.Ids.{sumTo, anyTo, only, keyed}
 use Rattle.ids.specs.Sums.{sum-same}
 use Rattle.ids.specs.Tests.{any-same}
+use Rattle.year.specs.Year as year
 use Rattle.owed.specs.Facts.{Facts, registrations, places}
 use Rattle.owed.specs.Owed.{unforced, rate, ofSeller, shareOf, called, calls, shortfallOver, lackOver, u, measured, offU, asked, cap, daily, spent, charge, stands, result, B, testOf, compliance, test}
 
 -- two facts that agree in what is seller r's, along the accepted events and at every test
 pub record Same (r : ℕ) (F G : Facts) : Type 0 where
-  pub leap : F .leap ≡ G .leap
-  pub factor : F .factor ≡ G .factor
-  pub requirement : F .requirement ≡ G .requirement
+  pub leap : F .terms .leap ≡ G .terms .leap
+  pub factor : F .terms .factor ≡ G .terms .factor
+  pub requirement : F .terms .requirement ≡ G .terms .requirement
   pub seller : (i : ℕ) → F .seller i ≡ G .seller i
   pub events : F .events ≡ G .events
-  pub month : (ev : ℕ) → ev < F .events → F .month ev ≡ G .month ev
-  pub period : (ev : ℕ) → ev < F .events → F .period ev ≡ G .period ev
-  pub apart : (ev : ℕ) → ev < F .events → F .apart ev ≡ G .apart ev
-  pub deficit : (ev : ℕ) → ev < F .events → F .deficit ev r ≡ G .deficit ev r
-  pub testDeficit : (p : ℕ) → F .testDeficit p r ≡ G .testDeficit p r
+  pub month : (ev : ℕ) → ev < F .events → F .event ev .month ≡ G .event ev .month
+  pub period : (ev : ℕ) → ev < F .events → F .event ev .period ≡ G .event ev .period
+  pub apart : (ev : ℕ) → ev < F .events → F .event ev .apart ≡ G .event ev .apart
+  pub deficit : (ev : ℕ) → ev < F .events → year.deficit (F .event ev .listing) r ≡ year.deficit (G .event ev .listing) r
+  pub testDeficit : (p : ℕ) → year.deficit (F .test p .listing) r ≡ year.deficit (G .test p .listing) r
   -- of its registrations
-  pub product : (i : ℕ) → F .seller i ≡ r → F .product i ≡ G .product i
-  pub committed : (i : ℕ) → F .seller i ≡ r → F .committed i ≡ G .committed i
+  pub product : (i : ℕ) → F .seller i ≡ r → year.product (F .terms) i ≡ year.product (G .terms) i
+  pub committed : (i : ℕ) → F .seller i ≡ r → year.committed (F .terms) i ≡ year.committed (G .terms) i
   pub rate : (i : ℕ) → F .seller i ≡ r → rate F i ≡ rate G i
-  pub listed : (ev : ℕ) → ev < F .events → (i : ℕ) → F .seller i ≡ r → F .listed ev i ≡ G .listed ev i
-  pub reduction : (ev : ℕ) → ev < F .events → (i : ℕ) → F .seller i ≡ r → F .reduction ev i ≡ G .reduction ev i
-  pub offPeak : (ev : ℕ) → ev < F .events → (i : ℕ) → F .seller i ≡ r → F .offPeak ev i ≡ G .offPeak ev i
-  pub tested : (p i : ℕ) → F .seller i ≡ r → F .tested p i ≡ G .tested p i
-  pub testReduction : (p i : ℕ) → F .seller i ≡ r → F .testReduction p i ≡ G .testReduction p i
-  pub retested : (i : ℕ) → F .seller i ≡ r → F .retested i ≡ G .retested i
-  pub retestReduction : (i : ℕ) → F .seller i ≡ r → F .retestReduction i ≡ G .retestReduction i
+  pub listed : (ev : ℕ) → ev < F .events → (i : ℕ) → F .seller i ≡ r → year.listed (F .event ev .listing) i ≡ year.listed (G .event ev .listing) i
+  pub reduction : (ev : ℕ) → ev < F .events → (i : ℕ) → F .seller i ≡ r → year.reduction (F .event ev .listing) i ≡ year.reduction (G .event ev .listing) i
+  pub offPeak : (ev : ℕ) → ev < F .events → (i : ℕ) → F .seller i ≡ r → year.second (F .event ev .listing) i ≡ year.second (G .event ev .listing) i
+  pub tested : (p i : ℕ) → F .seller i ≡ r → year.listed (F .test p .listing) i ≡ year.listed (G .test p .listing) i
+  pub testReduction : (p i : ℕ) → F .seller i ≡ r → year.reduction (F .test p .listing) i ≡ year.reduction (G .test p .listing) i
+  pub retested : (i : ℕ) → F .seller i ≡ r → F .retest i .taken ≡ G .retest i .taken
+  pub retestReduction : (i : ℕ) → F .seller i ≡ r → F .retest i .reduction ≡ G .retest i .reduction
 
 module _ {r : ℕ} {F G : Facts} (h : Same r F G) where
   -- equal at seller r's registrations
@@ -78,11 +79,11 @@ module _ {r : ℕ} {F G : Facts} (h : Same r F G) where
   same-called : Alike (called F) (called G)
   unfolding called
   same-called i own =
-      any-same (F .events) {q = λ ev. G .listed ev i} (λ ev l. h .listed ev l i own) ∙ ap (λ n. anyTo n (λ ev. G .listed ev i)) (h .events)
+      any-same (F .events) {q = λ ev. year.listed (G .event ev .listing) i} (λ ev l. h .listed ev l i own) ∙ ap (λ n. anyTo n (λ ev. year.listed (G .event ev .listing) i)) (h .events)
 
   same-cap : Alike (cap F) (cap G)
   unfolding cap
-  same-cap i own = cc (h .committed i own, h .rate i own, same-unforced (F .committed i))
+  same-cap i own = cc (h .committed i own, h .rate i own, same-unforced (year.committed (F .terms) i))
 
   -- shares of a shortfall, of entries that are picked alike
   same-shares : {p q : ℕ → Bool} {v w : ℕ → ℕ} (d c : ℕ → ℕ) → Alike p q → Alike v w → d r ≡ c r
@@ -93,7 +94,7 @@ module _ {r : ℕ} {F G : Facts} (h : Same r F G) where
   module _ (ev : ℕ) (l : ev < F .events) where
     same-u : Alike (u F ev) (u G ev)
     unfolding u
-    same-u = same-shares (F .deficit ev) (G .deficit ev) (h .listed ev l) (h .reduction ev l) (h .deficit ev l)
+    same-u = same-shares (year.deficit (F .event ev .listing)) (year.deficit (G .event ev .listing)) (h .listed ev l) (h .reduction ev l) (h .deficit ev l)
 
     same-measured : Alike (measured F ev) (measured G ev)
     unfolding measured
@@ -101,7 +102,7 @@ module _ {r : ℕ} {F G : Facts} (h : Same r F G) where
 
     same-off : Alike (offU F ev) (offU G ev)
     unfolding offU
-    same-off = same-shares (F .deficit ev) (G .deficit ev) same-measured (h .offPeak ev l) (h .deficit ev l)
+    same-off = same-shares (year.deficit (F .event ev .listing)) (year.deficit (G .event ev .listing)) same-measured (h .offPeak ev l) (h .deficit ev l)
 
     same-daily : (x : ℕ) → Alike (daily F ev x) (daily G ev x)
     unfolding asked daily
@@ -134,7 +135,7 @@ module _ {r : ℕ} {F G : Facts} (h : Same r F G) where
   same-B p =
       cc (
         same-seller (same-only (same-stands p) (h .committed)),
-        same-seller (same-only {f = λ i. F .committed i * rate F i} {g = λ i. G .committed i * rate G i} (same-stands p) (λ i own. cc (h .committed i own, h .rate i own))),
+        same-seller (same-only {f = λ i. year.committed (F .terms) i * rate F i} {g = λ i. year.committed (G .terms) i * rate G i} (same-stands p) (λ i own. cc (h .committed i own, h .rate i own))),
       )
 
   same-testOf : (k p : ℕ) → testOf F k p r ≡ testOf G k p r
@@ -143,7 +144,7 @@ module _ {r : ℕ} {F G : Facts} (h : Same r F G) where
       cc (
         h .leap,
         same-B p,
-        same-shortfall (F .testDeficit p) (G .testDeficit p) (same-stands p) (same-result p) (h .testDeficit p),
+        same-shortfall (year.deficit (F .test p .listing)) (year.deficit (G .test p .listing)) (same-stands p) (same-result p) (h .testDeficit p),
       )
 
   pub same-test : (k : ℕ) → test F k r ≡ test G k r

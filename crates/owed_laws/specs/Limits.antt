@@ -10,48 +10,49 @@ use lib.ListN.{length, getD}
 use borrow.Author.Tests.{lt-ltb, le-ltb, eq-eqb}
 use Rattle.ids.specs.Ids.{countTo}
 use Rattle.ids.specs.Sums.{sum-le, sum-at}
+use Rattle.ids.specs.Sets.{getD-replicate-same}
 use Rattle.year.specs.declared.Event.{Event}
 use Rattle.year.specs.declared.Test.{Test}
 use Rattle.year.specs.declared.Listing.{Listing}
 use Rattle.year.specs.declared.Year.{Year}
-use Rattle.year.specs.Year.{pastListing, pastEvent, pastTest, zone, product, obligation}
+use Rattle.year.specs.Year.{noListing, noEvent, noTest, zone, product, obligation, sellers}
 use Rattle.year.specs.Year as year
 use Rattle.year.specs.Sound.{SoundListing, AtMost, Sound}
 use Rattle.year.specs.Limits.{each-anywhere, clearings-sound, seller-below, area-below, zone-below, product-below, committed-most, committed-some, committed-blank, field-rate-most, retest-most, reduction-most, second-most}
-use Rattle.owed.specs.Facts.{Facts, factsOf, registrations, sellers, places}
+use Rattle.owed.specs.Facts.{Facts, factsOf, registrations, places}
 use Rattle.owed.specs.Owed.{own, rate, result}
 use Rattle.owed_laws.specs.Rates.{own-le, rate-le}
 
 pub record Limits (F : Facts) : Type 0 where
-  pub leap : F .leap ≤ 1
-  pub factor : F .factor ≤ 12000
-  pub requirement : F .requirement ≤ 12000
+  pub leap : F .terms .leap ≤ 1
+  pub factor : F .terms .factor ≤ 12000
+  pub requirement : F .terms .requirement ≤ 12000
   pub seller : (i : ℕ) → F .seller i < sellers
-  pub area : (i : ℕ) → F .area i < 8
-  pub product : (i : ℕ) → F .product i < 3
-  pub committed : (i : ℕ) → F .committed i ≤ 100000
+  pub area : (i : ℕ) → year.area (F .terms) i < 8
+  pub product : (i : ℕ) → year.product (F .terms) i < 3
+  pub committed : (i : ℕ) → year.committed (F .terms) i ≤ 100000
   pub own : (i : ℕ) → own F i ≤ 100000
   pub rate : (i : ℕ) → rate F i ≤ 100000
-  pub some : (i : ℕ) → F .known i ≡ true → 1 ≤ F .committed i
-  pub blank : (i : ℕ) → F .known i ≡ false → F .committed i ≡ 0
-  pub obligation : (j : ℕ) → F .obligation j ≤ 1000000
+  pub some : (i : ℕ) → year.known (F .terms) i ≡ true → 1 ≤ year.committed (F .terms) i
+  pub blank : (i : ℕ) → year.known (F .terms) i ≡ false → year.committed (F .terms) i ≡ 0
+  pub obligation : (j : ℕ) → year.obligation (F .terms) j ≤ 1000000
   pub events : F .events ≤ 16
-  pub month : (ev : ℕ) → F .month ev ≤ 12
-  pub reduction : (ev i : ℕ) → F .reduction ev i ≤ 100000
-  pub deficit : (ev s : ℕ) → F .deficit ev s ≤ 1000000
-  pub offPeak : (ev i : ℕ) → F .offPeak ev i ≤ 100000
+  pub month : (ev : ℕ) → F .event ev .month ≤ 12
+  pub reduction : (ev i : ℕ) → year.reduction (F .event ev .listing) i ≤ 100000
+  pub deficit : (ev s : ℕ) → year.deficit (F .event ev .listing) s ≤ 1000000
+  pub offPeak : (ev i : ℕ) → year.second (F .event ev .listing) i ≤ 100000
   pub result : (p i : ℕ) → result F p i ≤ 100000
-  pub testDeficit : (p s : ℕ) → F .testDeficit p s ≤ 1000000
+  pub testDeficit : (p s : ℕ) → year.deficit (F .test p .listing) s ≤ 1000000
   -- no registration is in two tests
-  pub once : (i : ℕ) → i < registrations → countTo places (λ p. F .tested p i) ≤ 1
+  pub once : (i : ℕ) → i < registrations → countTo places (λ p. year.listed (F .test p .listing) i) ≤ 1
 
 -- a registration is known just where it commits something
-pub known-is : {F : Facts} → Limits F → (i : ℕ) → F .known i ≡ ltb 0 (F .committed i)
-known-is {F} L i = go (F .known i) refl
+pub known-is : {F : Facts} → Limits F → (i : ℕ) → year.known (F .terms) i ≡ ltb 0 (year.committed (F .terms) i)
+known-is {F} L i = go (year.known (F .terms) i) refl
   where
-    go : (b : Bool) → F .known i ≡ b → b ≡ ltb 0 (F .committed i)
-    go true e = sym (lt-ltb 0 (F .committed i) (L .some i e))
-    go false e = sym (le-ltb 0 (F .committed i) (omega (arith, L .blank i e)))
+    go : (b : Bool) → year.known (F .terms) i ≡ b → b ≡ ltb 0 (year.committed (F .terms) i)
+    go true e = sym (lt-ltb 0 (year.committed (F .terms) i) (L .some i e))
+    go false e = sym (le-ltb 0 (year.committed (F .terms) i) (omega (arith, L .blank i e)))
 
 -- a listing's numbers, at every id
 record Within (l : Listing) : Type 0 where
@@ -63,35 +64,36 @@ within : {l : Listing} → SoundListing l → Within l
 unfolding year.deficit
 within h = record { reduction = reduction-most h; second = second-most h; deficit = each-anywhere (AtMost 1000000) (lit≤ tt) (h .deficits) }
 
-within-past : Within pastListing
+within-none : Within noListing
 unfolding year.reduction year.second year.deficit
-within-past = record { reduction = λ i. lit≤ tt; second = λ i. lit≤ tt; deficit = λ s. lit≤ tt }
+within-none =
+    record { reduction = λ i. rw (getD-replicate-same {A = ℕ} 64 i 0) (lit≤ tt); second = λ i. rw (getD-replicate-same {A = ℕ} 64 i 0) (lit≤ tt); deficit = λ s. rw (getD-replicate-same {A = ℕ} 16 s 0) (lit≤ tt) }
 
 -- what holds past the end and of each element holds of what is read anywhere
 everywhere : {A : Type 0} (P : A → Type 0) (d : A) (l : List A) {n : ℕ} → P d → length l ≡ n → ((k : ℕ) → k < n → P (getD l k d)) → (i : ℕ) → P (getD l i d)
 everywhere P d l h e f = each-anywhere P {d = d} h {l = l} (record { long = e; at = f })
 
 module _ {y : Year} (S : Sound y) where
-  event-within : (ev : ℕ) → Within (getD (y .events) ev pastEvent .listing)
+  event-within : (ev : ℕ) → Within (getD (y .events) ev noEvent .listing)
   event-within =
-      everywhere (λ (x : Event). Within (x .listing)) pastEvent (y .events) within-past (S .events .long) (λ k l. within (S .events .at k l .listing))
+      everywhere (λ (x : Event). Within (x .listing)) noEvent (y .events) within-none (S .events .long) (λ k l. within (S .events .at k l .listing))
 
-  test-within : (p : ℕ) → Within (getD (y .tests) p pastTest .listing)
-  test-within = everywhere (λ (x : Test). Within (x .listing)) pastTest (y .tests) within-past (S .places) (λ k l. within (S .tests k l .listing))
+  test-within : (p : ℕ) → Within (getD (y .tests) p noTest .listing)
+  test-within = everywhere (λ (x : Test). Within (x .listing)) noTest (y .tests) within-none (S .places) (λ k l. within (S .tests k l .listing))
 
-  month-most : (ev : ℕ) → getD (y .events) ev pastEvent .month ≤ 12
+  month-most : (ev : ℕ) → getD (y .events) ev noEvent .month ≤ 12
   month-most =
-      everywhere (λ (x : Event). x .month ≤ 12) pastEvent (y .events) (lit≤ tt) (S .events .long) (λ k l. S .events .at k l .month)
+      everywhere (λ (x : Event). x .month ≤ 12) noEvent (y .events) (lit≤ tt) (S .events .long) (λ k l. S .events .at k l .month)
 
   obligation-most : (j : ℕ) → obligation (y .terms) j ≤ 1000000
   unfolding obligation
   obligation-most = each-anywhere (AtMost 1000000) (lit≤ tt) (S .terms .obligations)
 
   -- a registration is in the test of its zone and product alone
-  in-one-test : (i : ℕ) → i < registrations → countTo places (λ p. factsOf y .tested p i) ≤ 1
+  in-one-test : (i : ℕ) → i < registrations → countTo places (λ p. year.listed (factsOf y .test p .listing) i) ≤ 1
   in-one-test i l =
       let own = 3 * zone (y .terms) i + product (y .terms) i in
-      le-trans (sum-le places (λ p b. go p (factsOf y .tested p i) (S .tests p b .own i l)))
+      le-trans (sum-le places (λ p b. go p (year.listed (factsOf y .test p .listing) i) (S .tests p b .own i l)))
       (le-of-eq (sum-at places own 1 (omega (arith, zone-below (S .terms) i, product-below (S .terms) i))))
     where
       go : (p : ℕ) (b : Bool) → (b ≡ true → 3 * zone (y .terms) i + product (y .terms) i ≡ p)
@@ -104,9 +106,9 @@ module _ {y : Year} (S : Sound y) where
 
   result-most : (p i : ℕ) → result (factsOf y) p i ≤ 100000
   unfolding result
-  result-most p i = go (factsOf y .retested i)
+  result-most p i = go (factsOf y .retest i .taken)
     where
-      go : (b : Bool) → cond b (factsOf y .retestReduction i) (factsOf y .testReduction p i) ≤ 100000
+      go : (b : Bool) → cond b (factsOf y .retest i .reduction) (year.reduction (factsOf y .test p .listing) i) ≤ 100000
       go true = retest-most S i
       go false = test-within p .reduction i
 

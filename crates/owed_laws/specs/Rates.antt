@@ -9,6 +9,7 @@ use borrow.Author.Tests.{ltb-true, lt-ltb, eq-eqb, ne-eqb}
 use Rattle.ids.specs.Ids.{sumTo, only, keyed}
 use Rattle.ids.specs.Sums.{sum-mul, sum-le, sum-one}
 use Rattle.ids.specs.Tests.{cond-le}
+use Rattle.year.specs.Year as year
 use Rattle.owed.specs.Facts.{Facts, registrations}
 use Rattle.owed.specs.Owed.{own, lends, ofArea, areaRate, rate}
 
@@ -38,50 +39,50 @@ module _ (n : ℕ) (key kw q : ℕ → ℕ) (p : ℕ → Bool) (k : ℕ) where
       go true true c h = omega (arith, mul-le-mul-left c (h refl))
 
 -- a registration's own
-pub own-le : (F : Facts) (i : ℕ) → F .fieldRate i ≤ 100000 → F .clearedValue i ≤ 100000 * F .clearedKw i → own F i ≤ 100000
+pub own-le : (F : Facts) (i : ℕ) → year.fieldRate (F .terms) i ≤ 100000 → F .clearings i .value ≤ 100000 * F .clearings i .kw → own F i ≤ 100000
 unfolding own
-own-le F i f v = cond-le (F .known i) (go (ltb 0 (F .clearings i)))
+own-le F i f v = cond-le (year.known (F .terms) i) (go (ltb 0 (F .clearings i .count)))
   where
-    go : (b : Bool) → cond b (F .clearedValue i / F .clearedKw i) (F .fieldRate i) ≤ 100000
-    go true = div-le-of-le-mul (F .clearedKw i) (omega (arith, v))
+    go : (b : Bool) → cond b (F .clearings i .value / F .clearings i .kw) (year.fieldRate (F .terms) i) ≤ 100000
+    go true = div-le-of-le-mul (F .clearings i .kw) (omega (arith, v))
     go false = f
 
 module _ (F : Facts) where
   area-rate-le : ((i : ℕ) → own F i ≤ 100000) → (a : ℕ) → areaRate F a ≤ 100000
   unfolding ofArea areaRate
-  area-rate-le h a = div-le-of-le-mul (ofArea F a (only (lends F) (F .committed))) (worth-most registrations (F .area) (F .committed) (own F) (lends F) a 100000 h)
+  area-rate-le h a = div-le-of-le-mul (ofArea F a (only (lends F) (year.committed (F .terms)))) (worth-most registrations (year.area (F .terms)) (year.committed (F .terms)) (own F) (lends F) a 100000 h)
 
   pub rate-le : ((i : ℕ) → own F i ≤ 100000) → (i : ℕ) → rate F i ≤ 100000
   unfolding rate
-  rate-le h i = go (F .known i && eqb (own F i) 0)
+  rate-le h i = go (year.known (F .terms) i && eqb (own F i) 0)
     where
-      go : (b : Bool) → cond b (areaRate F (F .area i)) (own F i) ≤ 100000
-      go true = area-rate-le h (F .area i)
+      go : (b : Bool) → cond b (areaRate F (year.area (F .terms) i)) (own F i) ≤ 100000
+      go true = area-rate-le h (year.area (F .terms) i)
       go false = h i
 
   -- the rate of an area where registration j lends
-  pub area-rate-some : (j : ℕ) → j < registrations → 1 ≤ own F j → 1 ≤ F .committed j → 1 ≤ areaRate F (F .area j)
+  pub area-rate-some : (j : ℕ) → j < registrations → 1 ≤ own F j → 1 ≤ year.committed (F .terms) j → 1 ≤ areaRate F (year.area (F .terms) j)
   unfolding ofArea areaRate
   area-rate-some j l lent some =
-      let a = F .area j in
-      let one : 1 ≤ ofArea F a (only (lends F) (F .committed)) =
-      omega (arith, some, rw (eq-eqb a a refl, lt-ltb 0 (own F j) lent) at (sum-one (keyed (F .area) (only (lends F) (F .committed)) a) l)) in
-      le-div-iff-mul-le one .1 (omega (arith, worth-least registrations (F .area) (F .committed) (own F) (lends F) a (λ i e. ltb-true 0 (own F i) e)))
+      let a = year.area (F .terms) j in
+      let one : 1 ≤ ofArea F a (only (lends F) (year.committed (F .terms))) =
+      omega (arith, some, rw (eq-eqb a a refl, lt-ltb 0 (own F j) lent) at (sum-one (keyed (year.area (F .terms)) (only (lends F) (year.committed (F .terms))) a) l)) in
+      le-div-iff-mul-le one .1 (omega (arith, worth-least registrations (year.area (F .terms)) (year.committed (F .terms)) (own F) (lends F) a (λ i e. ltb-true 0 (own F i) e)))
 
   -- a registration that keeps its own, and one that borrows
   module _ (i : ℕ) where
     pub rate-kept : 1 ≤ own F i → own F i ≡ rate F i
     unfolding rate
-    rate-kept h = rw (ne-eqb (own F i) 0 (λ e. omega arith)) (go (F .known i))
+    rate-kept h = rw (ne-eqb (own F i) 0 (λ e. omega arith)) (go (year.known (F .terms) i))
       where
-        go : (b : Bool) → own F i ≡ cond (b && false) (areaRate F (F .area i)) (own F i)
+        go : (b : Bool) → own F i ≡ cond (b && false) (areaRate F (year.area (F .terms) i)) (own F i)
         go true = refl
         go false = refl
 
-    pub rate-unknown : F .known i ≡ false → own F i ≡ rate F i
+    pub rate-unknown : year.known (F .terms) i ≡ false → own F i ≡ rate F i
     unfolding rate
     rate-unknown e = rw e
 
-    pub rate-borrowed : F .known i ≡ true → own F i ≡ 0 → rate F i ≡ areaRate F (F .area i)
+    pub rate-borrowed : year.known (F .terms) i ≡ true → own F i ≡ 0 → rate F i ≡ areaRate F (year.area (F .terms) i)
     unfolding rate
     rate-borrowed e z = rw (e, eq-eqb (own F i) 0 z)

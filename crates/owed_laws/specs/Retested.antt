@@ -6,6 +6,7 @@ use lib.Dec.{ltb, eqb}
 use borrow.Author.Tests.{eqb-true}
 use Rattle.ids.specs.Sums.{sum-same}
 use Rattle.ids.specs.Tests.{and-parts, any-same}
+use Rattle.year.specs.Year as year
 use Rattle.owed.specs.Facts.{Facts, registrations}
 use Rattle.owed.specs.Retests.{entryOf, failed, testedKw, failedKw, hadRetest}
 use Rattle.owed_laws.specs.Independent.{Same}
@@ -15,14 +16,14 @@ module _ {r : ℕ} {F G : Facts} (h : Same r F G) (p : ℕ) where
   unfolding entryOf
   same-entry i = rw (← (h .seller i)) (go (eqb (F .seller i) r) refl)
     where
-      go : (b : Bool) → eqb (F .seller i) r ≡ b → (F .tested p i && b) ≡ (G .tested p i && b)
+      go : (b : Bool) → eqb (F .seller i) r ≡ b → (year.listed (F .test p .listing) i && b) ≡ (year.listed (G .test p .listing) i && b)
       go true q = rw (h .tested p i (eqb-true (F .seller i) r q))
-      go false q = rw (and-false (F .tested p i), and-false (G .tested p i))
+      go false q = rw (and-false (year.listed (F .test p .listing) i), and-false (year.listed (G .test p .listing) i))
 
   -- an entry of the seller's is of its registration
   own : (i : ℕ) → entryOf F p r i ≡ true → F .seller i ≡ r
   unfolding entryOf
-  own i e = eqb-true (F .seller i) r (and-parts (F .tested p i) (eqb (F .seller i) r) e .1)
+  own i e = eqb-true (F .seller i) r (and-parts (year.listed (F .test p .listing) i) (eqb (F .seller i) r) e .1)
 
   -- tests and kilowatts of such entries
   same-and : (i : ℕ) {a b : Bool} → (F .seller i ≡ r → a ≡ b) → (entryOf F p r i && a) ≡ (entryOf G p r i && b)
@@ -36,10 +37,10 @@ module _ {r : ℕ} {F G : Facts} (h : Same r F G) (p : ℕ) where
   unfolding failed
   same-failed i = same-and i (λ o. rw (h .testReduction p i o, h .committed i o))
 
-  same-kw : {t u : Bool} (i : ℕ) → t ≡ u → (t ≡ true → F .seller i ≡ r) → cond t (F .committed i) 0 ≡ cond u (G .committed i) 0
+  same-kw : {t u : Bool} (i : ℕ) → t ≡ u → (t ≡ true → F .seller i ≡ r) → cond t (year.committed (F .terms) i) 0 ≡ cond u (year.committed (G .terms) i) 0
   same-kw {t} i e o = rw (← e) (go t refl)
     where
-      go : (b : Bool) → t ≡ b → cond b (F .committed i) 0 ≡ cond b (G .committed i) 0
+      go : (b : Bool) → t ≡ b → cond b (year.committed (F .terms) i) 0 ≡ cond b (year.committed (G .terms) i) 0
       go true q = h .committed i (o q)
       go false q = refl
 
@@ -50,7 +51,7 @@ module _ {r : ℕ} {F G : Facts} (h : Same r F G) (p : ℕ) where
   pub same-failed-kw : failedKw F p r ≡ failedKw G p r
   unfolding failedKw failed
   same-failed-kw =
-      sum-same registrations (λ i l. same-kw i (same-failed i) (λ e. own i (and-parts (entryOf F p r i) (ltb (F .testReduction p i) (F .committed i)) e .0)))
+      sum-same registrations (λ i l. same-kw i (same-failed i) (λ e. own i (and-parts (entryOf F p r i) (ltb (year.reduction (F .test p .listing) i) (year.committed (F .terms) i)) e .0)))
 
   pub same-had-retest : hadRetest F p r ≡ hadRetest G p r
   unfolding hadRetest

@@ -9,7 +9,9 @@ use Rattle.ids.specs.Tables.{length-tabulate, getD-tabulate}
 use Rattle.ids.specs.Each.{Each}
 use Rattle.allotment.specs.Allot.{one-share}
 use Rattle.year.specs.Sound.{SoundAmounts, Fits42}
-use Rattle.owed.specs.Facts.{Facts, registrations, sellers, lses, places}
+use Rattle.year.specs.Year.{sellers}
+use Rattle.year.specs.Year as year
+use Rattle.owed.specs.Facts.{Facts, registrations, lses, places}
 use Rattle.owed.specs.Owed.{ofSeller, called, charge, creditOf, stands, testOf, compliance, test, credit, charges, credits, lse, amounts}
 use Rattle.owed_laws.specs.Limits.{Limits}
 use Rattle.owed_laws.specs.Sellers.{ofSeller-mono, ofSeller-le, ofSeller-sum, sellers-sum, sellers-events}
@@ -18,8 +20,8 @@ use Rattle.owed_laws.specs.Cap.{charges-cap}
 use Rattle.owed_laws.specs.Balance.{sellers-credits}
 use Rattle.owed_laws.specs.Bounds.{D-le, cap-le, test-scaled}
 
-pub obligations-le : {F : Facts} → Limits F → sumTo lses (F .obligation) ≤ 16000000
-obligations-le {F} L = sum-bound lses 1000000 (F .obligation) (λ j l. L .obligation j)
+pub obligations-le : {F : Facts} → Limits F → sumTo lses (year.obligation (F .terms)) ≤ 16000000
+obligations-le {F} L = sum-bound lses 1000000 (year.obligation (F .terms)) (λ j l. L .obligation j)
 
 module _ {F : Facts} (L : Limits F) (k : ℕ) where
   -- compliance along the first m events: a registration's, a seller's, all sellers'
@@ -41,16 +43,16 @@ module _ {F : Facts} (L : Limits F) (k : ℕ) where
       omega (arith, sum-one {n = sellers} {i = s} f l, sellers-credits L k m, sellers-compliance m)
 
   -- no registration is in two tests, so what all tests count of a seller's commitments is at most all of them
-  stands-once : (s : ℕ) → sumTo places (λ p. ofSeller F s (only (stands F p) (F .committed))) ≤ ofSeller F s (F .committed)
+  stands-once : (s : ℕ) → sumTo places (λ p. ofSeller F s (only (stands F p) (year.committed (F .terms)))) ≤ ofSeller F s (year.committed (F .terms))
   stands-once s =
-      rw (ofSeller-sum F s places (λ p. only (stands F p) (F .committed)))
+      rw (ofSeller-sum F s places (λ p. only (stands F p) (year.committed (F .terms))))
       (ofSeller-mono F s (λ i l.
       omega (
         arith,
-        sum-le places {f = λ p. only (stands F p) (F .committed) i} {g = λ p. cond (F .tested p i) 1 0 * F .committed i}
-            (λ p m. go (F .tested p i) (not (called F i)) (F .committed i)),
-        sum-mul places (λ p. cond (F .tested p i) 1 0) (F .committed i),
-        mul-le-mul-right (F .committed i) (L .once i l),
+        sum-le places {f = λ p. only (stands F p) (year.committed (F .terms)) i} {g = λ p. cond (year.listed (F .test p .listing) i) 1 0 * year.committed (F .terms) i}
+            (λ p m. go (year.listed (F .test p .listing) i) (not (called F i)) (year.committed (F .terms) i)),
+        sum-mul places (λ p. cond (year.listed (F .test p .listing) i) 1 0) (year.committed (F .terms) i),
+        mul-le-mul-right (year.committed (F .terms) i) (L .once i l),
       )))
     where
       go : (a b : Bool) (c : ℕ) → cond (a && b) c 0 ≤ cond a 1 0 * c
@@ -58,10 +60,10 @@ module _ {F : Facts} (L : Limits F) (k : ℕ) where
       go true false c = omega arith
       go false b c = omega arith
 
-  tests-scaled : (s : ℕ) → test F k s * 100000 ≤ ofSeller F s (F .committed) * 6324480000
+  tests-scaled : (s : ℕ) → test F k s * 100000 ≤ ofSeller F s (year.committed (F .terms)) * 6324480000
   unfolding test
   tests-scaled s =
-      let c : ℕ → ℕ = λ p. ofSeller F s (only (stands F p) (F .committed)) in
+      let c : ℕ → ℕ = λ p. ofSeller F s (only (stands F p) (year.committed (F .terms))) in
       omega (
         arith,
         sum-mul places (λ p. testOf F k p s) 100000,
@@ -78,14 +80,14 @@ module _ {F : Facts} (L : Limits F) (k : ℕ) where
 
   sellers-test : sumTo sellers (test F k) ≤ 404766720000
   sellers-test =
-      let c : ℕ → ℕ = λ s. ofSeller F s (F .committed) in
+      let c : ℕ → ℕ = λ s. ofSeller F s (year.committed (F .terms)) in
       omega (
         arith,
         sum-mul sellers (test F k) 100000,
         sum-le sellers {f = λ s. test F k s * 100000} {g = λ s. c s * 6324480000} (λ s l. tests-scaled s),
         sum-mul sellers c 6324480000,
-        sellers-sum L (F .committed),
-        sum-bound registrations 100000 (F .committed) (λ i l. L .committed i),
+        sellers-sum L (year.committed (F .terms)),
+        sum-bound registrations 100000 (year.committed (F .terms)) (λ i l. L .committed i),
       )
 
   -- all charges
@@ -112,7 +114,7 @@ module _ {F : Facts} (L : Limits F) (k : ℕ) where
       }
 
   -- what is left for the LSEs, allotted
-  pub lse-fits : (charges F k - credits F k) * sumTo lses (F .obligation) < 2 ^ 64
+  pub lse-fits : (charges F k - credits F k) * sumTo lses (year.obligation (F .terms)) < 2 ^ 64
   lse-fits =
       let h : charges F k - credits F k ≤ 742072320000 = omega (arith, charges-le) in
       omega (arith, mul-le-mul h (obligations-le L))

@@ -9,6 +9,7 @@ use Rattle.ids.specs.Ids.{keyed}
 use Rattle.ids.specs.Tests.{cond-le}
 use Rattle.calendar.specs.Calendar.{offPeak, due}
 use Rattle.allotment.specs.Allot.{share-zero}
+use Rattle.year.specs.Year as year
 use Rattle.owed.specs.Facts.{Facts, registrations}
 use Rattle.owed.specs.Owed.{oneOrThree, beforeCap, D, rate, shareOf, calls, lack, more, shortfall, excess, u, measured, offLack, offShortfall, offU, asked, daily, spent, charge, e, creditShare, creditLimit, creditOf}
 
@@ -24,14 +25,14 @@ pub off-none : (F : Facts) (ev i : ℕ) → measured F ev i ≡ false → offU F
 unfolding offU
 off-none F ev i e = share-none F (offLack F ev) (offShortfall F ev) i (rw e)
 
-module _ (F : Facts) (ev i : ℕ) (no : F .listed ev i ≡ false) where
+module _ (F : Facts) (ev i : ℕ) (no : year.listed (F .event ev .listing) i ≡ false) where
   pub u-unlisted : u F ev i ≡ 0
   unfolding u
   u-unlisted = share-none F (lack F ev) (shortfall F ev) i (rw no)
 
   pub off-unlisted : offU F ev i ≡ 0
   unfolding measured
-  off-unlisted = off-none F ev i (rw no (and-false (F .apart ev)))
+  off-unlisted = off-none F ev i (rw no (and-false (F .event ev .apart)))
 
   pub e-unlisted : e F ev i ≡ 0
   unfolding e
@@ -50,14 +51,14 @@ module _ (F : Facts) (ev i : ℕ) (none : u F ev i ≡ 0) (off : offU F ev i ≡
   pub daily-none : (x : ℕ) → daily F ev x i ≡ 0
   unfolding asked daily
   daily-none x =
-      let z : beforeCap (F .period ev) (calls F i) (u F ev i) (rate F i) ≡ 0 = rw none (nothing-asked (F .period ev) (calls F i) (rate F i)) in
+      let z : beforeCap (F .event ev .period) (calls F i) (u F ev i) (rate F i) ≡ 0 = rw none (nothing-asked (F .event ev .period) (calls F i) (rate F i)) in
       let y : beforeCap offPeak (calls F i) (offU F ev i) (rate F i) ≡ 0 = rw off (nothing-asked offPeak (calls F i) (rate F i)) in
-      let le : daily F ev x i ≤ 0 = cond-le (F .listed ev i) (omega arith) in
+      let le : daily F ev x i ≤ 0 = cond-le (year.listed (F .event ev .listing) i) (omega arith) in
       omega arith
 
   pub charge-none : (k : ℕ) → charge F k ev i ≡ 0
   unfolding charge
   charge-none k =
       let z : daily F ev (spent F ev i) i * D F k / 1000 ≡ 0 = rw (daily-none (spent F ev i), zero-mul (D F k)) in
-      let le : charge F k ev i ≤ 0 = cond-le (leb (due (F .product i) (F .month ev)) k) (omega arith) in
+      let le : charge F k ev i ≤ 0 = cond-le (leb (due (year.product (F .terms) i) (F .event ev .month)) k) (omega arith) in
       omega arith

@@ -13,7 +13,7 @@ use Rattle.ids.specs.Each.{each-replicate}
 use Rattle.year.specs.declared.Listing.{Listing}
 use Rattle.year.specs.declared.Test as test
 use Rattle.year.specs.declared.Year.{Year}
-use Rattle.year.specs.Year.{clearingsOf, seller, noTest, pastTest, testPlace}
+use Rattle.year.specs.Year.{clearingsOf, seller, noTest, testPlace}
 use Rattle.year.specs.Sound.{Sound}
 use Rattle.year.specs.Limits.{each-anywhere}
 use Rattle.heads.specs.declared.EventHead.{EventHead}
@@ -76,7 +76,7 @@ module _ {rule : ℕ → ℕ → Bool} {y : Year} {l : Listing} {room : ℕ} whe
   unfolding q10
   test-group {t} a = and-parts (everyListed (y .terms) l (inGroup (y .terms) (t .zone) (t .product))) (deficitsListed (y .terms) l) (a .ten) .0
 
-  pub test-free : {t : TestHead} → Admitted rule y (record { head = Test t; listing = l }) room → getD (y .tests) (testPlace (t .zone) (t .product)) pastTest .taken ≡ false
+  pub test-free : {t : TestHead} → Admitted rule y (record { head = Test t; listing = l }) room → getD (y .tests) (testPlace (t .zone) (t .product)) noTest .taken ≡ false
   unfolding q13
   test-free a = not-true _ (a .thirteen)
 
@@ -87,9 +87,9 @@ module _ {rule : ℕ → ℕ → Bool} {y : Year} {l : Listing} {room : ℕ} whe
     retest-own =
         and-parts (everyListed (y .terms) l (inGroup (y .terms) (t .zone) (t .product))) (everyListed (y .terms) l (λ i. eqb (seller (y .terms) i) (t .seller))) (a .ten) .1
 
-    pub retest-tested : getD (y .tests) (testPlace (t .zone) (t .product)) pastTest .taken ≡ true
+    pub retest-tested : getD (y .tests) (testPlace (t .zone) (t .product)) noTest .taken ≡ true
     unfolding q20
-    retest-tested = and-parts (getD (y .tests) (testPlace (t .zone) (t .product)) pastTest .taken) _ (a .twenty) .0
+    retest-tested = and-parts (getD (y .tests) (testPlace (t .zone) (t .product)) noTest .taken) _ (a .twenty) .0
 
     pub retest-started : Sound y → y .started ≡ true
     retest-started S = go (y .started) refl
@@ -97,7 +97,7 @@ module _ {rule : ℕ → ℕ → Bool} {y : Year} {l : Listing} {room : ℕ} whe
         go : (b : Bool) → y .started ≡ b → b ≡ true
         go true e = refl
         go false e =
-            let blank = each-anywhere (λ (x : test.Test). x .taken ≡ false) {d = pastTest} refl (each-replicate (λ (x : test.Test). x .taken ≡ false) pastTest 24 {v = noTest} refl) (testPlace (t .zone) (t .product)) in
+            let blank = each-anywhere (λ (x : test.Test). x .taken ≡ false) {d = noTest} refl (each-replicate (λ (x : test.Test). x .taken ≡ false) noTest 24 {v = noTest} refl) (testPlace (t .zone) (t .product)) in
             absurd (let z : _≡_ {A = ℕ} 0 1 = cc (retest-tested, S .fresh e .2, blank) in omega arith)
 
   pub clearings-few : {c : ClearingHead} → Admitted rule y (record { head = Clearing c; listing = l }) room → clearingsOf y (c .registration) .count < 4

@@ -10,7 +10,7 @@ use Rattle.year.specs.declared.Listing.{Listing}
 use Rattle.year.specs.declared.Test.{Test}
 use Rattle.year.specs.declared.Terms.{Terms}
 use Rattle.year.specs.declared.Year.{Year}
-use Rattle.year.specs.Year.{clearingsOf, known, seller, product, obligation, size, lses, pastTest, testPlace}
+use Rattle.year.specs.Year.{clearingsOf, known, seller, product, obligation, size, lses, noTest, testPlace}
 use Rattle.owed.specs.Facts.{factsOf}
 use Rattle.owed.specs.Owed.{called}
 use Rattle.owed.specs.Retests.{belowQuarter, failed, testedKw, failedKw, hadRetest}
@@ -43,7 +43,7 @@ module _ (y : Year) where
 
   -- the test of a zone and product
   abbrev testOf : ℕ → ℕ → Test
-  testOf z p = getD (y .tests) (testPlace z p) pastTest
+  testOf z p = getD (y .tests) (testPlace z p) noTest
 
   -- for an opening: is there no year? For others: is there one, with month 15 not closed?
   unfoldable pub q6 : Head → Bool
@@ -117,18 +117,5 @@ unfoldable pub questions : (ℕ → ℕ → Bool) → Year → Record → ℕ �
 questions rule y r room =
     let h = r .head in
     let l = r .listing in
-    (6, q6 y h)
-    ∷ (7, q7 y h)
-    ∷ (8, q8 y h)
-    ∷ (9, q9 y h)
-    ∷ (10, q10 y l h)
-    ∷ (17, q17 y h)
-    ∷ (11, q11 y rule l h)
-    ∷ (20, q20 y h)
-    ∷ (21, q21 y l h)
-    ∷ (12, q12 y h)
-    ∷ (13, q13 y h)
-    ∷ (14, q14 y l h)
-    ∷ (15, q15 y h)
-    ∷ (16, q16 room h)
-    ∷ []
+    (6, q6 y h) ∷ (7, q7 y h) ∷ (8, q8 y h) ∷ (9, q9 y h) ∷ (10, q10 y l h) ∷ (17, q17 y h) ∷ (11, q11 y rule l h) ∷ (20, q20 y h) ∷ (21, q21 y l h)
+    ∷ (12, q12 y h) ∷ (13, q13 y h) ∷ (14, q14 y l h) ∷ (15, q15 y h) ∷ (16, q16 room h) ∷ []

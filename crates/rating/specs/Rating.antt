@@ -6,6 +6,7 @@ use native.Mathlib.Omega.{arith}
 use native.Mathlib.Nat.{zero-add}
 use lib.ListN.{length}
 use Rattle.ids.specs.Ids.{at}
+use Rattle.year.specs.Year as year
 use Rattle.cells.specs.Layout.{placeIn}
 use Rattle.cells.specs.Rows.{Off}
 use Rattle.owed.specs.Owed.{ofArea, areaRate}
@@ -75,7 +76,7 @@ rating-none {c} {i = i} h l e =
       long = h .long;
       entered = h .entered;
       rate = renewed-none (h .rate) l e;
-      cap = renewed-none (h .cap) l (ap (λ q. owed.unforced (facts c) (facts c .committed i) * q) e);
+      cap = renewed-none (h .cap) l (ap (λ q. owed.unforced (facts c) (year.committed (facts c .terms) i) * q) e);
       areas = h .areas;
       fresh = h .fresh;
     }

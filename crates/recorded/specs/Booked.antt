@@ -10,7 +10,7 @@ use Rattle.year.specs.declared.Listing.{Listing}
 use Rattle.year.specs.declared.Event.{Event}
 use Rattle.year.specs.declared.Amounts.{Amounts}
 use Rattle.year.specs.declared.Year.{Year}
-use Rattle.year.specs.Year.{newYear, noClearings, noEvent, noRetest, noAmounts, pastEvent, listed, reduction, second, deficit}
+use Rattle.year.specs.Year.{newYear, noClearings, noEvent, noRetest, noAmounts, listed}
 use Rattle.year.specs.Steps.{clearedBy, retestBy}
 use Rattle.owed.specs.Facts.{registrations, factsOf}
 use Rattle.owed.specs.Owed.{amounts}
@@ -21,12 +21,12 @@ use Rattle.heads.specs.declared.Head.the-variants as head
 use Rattle.heads.specs.Record.{Record, forClose}
 use Rattle.heads.specs.Events.{eventOf}
 use Rattle.recorded.specs.After.{yearBy}
-use Rattle.recorded.specs.Recorded.{gather, lastOr, sumOver, summed, clearingFor, event, retestFor, termsIn, clearingsIn, eventsIn, testsIn, retestsIn, factsIn, recorded}
+use Rattle.recorded.specs.Recorded.{gather, lastOr, sumOver, summed, clearingFor, event, retestFor, termsIn, clearingsIn, eventsIn, testsIn, retestsIn, recorded}
 use Rattle.recorded.specs.Gathered.{gather-more, some-more, last-more, last-alone, set-table, set-changed, over-table, set-filled, sum-more, length-more}
 
 -- the amounts to date at a close, by the records before it, and at each close among records
 abbrev billedAt : List Record → Record → List Amounts
-billedAt before r = forClose (λ c. amounts (factsIn before) (c .month) ∷ []) (λ h. []) (r .head)
+billedAt before r = forClose (λ c. amounts (factsOf (recorded before)) (c .month) ∷ []) (λ h. []) (r .head)
 
 unfoldable pub billedIn : List Record → List Record → List Amounts
 billedIn before [] = []
@@ -57,29 +57,16 @@ booked rs =
     }
 
 -- the places behind the events say nothing
-module _ {X : Type 0} (f : Event → X) (blank : f noEvent ≡ f pastEvent) where
-  behind : (n ev : ℕ) → f (getD (replicate n noEvent) ev pastEvent) ≡ f pastEvent
-  behind zero ev = refl
-  behind (suc n) zero = blank
-  behind (suc n) (suc ev) = behind n ev
+padded : (es : List Event) (n ev : ℕ) → getD (es ++ replicate n noEvent) ev noEvent ≡ getD es ev noEvent
+padded [] n ev = getD-replicate-same n ev noEvent
+padded (x ∷ es) n zero = refl
+padded (x ∷ es) n (suc ev) = padded es n ev
 
-  padded : (es : List Event) (n ev : ℕ) → f (getD (es ++ replicate n noEvent) ev pastEvent) ≡ f (getD es ev pastEvent)
-  padded [] n ev = behind n ev
-  padded (x ∷ es) n zero = refl
-  padded (x ∷ es) n (suc ev) = padded es n ev
-
-pub facts-booked : (rs : List Record) → factsOf (booked rs) ≡ factsIn rs
-unfolding booked recorded listed reduction second deficit
+pub facts-booked : (rs : List Record) → factsOf (booked rs) ≡ factsOf (recorded rs)
+unfolding booked recorded
 facts-booked rs =
     let es = eventsIn rs in
-    let n = 16 - length es in
-    let month = fun-ext (padded (λ e. e .month) refl es n) in
-    let period = fun-ext (padded (λ e. e .period) refl es n) in
-    let listed = fun-ext (padded (λ e. listed (e .listing)) (fun-ext (λ i. getD-replicate-same 64 i false)) es n) in
-    let reduction = fun-ext (padded (λ e. reduction (e .listing)) (fun-ext (λ i. getD-replicate-same 64 i 0)) es n) in
-    let apart = fun-ext (padded (λ e. e .apart) refl es n) in
-    let second = fun-ext (padded (λ e. second (e .listing)) (fun-ext (λ i. getD-replicate-same 64 i 0)) es n) in
-    let deficit = fun-ext (padded (λ e. deficit (e .listing)) (fun-ext (λ s. getD-replicate-same 16 s 0)) es n) in
+    let event = fun-ext (padded es (16 - length es)) in
     cc
 
 -- one clearing more, if it is the registration's

@@ -14,7 +14,7 @@ use Rattle.year.specs.declared.Terms.{Terms}
 use Rattle.year.specs.declared.Year.{Year}
 use Rattle.year.specs.Year.{noRegistration, noTest, noRetest, noAmounts, testPlace, listed}
 use Rattle.year.specs.Steps.{retestBy}
-use Rattle.owed.specs.Facts.{Facts, registrations, lses, places, factsOf}
+use Rattle.owed.specs.Facts.{registrations, lses, places}
 use Rattle.heads.specs.declared.OpeningHead.{OpeningHead}
 use Rattle.heads.specs.declared.CloseHead.{CloseHead}
 use Rattle.heads.specs.declared.ClearingHead.{ClearingHead}
@@ -122,7 +122,3 @@ module _ (rs : List Record) where
         retests = retestsIn;
         billed = noAmounts;
       }
-
-  -- what the rules read of it
-  abbrev pub factsIn : Facts
-  factsIn = factsOf recorded

@@ -1,7 +1,7 @@
 -- Laws of reductions: each number behind the head is one field of one item, and a reduction is a field that the row calls so.
 use Prim.Native.Nat.{ℕ, zero, suc, _+_, _-_, _*_, _≤_, _<_}
 use mathlib.Core.Bool.{Bool, true, _&&_}
-use mathlib.Core.List.{List}
+use mathlib.Core.List.{List, []}
 use mathlib.Core.Path.{_≡_, refl}
 use native.Mathlib.Decide.{decLt}
 use native.Mathlib.Nat.{zero-add, add-zero, add-suc, add-assoc, suc-mul, mul-le-mul-right}
@@ -12,7 +12,7 @@ use lib.Dec.{leb, ltb, eqb}
 use lib.ListN.{length, getD}
 use Rattle.ids.specs.Ids.{at, anyTo}
 use Rattle.ids.specs.Tests.{and-parts, any-some}
-use Rattle.layouts.specs.Layout.{noRule, Items, noItems, noLayout, layouts, head, lists, listAt, itemsIn, rulesTo, rulesFor, placeOf, itemAt}
+use Rattle.layouts.specs.Layout.{noRule, Items, noItems, bare, layouts, head, lists, listAt, itemsIn, rulesTo, rulesFor, placeOf, itemAt}
 use Rattle.layouts.specs.LayoutLaws.{every, every-at, every-in}
 use Rattle.layouts.specs.ListLaws.{length-list, rule-item}
 use Rattle.reductions.specs.Reductions.{reducesIn, isReduction}
@@ -80,7 +80,7 @@ unfolding every
 reduction-rule k i r l h =
     let x = listAt k i in
     let f = at (x .reductions) r in
-    let table = every-at (λ l. every (λ x. every (reduces x) (x .reductions)) (l .lists)) layouts noLayout k refl refl in
+    let table = every-at (λ l. every (λ x. every (reduces x) (x .reductions)) (l .lists)) layouts (bare []) k refl refl in
     let row = every-in (λ x. every (reduces x) (x .reductions)) (lists k) noItems i table l in
     let a = and-parts (leb 1 f && ltb f (length (x .fields))) (eqb ((getD (x .fields) f noRule) .low) 0 && eqb ((getD (x .fields) f noRule) .high) 100000) (every-in (reduces x) (x .reductions) 0 r row h) in
     let b = and-parts (leb 1 f) (ltb f (length (x .fields))) (a .0) in

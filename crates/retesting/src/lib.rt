@@ -6,7 +6,7 @@ ghost use lib.Dec.{leb, eqb};
 ghost use lib.ListN.{length, getD};
 ghost use Rattle.ids.specs.Ids.{at};
 ghost use Rattle.layouts.specs.Questions.{firstFailed};
-ghost use Rattle.year.specs.Year.{seller, pastTest, testPlace};
+ghost use Rattle.year.specs.Year.{seller, noTest, testPlace};
 ghost use Rattle.owed.specs.Facts.{factsOf};
 ghost use Rattle.owed.specs.Retests.{belowQuarter, testedKw, failedKw, hadRetest};
 ghost use Rattle.cells.specs.Layout.{listingAt, yearIn, Held};
@@ -48,7 +48,7 @@ fn lists_own(year: &Cells, t: RetestHead, listing: &[u64]) -> bool
 fn in_time(year: &Cells, t: RetestHead) -> bool
     requires { ⌜ Held (now year) ⌝ }
     requires { ⌜ GroupWithin (t .zone) (t .product) ⌝ }
-    ensures { λ r. ⌜ r ≡ (let y = yearIn (now (year .entry)) in let test = getD (y .tests) (testPlace (t .zone) (t .product)) pastTest in mayTest (y .closed) (t .product) (t .month) && (not (test .taken) || leb (test .month) (t .month))) ⌝ }
+    ensures { λ r. ⌜ r ≡ (let y = yearIn (now (year .entry)) in let test = getD (y .tests) (testPlace (t .zone) (t .product)) noTest in mayTest (y .closed) (t .product) (t .month) && (not (test .taken) || leb (test .month) (t .month))) ⌝ }
 {
     if !may_test(year, t.product, t.month) {
         return false;
@@ -73,7 +73,7 @@ fn below_quarter(failed: Nominated, tested: Nominated) -> bool
 fn may_retest(year: &Cells, t: RetestHead) -> bool
     requires { ⌜ Held (now year) ⌝ }
     requires { ⌜ GroupWithin (t .zone) (t .product) ⌝ }
-    ensures { λ r. ⌜ r ≡ (let y = yearIn (now (year .entry)) in let p = testPlace (t .zone) (t .product) in getD (y .tests) p pastTest .taken && (not (hadRetest (factsOf y) p (t .seller)) && belowQuarter (failedKw (factsOf y) p (t .seller)) (testedKw (factsOf y) p (t .seller)))) ⌝ }
+    ensures { λ r. ⌜ r ≡ (let y = yearIn (now (year .entry)) in let p = testPlace (t .zone) (t .product) in getD (y .tests) p noTest .taken && (not (hadRetest (factsOf y) p (t .seller)) && belowQuarter (failedKw (factsOf y) p (t .seller)) (testedKw (factsOf y) p (t .seller)))) ⌝ }
 {
     let place = place_of(t);
     if !cells::test_taken(year, place as usize) {

@@ -11,7 +11,7 @@ use Rattle.owed.specs.Facts.{factsOf}
 use Rattle.owed.specs.Retests.{hadRetest}
 use Rattle.heads.specs.Record.{Record}
 use Rattle.recorded.specs.After.{yearWith}
-use Rattle.recorded.specs.Recorded.{gather, alone, factsIn}
+use Rattle.recorded.specs.Recorded.{gather, alone, recorded}
 use Rattle.recorded.specs.Gathered.{gather-more, some-more}
 use Rattle.recorded.specs.Booked.{facts-booked}
 use Rattle.book.specs.Outcome.{recordIn}
@@ -58,7 +58,7 @@ had-run {y} {rs} h (c ∷ cs) =
     let new = recordFrom (shown y c) in
     rw (append-assoc rs new (acceptedIn (answers (step y c) cs))) at (had-run (had-step h c) cs)
 
-pub had-retest : (cs : List Call) (p s : ℕ) → let rs = acceptedIn (answers newYear cs) in hadRetest (factsIn rs) p s ≡ anyRetest p s rs
+pub had-retest : (cs : List Call) (p s : ℕ) → let rs = acceptedIn (answers newYear cs) in hadRetest (factsOf (recorded rs)) p s ≡ anyRetest p s rs
 unfolding gather
 had-retest cs p s =
     let none = blank (kept-new .sound) refl in

@@ -14,13 +14,15 @@ use Rattle.ids.specs.Each.{each-replicate}
 use Rattle.ids.specs.Sums.{sum-zero}
 use Rattle.ids.specs.Tests.{and-parts, any-same, any-at, any-some, none-at, all-at}
 use Rattle.ids.specs.Tables.{getD-tabulate}
+use Rattle.ids.specs.Sets.{getD-replicate-same}
 use Rattle.year.specs.declared.Listing.{Listing}
 use Rattle.year.specs.declared.Retest.{Retest}
 use Rattle.year.specs.declared.Year.{Year}
-use Rattle.year.specs.Year.{noRetest, pastTest, retestOf, listed, zone, product, size, testPlace}
+use Rattle.year.specs.Year.{noRetest, noTest, retestOf, listed, zone, product, size, testPlace}
 use Rattle.year.specs.Steps.{withTerms, retestBy}
 use Rattle.year.specs.Sound.{Sound}
 use Rattle.year.specs.Limits.{each-anywhere, size-is}
+use Rattle.year.specs.Year as year
 use Rattle.owed.specs.Facts.{Facts, factsOf, registrations}
 use Rattle.owed.specs.Retests.{belowQuarter, entryOf, failed, testedKw, failedKw, hadRetest}
 use Rattle.heads.specs.declared.Head.{Head}
@@ -63,22 +65,22 @@ abbrev placed : Year → ℕ → ℕ
 placed y i = testPlace (zone (y .terms) i) (product (y .terms) i)
 
 abbrev pub InTest : Year → Type 0
-InTest y = (i : ℕ) → i < 64 → retestOf y i .taken ≡ true → factsOf y .tested (placed y i) i ≡ true
+InTest y = (i : ℕ) → i < 64 → retestOf y i .taken ≡ true → year.listed (factsOf y .test (placed y i) .listing) i ≡ true
 
 -- a test lists registrations of its place alone
-own-place : {y : Year} → Sound y → (p i : ℕ) → i < 64 → factsOf y .tested p i ≡ true → placed y i ≡ p
+own-place : {y : Year} → Sound y → (p i : ℕ) → i < 64 → year.listed (factsOf y .test p .listing) i ≡ true → placed y i ≡ p
 unfolding listed
 own-place {y} S p i l e = elim (decLt p 24) [
   | yes b ↦ S .tests p b .own i l e
-  | no b ↦ never refl (rw (List·getD-eq-default (y .tests) pastTest {n = p} (omega (arith, S .places))) at e)
+  | no b ↦ never (getD-replicate-same 64 i false) (rw (List·getD-eq-default (y .tests) noTest {n = p} (omega (arith, S .places))) at e)
 ]
 
 -- one that is not taken lists none
-not-listed : {y : Year} → Sound y → (p i : ℕ) → i < 64 → getD (y .tests) p pastTest .taken ≡ false → factsOf y .tested p i ≡ false
+not-listed : {y : Year} → Sound y → (p i : ℕ) → i < 64 → getD (y .tests) p noTest .taken ≡ false → year.listed (factsOf y .test p .listing) i ≡ false
 unfolding listed
 not-listed {y} S p i l e = elim (decLt p 24) [
   | yes b ↦ S .tests p b .untaken e i l
-  | no b ↦ rw (List·getD-eq-default (y .tests) pastTest {n = p} (omega (arith, S .places)))
+  | no b ↦ rw (List·getD-eq-default (y .tests) noTest {n = p} (omega (arith, S .places))) (getD-replicate-same 64 i false)
 ]
 
 -- where none is retested, nobody has had a retest
@@ -106,13 +108,13 @@ module _ {y : Year} (k : Kept y) (b : InTest y) {l : Listing} {room : ℕ} where
     abbrev q : ℕ
     q = testPlace (t .zone) (t .product)
 
-    same-tested : (p i : ℕ) → i < 64 → retestOf y i .taken ≡ true → factsOf y .tested p i ≡ factsOf (yearBy y l (head.Test t)) .tested p i
+    same-tested : (p i : ℕ) → i < 64 → retestOf y i .taken ≡ true → year.listed (factsOf y .test p .listing) i ≡ year.listed (factsOf (yearBy y l (head.Test t)) .test p .listing) i
     unfolding yearBy
     same-tested p i m e = elim (ℕ-discrete p q) [
       | yes h ↦ same-bool _ _
           (λ o. never (not-listed (k .sound) q i m (test-free a)) (rw h at o))
           (λ n. rw (own-place S p i m n) at (b i m e))
-      | no n ↦ rw (getD-set-other (y .tests) q p (testOf t l) pastTest n)
+      | no n ↦ rw (getD-set-other (y .tests) q p (testOf t l) noTest n)
     ]
 
     test-had : (p s : ℕ) → hadRetest (factsOf y) p s ≡ hadRetest (factsOf (yearBy y l (head.Test t))) p s
@@ -138,11 +140,11 @@ module _ {y : Year} (k : Kept y) (b : InTest y) {l : Listing} {room : ℕ} where
         (all-at (size (y .terms)) (λ j. Bool·beq (listed l j) (failed (factsOf y) r (t .seller) j)) (a .twenty-one) i (omega (arith, size-is (k .sound .terms))))
 
     -- so a registration that it lists is in that test, and the seller's
-    listed-entry : (i : ℕ) → i < 64 → listed l i ≡ true → (factsOf y .tested r i ≡ true) × (factsOf y .seller i ≡ t .seller)
+    listed-entry : (i : ℕ) → i < 64 → listed l i ≡ true → (year.listed (factsOf y .test r .listing) i ≡ true) × (factsOf y .seller i ≡ t .seller)
     unfolding failed entryOf
     listed-entry i m e =
-        let entry = and-parts (entryOf (factsOf y) r (t .seller) i) (ltb (factsOf y .testReduction r i) (factsOf y .committed i)) (sym (lists-failed i m) ∙ e) .0 in
-        let parts = and-parts (factsOf y .tested r i) (eqb (factsOf y .seller i) (t .seller)) entry in
+        let entry = and-parts (entryOf (factsOf y) r (t .seller) i) (ltb (year.reduction (factsOf y .test r .listing) i) (year.committed (factsOf y .terms) i)) (sym (lists-failed i m) ∙ e) .0 in
+        let parts = and-parts (year.listed (factsOf y .test r .listing) i) (eqb (factsOf y .seller i) (t .seller)) entry in
         (parts .0, eqb-true (factsOf y .seller i) (t .seller) (parts .1))
 
     some-listed : (i : ℕ) × (i < 64) × (listed l i ≡ true)
@@ -156,7 +158,7 @@ module _ {y : Year} (k : Kept y) (b : InTest y) {l : Listing} {room : ℕ} where
         below =
             let twice = not (hadRetest F r (t .seller)) in
             let quarter = belowQuarter (failedKw F r (t .seller)) (testedKw F r (t .seller)) in
-            and-parts twice quarter (and-parts (getD (y .tests) r pastTest .taken) (twice && quarter) (a .twenty) .1) .1
+            and-parts twice quarter (and-parts (getD (y .tests) r noTest .taken) (twice && quarter) (a .twenty) .1) .1
 
         some : 0 < failedKw F r (t .seller) * 4
         some =
@@ -167,7 +169,7 @@ module _ {y : Year} (k : Kept y) (b : InTest y) {l : Listing} {room : ℕ} where
             let f = any-some 64 (failed (factsOf y) r (t .seller)) e in
             (f .0, f .1, lists-failed (f .0) (f .1) ∙ f .2)
         go false e =
-            let none : sumTo 64 (only (failed (factsOf y) r (t .seller)) (factsOf y .committed)) ≡ 0 =
+            let none : sumTo 64 (only (failed (factsOf y) r (t .seller)) (year.committed (factsOf y .terms))) ≡ 0 =
             sum-zero 64 (λ i m. rw (none-at 64 (failed (factsOf y) r (t .seller)) e i m)) in
             absurd (omega (arith, some, none))
 
@@ -184,7 +186,7 @@ module _ {y : Year} (k : Kept y) (b : InTest y) {l : Listing} {room : ℕ} where
     unfolding yearBy
     retest-in-test i m e = go (listed l i) refl (sym (taken-is i m) ∙ e)
       where
-        go : (d : Bool) → listed l i ≡ d → (d || retestOf y i .taken) ≡ true → factsOf y .tested (placed y i) i ≡ true
+        go : (d : Bool) → listed l i ≡ d → (d || retestOf y i .taken) ≡ true → year.listed (factsOf y .test (placed y i) .listing) i ≡ true
         go true o f = let in-test = listed-entry i m o .0 in rw (own-place (k .sound) r i m in-test) in-test
         go false o f = b i m f
 
@@ -203,7 +205,7 @@ module _ {y : Year} (k : Kept y) (b : InTest y) {l : Listing} {room : ℕ} where
             → (hadRetest (factsOf y) p s || (eqb r p && eqb (t .seller) s)) ≡ true
         there i m entry true o g =
             let mine = listed-entry i m o in
-            let parts = and-parts (factsOf y .tested p i) (eqb (factsOf y .seller i) s) entry in
+            let parts = and-parts (year.listed (factsOf y .test p .listing) i) (eqb (factsOf y .seller i) s) entry in
             let place : r ≡ p = sym (own-place (k .sound) r i m (mine .0)) ∙ own-place (k .sound) p i m (parts .0) in
             let seller : t .seller ≡ s = sym (mine .1) ∙ eqb-true (factsOf y .seller i) s (parts .1) in
             rw (eq-eqb r p place, eq-eqb (t .seller) s seller) (or-true (hadRetest (factsOf y) p s))

@@ -8,6 +8,7 @@ use native.Mathlib.Nat.{mul-le-mul}
 use Rattle.ids.specs.Ids.{at, only}
 use Rattle.abreast.specs.Abreast.{Abreast, Shared, stepper, shared-aside, abreast-asks, abreast-value, abreast-more, abreast-none, abreast-all, abreast-kept, abreast-aside}
 use Rattle.allotment.specs.Stepper.{Asks}
+use Rattle.year.specs.Year as year
 use Rattle.owed.specs.Facts.{Facts}
 use Rattle.owed.specs.Divisions.{uDivisions, eDivisions}
 use Rattle.owed.specs.Owed as owed
@@ -24,13 +25,13 @@ use Rattle.weighing.specs.Weighing.{entryAt, Ready}
 
 -- the second reductions of an event's entries
 abbrev pub secondOf : Facts → ℕ → ℕ → ℕ
-secondOf F ev = only (F .listed ev) (F .offPeak ev)
+secondOf F ev = only (year.listed (F .event ev .listing)) (year.second (F .event ev .listing))
 
 -- the shares of its entries, which they are, and their second reductions
 pub record Shares (F : Facts) (ev : ℕ) (w : List ℕ) : Type 0 where
   pub u : Row w uRow 64 (owed.u F ev)
   pub e : Row w eRow 64 (owed.e F ev)
-  pub listed : Row w listedRow 64 (λ i. mark (F .listed ev i))
+  pub listed : Row w listedRow 64 (λ i. mark (year.listed (F .event ev .listing) i))
   pub second : Row w secondRow 64 (secondOf F ev)
 
 -- what is stored elsewhere
@@ -53,11 +54,11 @@ pub record Sharing (F : Facts) (ev i : ℕ) (w₀ w : List ℕ) : Type 0 where
   pub upto : i ≤ 64
   pub columns : Columns F 64 w
   pub aside : Aside lackRow sharedPlaces w₀ w
-  pub lack : Abreast F (F .listed ev) (owed.lack F ev) (owed.shortfall F ev) lackRow i w
-  pub more : Abreast F (F .listed ev) (owed.more F ev) (owed.excess F ev) moreRow i w
+  pub lack : Abreast F (year.listed (F .event ev .listing)) (owed.lack F ev) (owed.shortfall F ev) lackRow i w
+  pub more : Abreast F (year.listed (F .event ev .listing)) (owed.more F ev) (owed.excess F ev) moreRow i w
   pub u : Renewed w uRow 64 (owed.u F ev) none i
   pub e : Renewed w eRow 64 (owed.e F ev) none i
-  pub listed : Renewed w listedRow 64 (λ i. mark (F .listed ev i)) none i
+  pub listed : Renewed w listedRow 64 (λ i. mark (year.listed (F .event ev .listing) i)) none i
   pub second : Renewed w secondRow 64 (secondOf F ev) none i
 
 pub sharing-first : {F : Facts} {ev : ℕ} {w : List ℕ} → Columns F 64 w → Ready F ev w → Sharing F ev 0 w w
@@ -70,12 +71,12 @@ sharing-first {F} {ev} h r =
       more = r .more;
       u = renewed-first (owed.u F ev) (row-within uRow 64 (r .fresh) (omega arith) (omega arith));
       e = renewed-first (owed.e F ev) (row-within eRow 64 (r .fresh) (omega arith) (omega arith));
-      listed = renewed-first (λ i. mark (F .listed ev i)) (row-within listedRow 64 (r .fresh) (omega arith) (omega arith));
+      listed = renewed-first (λ i. mark (year.listed (F .event ev .listing) i)) (row-within listedRow 64 (r .fresh) (omega arith) (omega arith));
       second = renewed-first (secondOf F ev) (row-within secondRow 64 (r .fresh) (omega arith) (omega arith));
     }
 
 module _ {F : Facts} {ev i : ℕ} {w₀ w : List ℕ} (h : Sharing F ev i w₀ w) where
-  pub sharing-none : i < 64 → F .listed ev i ≡ false → Sharing F ev (i + 1) w₀ w
+  pub sharing-none : i < 64 → year.listed (F .event ev .listing) i ≡ false → Sharing F ev (i + 1) w₀ w
   sharing-none l off =
       record {
         upto = omega arith;
@@ -96,7 +97,7 @@ module _ {F : Facts} {ev i : ℕ} {w₀ w : List ℕ} (h : Sharing F ev i w₀ w
   sharing-divided q = record { u = abreast-all (h .lack) q; e = abreast-all (h .more) q }
 
   -- a listed entry
-  module _ (L : Limits F) (l : i < 64) (on : F .listed ev i ≡ true) where
+  module _ (L : Limits F) (l : i < 64) (on : year.listed (F .event ev .listing) i ≡ true) where
     abbrev x : Entry
     x = entryAt F ev i
 
@@ -109,19 +110,19 @@ module _ {F : Facts} {ev i : ℕ} {w₀ w : List ℕ} (h : Sharing F ev i w₀ w
     pub u-asks : Asks (stepper lackRow w (x .seller)) (x .lack .0)
     u-asks =
         abreast-asks (h .lack) (L .seller i) lack-is l
-        (omega (arith, mul-le-mul (shortfall-le L (F .listed ev) (F .reduction ev) (F .deficit ev) (F .seller i)) (ofSeller-le F (F .seller i) 100000 (lack-le L (F .listed ev) (F .reduction ev)))))
+        (omega (arith, mul-le-mul (shortfall-le L (year.listed (F .event ev .listing)) (year.reduction (F .event ev .listing)) (year.deficit (F .event ev .listing)) (F .seller i)) (ofSeller-le F (F .seller i) 100000 (lack-le L (year.listed (F .event ev .listing)) (year.reduction (F .event ev .listing))))))
 
     -- u is allotted
     module _ {m : List ℕ} {u : ℕ} (g : Shared lackRow (x .seller) (x .lack .0) w m u) where
       u-aside : Aside (lackRow + 32) 48 w m
       u-aside = shared-aside (L .seller i) g
 
-      u-more : Abreast F (F .listed ev) (owed.more F ev) (owed.excess F ev) moreRow i m
+      u-more : Abreast F (year.listed (F .event ev .listing)) (owed.more F ev) (owed.excess F ev) moreRow i m
       u-more = abreast-aside (h .more) u-aside (λ k a b c d. omega arith)
 
       pub e-asks : Asks (stepper moreRow m (x .seller)) (x .more .0)
       e-asks =
-          let most = ofSeller-le F (F .seller i) 100000 (more-le L (F .listed ev) (L .reduction ev)) in
+          let most = ofSeller-le F (F .seller i) 100000 (more-le L (year.listed (F .event ev .listing)) (L .reduction ev)) in
           let less : owed.excess F ev (F .seller i) ≤ 6400000 = omega (arith, excess-le L ev (F .seller i)) in
           abreast-asks u-more (L .seller i) more-is l (omega (arith, mul-le-mul less most))
 

@@ -11,7 +11,7 @@ use lib.Dec.{leb, ltb, eqb}
 use lib.ListN.{length, getD}
 use Rattle.ids.specs.Ids.{at}
 use Rattle.ids.specs.Tests.{and-parts}
-use Rattle.layouts.specs.Layout.{Rule, noRule, noItems, noLayout, layouts, head, lists, listAt, itemsIn, rulesFor, itemAt, itemIn, most}
+use Rattle.layouts.specs.Layout.{Rule, noRule, noItems, bare, layouts, head, lists, listAt, itemsIn, rulesFor, itemAt, itemIn, most}
 use Rattle.layouts.specs.LayoutLaws.{every, every-at, every-in, rules-long}
 use Rattle.layouts.specs.ListLaws.{rule-item}
 use Rattle.layouts.specs.Parts.{Stated}
@@ -96,7 +96,7 @@ limited-at : (k i : ℕ) → i < length (lists k) → limited (listAt k i .reduc
 unfolding every limited
 limited-at k i l =
     every-in (λ x. limited (x .reductions) (x .fields)) (lists k) noItems i
-    (every-at (λ l. every (λ x. limited (x .reductions) (x .fields)) (l .lists)) layouts noLayout k refl refl) l
+    (every-at (λ l. every (λ x. limited (x .reductions) (x .fields)) (l .lists)) layouts (bare []) k refl refl) l
 
 sound-any : (t : ℕ) (item : ℕ → ℕ) {l : Listing} → ((t ≡ 0 → ⊥) → item t ≤ 100000) → SoundListing l → SoundListing (withAny t item l)
 sound-any t item {l} h s = go (eqb t 0) refl

@@ -12,10 +12,6 @@ unfoldable pub sumℤ : ℕ → (ℕ → ℤ) → ℤ
 sumℤ zero g = pos 0
 sumℤ (suc n) g = sumℤ n g +ℤ g n
 
--- the sum over the lines i < n whose id is s
-abbrev pub sumOfParty : ℕ → (ℕ → ℕ) → ℕ → (ℕ → ℤ) → ℤ
-sumOfParty n id s g = sumℤ n (λ i. cond (eqb (id i) s) (g i) (pos 0))
-
 module _ (xs : List ℕ) where
   unfoldable pub monthIn : ℕ
   monthIn = fieldAt xs 0 4
@@ -33,49 +29,32 @@ module _ (xs : List ℕ) where
   unfoldable pub amountAt : ℕ → ℤ
   amountAt p = value42 (fieldAt xs p 42)
 
-  -- where the i-th seller's line and the j-th LSE's line are
+  -- where the i-th seller's line is: id, compliance, test, credit; and the j-th LSE's, behind them: id, credit
   abbrev pub sellerLine : ℕ → ℕ
   sellerLine i = 14 + 130 * i
 
   abbrev pub lseLine : ℕ → ℕ
   lseLine j = 14 + 130 * sellersIn + 46 * j
 
-  -- the i-th seller's line: id, compliance, test, credit
-  abbrev pub lineSeller : ℕ → ℕ
-  lineSeller i = idAt (sellerLine i)
+  -- the amounts of seller s, each by its bit in the line, and of LSE j; 0 where the statement has no line of them
+  abbrev pub sellerIn : ℕ → ℕ → ℤ
+  sellerIn c s = sumℤ sellersIn (λ i. cond (eqb (idAt (sellerLine i)) s) (amountAt (sellerLine i + c)) (pos 0))
 
-  abbrev pub lineCompliance : ℕ → ℤ
-  lineCompliance i = amountAt (sellerLine i + 4)
-
-  abbrev pub lineTest : ℕ → ℤ
-  lineTest i = amountAt (sellerLine i + 46)
-
-  abbrev pub lineCredit : ℕ → ℤ
-  lineCredit i = amountAt (sellerLine i + 88)
-
-  -- the j-th LSE's line: id, credit
-  abbrev pub lineLse : ℕ → ℕ
-  lineLse j = idAt (lseLine j)
-
-  abbrev pub lineLseCredit : ℕ → ℤ
-  lineLseCredit j = amountAt (lseLine j + 4)
-
-  -- the amounts of seller s and of LSE j, 0 where the statement has no line of them
   unfoldable pub complianceIn : ℕ → ℤ
-  complianceIn s = sumOfParty sellersIn lineSeller s lineCompliance
+  complianceIn s = sellerIn 4 s
 
   unfoldable pub testIn : ℕ → ℤ
-  testIn s = sumOfParty sellersIn lineSeller s lineTest
+  testIn s = sellerIn 46 s
 
   unfoldable pub creditIn : ℕ → ℤ
-  creditIn s = sumOfParty sellersIn lineSeller s lineCredit
+  creditIn s = sellerIn 88 s
 
   unfoldable pub lseIn : ℕ → ℤ
-  lseIn j = sumOfParty lsesIn lineLse j lineLseCredit
+  lseIn j = sumℤ lsesIn (λ i. cond (eqb (idAt (lseLine i)) j) (amountAt (lseLine i + 4)) (pos 0))
 
   -- the statement's charges and credits
   unfoldable pub chargesIn : ℤ
-  chargesIn = sumℤ sellersIn (λ i. lineCompliance i +ℤ lineTest i)
+  chargesIn = sumℤ sellersIn (λ i. amountAt (sellerLine i + 4) +ℤ amountAt (sellerLine i + 46))
 
   unfoldable pub creditsIn : ℤ
-  creditsIn = sumℤ sellersIn lineCredit +ℤ sumℤ lsesIn lineLseCredit
+  creditsIn = sumℤ sellersIn (λ i. amountAt (sellerLine i + 88)) +ℤ sumℤ lsesIn (λ j. amountAt (lseLine j + 4))

@@ -1,17 +1,18 @@
 -- A statement reads back: one line for each seller with a registration and each LSE with an obligation, rising; their amounts; the sums.
-use Prim.Native.Nat.{ℕ, _<_}
+use Prim.Native.Nat.{ℕ, _+_, _<_}
 use mathlib.Core.Bool.{true, cond}
 use mathlib.Core.List.{List}
 use mathlib.Core.Path.{_≡_, ap, _∙_}
+use lib.Dec.{eqb}
 use lib.IntN.{ℤ, pos, _+ℤ_}
 use Rattle.ids.specs.Ids.{countTo}
 use Rattle.year.specs.declared.Terms.{Terms}
 use Rattle.year.specs.declared.Amounts.{Amounts}
 use Rattle.year.specs.Sound.{SoundAmounts}
 use Rattle.statement.specs.Statement.{hasRegistration, hasObligation}
-use Rattle.statement.specs.ReadBack.{sumℤ, sumOfParty, sellersIn, lsesIn, lineSeller, lineCompliance, lineTest, lineCredit, lineLse, lineLseCredit, complianceIn, testIn, creditIn, lseIn, chargesIn, creditsIn}
+use Rattle.statement.specs.ReadBack.{sumℤ, sellersIn, lsesIn, amountAt, sellerLine, lseLine, sellerIn, complianceIn, testIn, creditIn, lseIn, chargesIn, creditsIn}
 use Rattle.statement.specs.Reading.{count-below, line-id, line-rising, sum-lines, sum-of}
-use Rattle.statement.specs.Starts.{less, Starts, seller-line, lse-line}
+use Rattle.statement.specs.Starts.{less, Starts, lineSeller, lineLse, seller-line, lse-line}
 
 module _ {T : Terms} {k : ℕ} {now before : Amounts} {xs : List ℕ} (f : Starts T k now before xs) (a : SoundAmounts now) (b : SoundAmounts before) where
   -- every seller with a registration has a line, every line is of such a seller, and the sellers rise, so that none has two
@@ -42,31 +43,31 @@ module _ {T : Terms} {k : ℕ} {now before : Amounts} {xs : List ℕ} (f : Start
   lses-rise i j l m =
       line-rising 16 (hasObligation T) (lineLse xs) (λ s n e. lse-line f a b s n e .id) i j l (rw (f .lses) at m)
 
-  -- the amounts of a seller with a registration
-  seller-amount : (g h : ℕ → ℤ) → ((i : ℕ) → i < 16 → hasRegistration T i ≡ true → g (countTo i (hasRegistration T)) ≡ h i)
-      → (s : ℕ) → s < 16 → hasRegistration T s ≡ true → sumOfParty (sellersIn xs) (lineSeller xs) s g ≡ h s
-  seller-amount g h is s l e =
-      ap (λ n. sumOfParty n (lineSeller xs) s g) (f .sellers)
-      ∙ sum-of 16 (hasRegistration T) (lineSeller xs) g h s l (λ i m y. (seller-line f a b i m y .id, is i m y)) ∙ rw e
+  -- the amounts of a seller with a registration, by their bits in its line
+  seller-amount : (c : ℕ) (h : ℕ → ℤ) → ((i : ℕ) → i < 16 → hasRegistration T i ≡ true → amountAt xs (sellerLine xs (countTo i (hasRegistration T)) + c) ≡ h i)
+      → (s : ℕ) → s < 16 → hasRegistration T s ≡ true → sellerIn xs c s ≡ h s
+  seller-amount c h is s l e =
+      ap (λ n. sumℤ n (λ i. cond (eqb (lineSeller xs i) s) (amountAt xs (sellerLine xs i + c)) (pos 0))) (f .sellers)
+      ∙ sum-of 16 (hasRegistration T) (lineSeller xs) (λ i. amountAt xs (sellerLine xs i + c)) h s l (λ i m y. (seller-line f a b i m y .id, is i m y)) ∙ rw e
 
   pub compliance-reads : (s : ℕ) → s < 16 → hasRegistration T s ≡ true → complianceIn xs s ≡ less (now .compliance) (before .compliance) s
   unfolding complianceIn
-  compliance-reads = seller-amount (lineCompliance xs) (less (now .compliance) (before .compliance)) (λ i l e. seller-line f a b i l e .compliance)
+  compliance-reads = seller-amount 4 (less (now .compliance) (before .compliance)) (λ i l e. seller-line f a b i l e .compliance)
 
   pub test-reads : (s : ℕ) → s < 16 → hasRegistration T s ≡ true → testIn xs s ≡ less (now .test) (before .test) s
   unfolding testIn
-  test-reads = seller-amount (lineTest xs) (less (now .test) (before .test)) (λ i l e. seller-line f a b i l e .test)
+  test-reads = seller-amount 46 (less (now .test) (before .test)) (λ i l e. seller-line f a b i l e .test)
 
   pub credit-reads : (s : ℕ) → s < 16 → hasRegistration T s ≡ true → creditIn xs s ≡ less (now .credit) (before .credit) s
   unfolding creditIn
-  credit-reads = seller-amount (lineCredit xs) (less (now .credit) (before .credit)) (λ i l e. seller-line f a b i l e .credit)
+  credit-reads = seller-amount 88 (less (now .credit) (before .credit)) (λ i l e. seller-line f a b i l e .credit)
 
   -- the amount of an LSE with an obligation
   pub lse-reads : (j : ℕ) → j < 16 → hasObligation T j ≡ true → lseIn xs j ≡ less (now .lse) (before .lse) j
   unfolding lseIn
   lse-reads j l e =
-      ap (λ n. sumOfParty n (lineLse xs) j (lineLseCredit xs)) (f .lses)
-      ∙ sum-of 16 (hasObligation T) (lineLse xs) (lineLseCredit xs) (less (now .lse) (before .lse)) j l
+      ap (λ n. sumℤ n (λ i. cond (eqb (lineLse xs i) j) (amountAt xs (lseLine xs i + 4)) (pos 0))) (f .lses)
+      ∙ sum-of 16 (hasObligation T) (lineLse xs) (λ i. amountAt xs (lseLine xs i + 4)) (less (now .lse) (before .lse)) j l
       (λ i m y. (lse-line f a b i m y .id, lse-line f a b i m y .credit))
       ∙ rw e
 
@@ -75,8 +76,8 @@ module _ {T : Terms} {k : ℕ} {now before : Amounts} {xs : List ℕ} (f : Start
       ≡ sumℤ 16 (λ s. cond (hasRegistration T s) (less (now .compliance) (before .compliance) s +ℤ less (now .test) (before .test) s) (pos 0))
   unfolding chargesIn
   charges-read =
-      ap (λ n. sumℤ n (λ i. lineCompliance xs i +ℤ lineTest xs i)) (f .sellers)
-      ∙ sum-lines 16 (hasRegistration T) (λ i. lineCompliance xs i +ℤ lineTest xs i)
+      ap (λ n. sumℤ n (λ i. amountAt xs (sellerLine xs i + 4) +ℤ amountAt xs (sellerLine xs i + 46))) (f .sellers)
+      ∙ sum-lines 16 (hasRegistration T) (λ i. amountAt xs (sellerLine xs i + 4) +ℤ amountAt xs (sellerLine xs i + 46))
       (λ s. less (now .compliance) (before .compliance) s +ℤ less (now .test) (before .test) s)
       (λ i l e. rw (seller-line f a b i l e .compliance, seller-line f a b i l e .test))
 
@@ -86,9 +87,9 @@ module _ {T : Terms} {k : ℕ} {now before : Amounts} {xs : List ℕ} (f : Start
   unfolding creditsIn
   credits-read =
       let sellers =
-      ap (λ n. sumℤ n (lineCredit xs)) (f .sellers)
-      ∙ sum-lines 16 (hasRegistration T) (lineCredit xs) (less (now .credit) (before .credit)) (λ i l e. seller-line f a b i l e .credit) in
+      ap (λ n. sumℤ n (λ i. amountAt xs (sellerLine xs i + 88))) (f .sellers)
+      ∙ sum-lines 16 (hasRegistration T) (λ i. amountAt xs (sellerLine xs i + 88)) (less (now .credit) (before .credit)) (λ i l e. seller-line f a b i l e .credit) in
       let lses =
-      ap (λ n. sumℤ n (lineLseCredit xs)) (f .lses)
-      ∙ sum-lines 16 (hasObligation T) (lineLseCredit xs) (less (now .lse) (before .lse)) (λ i l e. lse-line f a b i l e .credit) in
+      ap (λ n. sumℤ n (λ i. amountAt xs (lseLine xs i + 4))) (f .lses)
+      ∙ sum-lines 16 (hasObligation T) (λ i. amountAt xs (lseLine xs i + 4)) (less (now .lse) (before .lse)) (λ i l e. lse-line f a b i l e .credit) in
       rw (sellers, lses)

@@ -17,7 +17,7 @@ use Rattle.bits.specs.Bits.{fieldAt}
 use Rattle.bits.specs.Table.{fieldsAt}
 use Rattle.statement.specs.Statement.{Field, widthsOf, valuesOf, amountField, lineFields, linesTo}
 use Rattle.statement.specs.Lines.{bitsIn, lines-bits, amounts-bits}
-use Rattle.statement.specs.ReadBack.{sumℤ, sumOfParty}
+use Rattle.statement.specs.ReadBack.{sumℤ}
 
 -- the fields from p on have these values
 abbrev pub Holds : List ℕ → ℕ → List Field → Type 0
@@ -138,7 +138,7 @@ none false = refl
 
 -- the sum over the lines of one id: its own line, or nothing
 pub sum-of : (n : ℕ) (q : ℕ → Bool) (id : ℕ → ℕ) (g h : ℕ → ℤ) (s : ℕ) → s < n
-    → ((i : ℕ) → i < n → q i ≡ true → (id (countTo i q) ≡ i) × (g (countTo i q) ≡ h i)) → sumOfParty (countTo n q) id s g ≡ cond (q s) (h s) (pos 0)
+    → ((i : ℕ) → i < n → q i ≡ true → (id (countTo i q) ≡ i) × (g (countTo i q) ≡ h i)) → sumℤ (countTo n q) (λ k. cond (eqb (id k) s) (g k) (pos 0)) ≡ cond (q s) (h s) (pos 0)
 sum-of n q id g h s l e =
     let own : ℕ → ℤ = λ i. cond (eqb i s) (h i) (pos 0) in
     sum-lines n q (λ k. cond (eqb (id k) s) (g k) (pos 0)) own (λ i m y. rw (e i m y .0, e i m y .1))

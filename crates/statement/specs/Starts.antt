@@ -18,7 +18,7 @@ use Rattle.statement.specs.Lines.{bitsIn, lines-bits}
 use Rattle.statement.specs.Sizes.{same-length, statement-fits}
 use Rattle.statement.specs.Columns.{Columns, columns-sound, compliance-at, test-at, credit-at}
 use Rattle.statement.specs.Value42.{value42, value-difference}
-use Rattle.statement.specs.ReadBack.{monthIn, sellersIn, lsesIn, idAt, amountAt, sellerLine, lseLine, lineSeller, lineCompliance, lineTest, lineCredit, lineLse, lineLseCredit}
+use Rattle.statement.specs.ReadBack.{monthIn, sellersIn, lsesIn, idAt, amountAt, sellerLine, lseLine}
 use Rattle.statement.specs.Reading.{Holds, holds-all, holds-split, holds-line, holds-amount}
 
 -- one amount less another, at an id
@@ -71,16 +71,23 @@ line-reads {xs} {p} {n} {now} {before} {i} a b l h =
       amount = λ k m. ap value42 (rw (add-assoc p 4 (42 * k)) at (holds-amount xs (p + 4) n now before i (h .1) k m)) ∙ value-difference _ _ (a .at (16 * k + i) (omega arith)) (b .at (16 * k + i) (omega arith));
     }
 
+-- the ids of the lines
+abbrev pub lineSeller : List ℕ → ℕ → ℕ
+lineSeller xs i = idAt xs (sellerLine xs i)
+
+abbrev pub lineLse : List ℕ → ℕ → ℕ
+lineLse xs j = idAt xs (lseLine xs j)
+
 -- the lines of sellers and of LSEs
 pub record SellerLine (xs : List ℕ) (now before : Amounts) (s i : ℕ) : Type 0 where
   pub id : lineSeller xs i ≡ s
-  pub compliance : lineCompliance xs i ≡ less (now .compliance) (before .compliance) s
-  pub test : lineTest xs i ≡ less (now .test) (before .test) s
-  pub credit : lineCredit xs i ≡ less (now .credit) (before .credit) s
+  pub compliance : amountAt xs (sellerLine xs i + 4) ≡ less (now .compliance) (before .compliance) s
+  pub test : amountAt xs (sellerLine xs i + 46) ≡ less (now .test) (before .test) s
+  pub credit : amountAt xs (sellerLine xs i + 88) ≡ less (now .credit) (before .credit) s
 
 pub record LseLine (xs : List ℕ) (now before : Amounts) (j i : ℕ) : Type 0 where
   pub id : lineLse xs i ≡ j
-  pub credit : lineLseCredit xs i ≡ less (now .lse) (before .lse) j
+  pub credit : amountAt xs (lseLine xs i + 4) ≡ less (now .lse) (before .lse) j
 
 module _ {T : Terms} {k : ℕ} {now before : Amounts} {xs : List ℕ} (f : Starts T k now before xs) (a : SoundAmounts now) (b : SoundAmounts before) where
   pub seller-line : (s : ℕ) → s < 16 → hasRegistration T s ≡ true → SellerLine xs now before s (countTo s (hasRegistration T))

@@ -9,7 +9,7 @@ use lib.ListN.{getD, replicate, getD-replicate}
 use borrow.Author.Tests.{eq-eqb}
 use Rattle.ids.specs.Ids.{at}
 use Rattle.ids.specs.Tables.{tabulate-same}
-use Rattle.year.specs.Year.{noTest, pastTest, listed}
+use Rattle.year.specs.Year.{noTest, listed}
 use Rattle.year.specs.Sound.{Sound}
 use Rattle.cells.specs.Rows.{from, Same, same-row, same-in}
 use Rattle.cells.specs.Layout.{flag, placeIn, cellTests, yearIn}
@@ -20,7 +20,7 @@ pub unmarked : (c : List ℕ) → Sound (yearIn c) → cellTests c ≡ replicate
 unfolding listed
 unmarked c s e i m =
     let k = placeIn c i in
-    let none : listed (getD (replicate 24 noTest) k pastTest .listing) i ≡ false = rw (getD-replicate 24 k noTest pastTest (place-below c s i)) (getD-replicate 64 i false false m) in
+    let none : listed (getD (replicate 24 noTest) k noTest .listing) i ≡ false = rw (getD-replicate 24 k noTest noTest (place-below c s i)) (getD-replicate 64 i false false m) in
     let here : (flag (at c (4295 + i)) && eqb k k) ≡ false = sym (tested-in c s k m) ∙ rw e none in
     sym (and-true (flag (at c (4295 + i)))) ∙ (rw (eq-eqb k k refl) at here)
 

@@ -8,13 +8,14 @@ use Rattle.owed.specs.Facts.{Facts}
 use Rattle.owed.specs.Owed as owed
 use Rattle.table.specs.Rows.{Aside, Row, row-aside}
 use Rattle.table.specs.Places.{size, sellerRow, productRow, committedRow, rateRow, capRow, callsRow}
+use Rattle.year.specs.Year as year
 
 -- those of the first n
 pub record Columns (F : Facts) (n : ℕ) (w : List ℕ) : Type 0 where
   pub long : length w ≡ size
   pub seller : Row w sellerRow n (F .seller)
-  pub product : Row w productRow n (F .product)
-  pub committed : Row w committedRow n (F .committed)
+  pub product : Row w productRow n (year.product (F .terms))
+  pub committed : Row w committedRow n (year.committed (F .terms))
   pub rate : Row w rateRow n (owed.rate F)
   pub cap : Row w capRow n (owed.cap F)
 

@@ -13,7 +13,8 @@ use Rattle.ids.specs.Sums.{sum-zero}
 use Rattle.ids.specs.Tests.{cond-le, none-at}
 use Rattle.ids.specs.Tables.{getD-tabulate}
 use Rattle.units.specs.Units.{convert-zero}
-use Rattle.year.specs.Year.{pastTest, retestOf, deficit}
+use Rattle.year.specs.Year.{noTest, retestOf, deficit}
+use Rattle.year.specs.Year as year
 use Rattle.cells.specs.Layout.{flag, placeIn, yearIn, Held}
 use Rattle.cells.specs.Regions.{test-in}
 use Rattle.cells.specs.Tested.{tested-in, first-in}
@@ -45,7 +46,7 @@ module _ (c : List ℕ) where
 
   -- is the test at a place taken
   abbrev pub takenAt : ℕ → Bool
-  takenAt p = getD (yearIn c .tests) p pastTest .taken
+  takenAt p = getD (yearIn c .tests) p noTest .taken
 
   -- what the passes read of the working table
   pub record Ready (w : List ℕ) : Type 0 where
@@ -67,9 +68,9 @@ module _ (c : List ℕ) where
 
   -- the facts of the test at place p
   module _ {p : ℕ} (l : p < 24) where
-    pub deficit-in : {s : ℕ} → s < 16 → facts c .testDeficit p s ≡ at c (3863 + 18 * p + (2 + s))
+    pub deficit-in : {s : ℕ} → s < 16 → year.deficit (facts c .test p .listing) s ≡ at c (3863 + 18 * p + (2 + s))
     unfolding deficit
-    deficit-in {s} m = rw (test-in c pastTest l) (getD-tabulate (λ j. at c (3863 + 18 * p + (2 + j))) 16 s 0 m)
+    deficit-in {s} m = rw (test-in c noTest l) (getD-tabulate (λ j. at c (3863 + 18 * p + (2 + j))) 16 s 0 m)
 
     -- a test that was not taken charges nothing
     module _ (h : Held c) (off : takenAt p ≡ false) where
@@ -86,8 +87,8 @@ module _ (c : List ℕ) where
       unfolding shortfallOver unforced
       none-short s =
           let F = facts c in
-          let net : ofSeller F s (only (owed.stands F p) (F .committed)) - ofSeller F s (only (owed.stands F p) (owed.result F p)) ≡ 0 = omega (arith, none-stands s (F .committed)) in
-          rw (net, convert-zero (F .factor) (F .requirement)) (zero-sub (F .testDeficit p s))
+          let net : ofSeller F s (only (owed.stands F p) (year.committed (F .terms))) - ofSeller F s (only (owed.stands F p) (owed.result F p)) ≡ 0 = omega (arith, none-stands s (year.committed (F .terms))) in
+          rw (net, convert-zero (F .terms .factor) (F .terms .requirement)) (zero-sub (year.deficit (F .test p .listing) s))
 
       pub untaken : (k s : ℕ) → testOf (facts c) k p s ≡ 0
       unfolding testOf
@@ -99,11 +100,11 @@ unfolding owed.test
 none-taken {c} h k s e = sym (sum-zero 24 (λ p l. untaken c l h (none-at 24 (takenAt c) e p l) k s))
 
 module _ {c : List ℕ} (h : Held c) where
-  pub tested-at : (p : ℕ) {i : ℕ} → i < 64 → facts c .tested p i ≡ (lookAt c i .listed && eqb (placeIn c i) p)
+  pub tested-at : (p : ℕ) {i : ℕ} → i < 64 → year.listed (facts c .test p .listing) i ≡ (lookAt c i .listed && eqb (placeIn c i) p)
   tested-at p m = tested-in c (h .sound) p m
 
   -- the result of an entry that the test lists
-  pub result-at : (p : ℕ) {i : ℕ} → i < 64 → facts c .tested p i ≡ true → lookAt c i .reduction .0 ≡ owed.result (facts c) p i
+  pub result-at : (p : ℕ) {i : ℕ} → i < 64 → year.listed (facts c .test p .listing) i ≡ true → lookAt c i .reduction .0 ≡ owed.result (facts c) p i
   unfolding owed.result
   result-at p {i} m on = rw (first-in c (h .sound) p m, sym (tested-in c (h .sound) p m) ∙ on)
 
@@ -111,7 +112,7 @@ module _ {c : List ℕ} (h : Held c) where
   listed-le : (i : ℕ) → i < 64 → lookAt c i .listed ≡ true → lookAt c i .reduction .0 ≤ 100000
   listed-le i m on =
       let p = placeIn c i in
-      let here : facts c .tested p i ≡ true = tested-at p m ∙ rw on (eq-eqb p p refl) in
+      let here : year.listed (facts c .test p .listing) i ≡ true = tested-at p m ∙ rw on (eq-eqb p p refl) in
       rw (result-at p m here) (limits (h .sound) .result p i)
 
   pub reduction-le : (i : ℕ) → i < 64 → only (stands c) (λ j. lookAt c j .reduction .0) i ≤ 100000

@@ -11,6 +11,7 @@ use borrow.Author.Tests.{eq-eqb, ne-eqb, eqb-true, eqb-false}
 use Rattle.ids.specs.Ids.{at, sumTo, only, keyed}
 use Rattle.ids.specs.Sums.{sum-same}
 use Rattle.ids.specs.Tests.{cond-le}
+use Rattle.year.specs.Year as year
 use Rattle.cells.specs.Layout.{placeIn, Held}
 use Rattle.cells.specs.Tested.{place-below}
 use Rattle.owed.specs.Facts.{Facts}
@@ -39,17 +40,17 @@ module _ (c : List ℕ) where
   keyAt i = 16 * placeIn c i + facts c .seller i
 
   abbrev pub committedAt : ℕ → ℕ
-  committedAt = only (stands c) (facts c .committed)
+  committedAt = only (stands c) (year.committed (facts c .terms))
 
   abbrev pub reductionAt : ℕ → ℕ
   reductionAt = only (stands c) (λ i. lookAt c i .reduction .0)
 
   abbrev pub worthAt : ℕ → ℕ
-  worthAt = only (stands c) (λ i. facts c .committed i * owed.rate (facts c) i)
+  worthAt = only (stands c) (λ i. year.committed (facts c .terms) i * owed.rate (facts c) i)
 
   abbrev pub addendAt : ℕ → Addend
   addendAt i =
-      record { key = keyAt i; committed = record { 0 = facts c .committed i }; reduction = lookAt c i .reduction; worth = facts c .committed i * owed.rate (facts c) i }
+      record { key = keyAt i; committed = record { 0 = year.committed (facts c .terms) i }; reduction = lookAt c i .reduction; worth = year.committed (facts c .terms) i * owed.rate (facts c) i }
 
   -- the sums of the first i entries, and of all
   pub record Summing (i : ℕ) (w : List ℕ) : Type 0 where
@@ -114,12 +115,12 @@ module _ {c : List ℕ} (H : Held c) {p s : ℕ} (l : p < 24) (m : s < 16) where
   abbrev F : Facts
   F = facts c
 
-  sums-same : (g h : ℕ → ℕ) → ((i : ℕ) → i < 64 → F .tested p i ≡ true → h i ≡ g i)
+  sums-same : (g h : ℕ → ℕ) → ((i : ℕ) → i < 64 → year.listed (F .test p .listing) i ≡ true → h i ≡ g i)
       → sumTo 64 (keyed (keyAt c) (only (stands c) h) (16 * p + s)) ≡ ofSeller F s (only (owed.stands F p) g)
   unfolding ofSeller stands
   sums-same g h e =
       sum-same 64 (λ i b. rw (key-eqb (placeIn c i) p (limits (H .sound) .seller i) m)
-      (go (eqb (F .seller i) s) (eqb (placeIn c i) p) (lookAt c i .listed) (called F i) (F .tested p i) (tested-at H p b) (g i) (h i) (e i b)))
+      (go (eqb (F .seller i) s) (eqb (placeIn c i) p) (lookAt c i .listed) (called F i) (year.listed (F .test p .listing) i) (tested-at H p b) (g i) (h i) (e i b)))
     where
       parts : (a b m d : Bool) (x y : ℕ) → ((m && b) ≡ true → y ≡ x) → cond (a && b) (cond (m && not d) y 0) 0 ≡ cond a (cond ((m && b) && not d) x 0) 0
       parts false b m d x y e = refl
@@ -137,16 +138,16 @@ module _ {c : List ℕ} (H : Held c) {p s : ℕ} (l : p < 24) (m : s < 16) where
     abbrev k : ℕ
     k = 16 * p + s
 
-    pub committed-is : at w (0 + k) ≡ ofSeller F s (only (owed.stands F p) (F .committed))
-    committed-is = S .committed .row .is k (omega arith) ∙ zero-add _ ∙ sums-same (F .committed) (F .committed) (λ i b e. refl)
+    pub committed-is : at w (0 + k) ≡ ofSeller F s (only (owed.stands F p) (year.committed (F .terms)))
+    committed-is = S .committed .row .is k (omega arith) ∙ zero-add _ ∙ sums-same (year.committed (F .terms)) (year.committed (F .terms)) (λ i b e. refl)
 
     pub reduction-is : at w (384 + k) ≡ ofSeller F s (only (owed.stands F p) (owed.result F p))
     reduction-is = S .reduction .row .is k (omega arith) ∙ zero-add _ ∙ sums-same (owed.result F p) (λ i. lookAt c i .reduction .0) (λ i b e. result-at H p b e)
 
-    pub worth-is : at w (768 + k) ≡ ofSeller F s (only (owed.stands F p) (λ i. F .committed i * owed.rate F i))
+    pub worth-is : at w (768 + k) ≡ ofSeller F s (only (owed.stands F p) (λ i. year.committed (F .terms) i * owed.rate F i))
     worth-is =
         S .worth .row .is k (omega arith) ∙ zero-add _
-        ∙ sums-same (λ i. F .committed i * owed.rate F i) (λ i. F .committed i * owed.rate F i) (λ i b e. refl)
+        ∙ sums-same (λ i. year.committed (F .terms) i * owed.rate F i) (λ i. year.committed (F .terms) i * owed.rate F i) (λ i b e. refl)
 
     -- within limits
     pub committed-most : at w (0 + k) ≤ 6400000
@@ -161,7 +162,7 @@ module _ {c : List ℕ} (H : Held c) {p s : ℕ} (l : p < 24) (m : s < 16) where
 
     -- step 1 and B, from them
     module _ {a : ℕ} (e : a ≡ at w (0 + k)) where
-      pub shortfall-is : {b : ℕ} → b ≡ at w (384 + k) → unforced F (a - b) - F .testDeficit p s ≡ testShortfall F p s
+      pub shortfall-is : {b : ℕ} → b ≡ at w (384 + k) → unforced F (a - b) - year.deficit (F .test p .listing) s ≡ testShortfall F p s
       unfolding shortfallOver
       shortfall-is f = rw (e, f, committed-is, reduction-is)
 

@@ -2,6 +2,7 @@
 ghost use mathlib.Core.Path.{_≡_};
 ghost use Prim.Native.Nat.{_*_, _/_, _≤_, _<_};
 ghost use Rattle.ids.specs.Ids.{anyTo};
+ghost use Rattle.year.specs.Year.{deficit};
 ghost use Rattle.cells.specs.Layout.{Held};
 ghost use Rattle.owed.specs.Owed.{testShortfall, B, raised, test};
 ghost use Rattle.looks.specs.Looks.{facts};
@@ -20,7 +21,7 @@ use units::Unforced;
 fn deficit_of(year: &Cells, place: usize, s: usize) -> Unforced
     requires { ⌜ Held (now year) ⌝ }
     requires { ⌜ (place < 24) × (s < 16) ⌝ }
-    ensures { λ r. ⌜ r .0 ≡ facts (now (year .entry)) .testDeficit place s ⌝ }
+    ensures { λ r. ⌜ r .0 ≡ deficit (facts (now (year .entry)) .test place .listing) s ⌝ }
 {
     let p = cells::TESTS + cells::TEST * place;
     Unforced::sum(year[p + (cells::TEST_DEFICITS + s)])

@@ -5,6 +5,7 @@ use mathlib.Core.Bool.{Bool, true, false}
 use mathlib.Core.List.{List}
 use native.Mathlib.Omega.{arith}
 use Rattle.ids.specs.Ids.{at}
+use Rattle.year.specs.Year as year
 use Rattle.owed.specs.Facts.{Facts}
 use Rattle.owed.specs.Owed.{ofSeller, unforced, lackOver, moreOver, shortfallOver}
 use Rattle.owed_laws.specs.Limits.{Limits}
@@ -50,8 +51,8 @@ module _ {F : Facts} {picked : ℕ → Bool} {v : ℕ → ℕ} {p q i : ℕ} {w 
 
   -- an entry that is picked
   pub sums-more : {m y : List ℕ} → p + 16 ≤ q → picked i ≡ true → F .seller i < 16
-      → Stored (p + F .seller i) (at w (p + F .seller i) + (F .committed i - v i)) w m
-      → Stored (q + F .seller i) (at m (q + F .seller i) + (v i - F .committed i)) m y → Sums F picked v p q (i + 1) y
+      → Stored (p + F .seller i) (at w (p + F .seller i) + (year.committed (F .terms) i - v i)) w m
+      → Stored (q + F .seller i) (at m (q + F .seller i) + (v i - year.committed (F .terms) i)) m y → Sums F picked v p q (i + 1) y
   sums-more a on l s1 s2 =
       record {
         lack = grown-kept (grown-more (h .lack) s1 l refl (rw on)) s2 (λ x y. omega arith);

@@ -7,6 +7,7 @@ use native.Mathlib.Omega.{arith}
 use lib.Dec.{lit≤}
 use lib.ListN.{length}
 use Rattle.ids.specs.Ids.{at}
+use Rattle.year.specs.Year as year
 use Rattle.abreast.specs.Abreast.{Abreast, abreast-first}
 use Rattle.owed.specs.Facts.{Facts}
 use Rattle.owed.specs.Owed as owed
@@ -21,12 +22,12 @@ use Rattle.table.specs.Rows.{Stored, Aside, Row, none, aside-none, aside-of, as
 -- an entry as the rules have it
 abbrev pub entryAt : Facts → ℕ → ℕ → Entry
 entryAt F ev i =
-    record { listed = F .listed ev i; seller = F .seller i; lack = record { 0 = F .committed i - F .reduction ev i }; more = record { 0 = F .reduction ev i - F .committed i }; second = record { 0 = F .offPeak ev i } }
+    record { listed = year.listed (F .event ev .listing) i; seller = F .seller i; lack = record { 0 = year.committed (F .terms) i - year.reduction (F .event ev .listing) i }; more = record { 0 = year.reduction (F .event ev .listing) i - year.committed (F .terms) i }; second = record { 0 = year.second (F .event ev .listing) i } }
 
 -- the sums of an event's entries, and nothing allotted yet
 pub record Weighed (F : Facts) (ev : ℕ) (w : List ℕ) : Type 0 where
   pub long : length w ≡ size
-  pub sums : Summed F (F .listed ev) (F .reduction ev) lackRow moreRow w
+  pub sums : Summed F (year.listed (F .event ev .listing)) (year.reduction (F .event ev .listing)) lackRow moreRow w
   pub freshLack : Row w (lackRow + 32) 48 none
   pub freshMore : Row w (moreRow + 32) 48 none
 
@@ -35,7 +36,7 @@ pub record Weighing (F : Facts) (ev i : ℕ) (w₀ w : List ℕ) : Type 0 where
   pub upto : i ≤ 64
   pub columns : Columns F 64 w
   pub aside : Aside lackRow abreastPlaces w₀ w
-  pub sums : Sums F (F .listed ev) (F .reduction ev) lackRow moreRow i w
+  pub sums : Sums F (year.listed (F .event ev .listing)) (year.reduction (F .event ev .listing)) lackRow moreRow i w
   pub freshLack : Row w (lackRow + 32) 48 none
   pub freshMore : Row w (moreRow + 32) 48 none
 
@@ -45,13 +46,13 @@ weighing-first {F} ev h r =
       upto = omega arith;
       columns = h;
       aside = aside-none;
-      sums = sums-first F (F .listed ev) (F .reduction ev) lackRow moreRow (row-within lackRow 16 r (omega arith) (omega arith)) (row-within moreRow 16 r (omega arith) (omega arith));
+      sums = sums-first F (year.listed (F .event ev .listing)) (year.reduction (F .event ev .listing)) lackRow moreRow (row-within lackRow 16 r (omega arith) (omega arith)) (row-within moreRow 16 r (omega arith) (omega arith));
       freshLack = row-within (lackRow + 32) 48 r (omega arith) (omega arith);
       freshMore = row-within (moreRow + 32) 48 r (omega arith) (omega arith);
     }
 
 module _ {F : Facts} {ev i : ℕ} {w₀ w : List ℕ} (h : Weighing F ev i w₀ w) where
-  pub weighing-none : i < 64 → F .listed ev i ≡ false → Weighing F ev (i + 1) w₀ w
+  pub weighing-none : i < 64 → year.listed (F .event ev .listing) i ≡ false → Weighing F ev (i + 1) w₀ w
   weighing-none l z =
       record {
         upto = omega arith;
@@ -63,7 +64,7 @@ module _ {F : Facts} {ev i : ℕ} {w₀ w : List ℕ} (h : Weighing F ev i w₀ 
       }
 
   -- a listed entry
-  pub weighing-more : {m y : List ℕ} → i < 64 → F .listed ev i ≡ true → F .seller i < 16 → let x = entryAt F ev i in
+  pub weighing-more : {m y : List ℕ} → i < 64 → year.listed (F .event ev .listing) i ≡ true → F .seller i < 16 → let x = entryAt F ev i in
       Stored (lackRow + F .seller i) (at w (lackRow + F .seller i) + x .lack .0) w m
       → Stored (moreRow + F .seller i) (at m (moreRow + F .seller i) + x .more .0) m y → Weighing F ev (i + 1) w₀ y
   weighing-more u on l s1 s2 =
@@ -95,7 +96,7 @@ module _ {F : Facts} {ev s : ℕ} {w : List ℕ} (h : Netted F ev s w) where
     excess-of : more - lack ≡ owed.excess F ev s
     excess-of = let sums = h .weighed .sums in rw (p, q, sums .lack .is s l, sums .more .is s l) (sym (excess-is F s ev))
 
-    pub netted-more : {a b : ℕ} {m v : List ℕ} → a ≡ unforced F (lack - more) - F .deficit ev s → b ≡ more - lack
+    pub netted-more : {a b : ℕ} {m v : List ℕ} → a ≡ unforced F (lack - more) - year.deficit (F .event ev .listing) s → b ≡ more - lack
         → Stored (lackRow + 16 + s) a w m → Stored (moreRow + 16 + s) b m v → Netted F ev (s + 1) v
     netted-more f g s1 s2 =
         record {
@@ -106,14 +107,14 @@ module _ {F : Facts} {ev s : ℕ} {w : List ℕ} (h : Netted F ev s w) where
             freshLack = row-kept (row-kept (h .weighed .freshLack) s1 (λ x y. omega arith)) s2 (λ x y. omega arith);
             freshMore = row-kept (row-kept (h .weighed .freshMore) s1 (λ x y. omega arith)) s2 (λ x y. omega arith);
           };
-          shortfall = row-kept (row-more (h .shortfall) s1 (f ∙ shortfall-is (h .weighed .sums) s l (F .deficit ev) p q)) s2 (λ x y. omega arith);
+          shortfall = row-kept (row-more (h .shortfall) s1 (f ∙ shortfall-is (h .weighed .sums) s l (year.deficit (F .event ev .listing)) p q)) s2 (λ x y. omega arith);
           excess = row-more (row-kept (h .excess) s1 (λ x y. omega arith)) s2 (g ∙ excess-of);
         }
 
 -- both allotments may begin; all that comes behind them is still 0
 pub record Ready (F : Facts) (ev : ℕ) (w : List ℕ) : Type 0 where
-  pub lack : Abreast F (F .listed ev) (owed.lack F ev) (owed.shortfall F ev) lackRow 0 w
-  pub more : Abreast F (F .listed ev) (owed.more F ev) (owed.excess F ev) moreRow 0 w
+  pub lack : Abreast F (year.listed (F .event ev .listing)) (owed.lack F ev) (owed.shortfall F ev) lackRow 0 w
+  pub more : Abreast F (year.listed (F .event ev .listing)) (owed.more F ev) (owed.excess F ev) moreRow 0 w
   pub fresh : Row w uRow laterPlaces none
 
 pub netted-all : {F : Facts} {ev : ℕ} {w : List ℕ} → Netted F ev 16 w → Row w uRow laterPlaces none → Ready F ev w

@@ -16,7 +16,7 @@ use Rattle.year.specs.declared.Test.{Test}
 use Rattle.year.specs.declared.Terms.{Terms}
 use Rattle.year.specs.declared.Amounts.{Amounts}
 use Rattle.year.specs.declared.Year.{Year}
-use Rattle.year.specs.Year.{noRegistration, noClearings, noListing, noEvent, noTest, noRetest, noTerms, noAmounts, newYear, clearingsOf, retestOf, pastEvent, pastTest, listed, reduction, zone, product}
+use Rattle.year.specs.Year.{noRegistration, noClearings, noListing, noEvent, noTest, noRetest, noTerms, noAmounts, newYear, clearingsOf, retestOf, listed, reduction, zone, product}
 use Rattle.year.specs.Steps.{withTerms, withOpening, withRegistration, withLse, clearedBy, withClearing, withEvent, withTest, retestBy, withRetest, withClose}
 use Rattle.year.specs.Sound.{SoundRegistration, SoundClearings, AtMost, SoundListing, SoundEvent, SoundTest, SoundRetest, Factors, SoundTerms, Fits42, SoundAmounts, Sound}
 use Rattle.ids.specs.Sets.{kept-set}
@@ -49,18 +49,18 @@ sound-no-amounts =
 
 -- the tests, each at its place
 abbrev SoundTests : Terms → List Test → Type 0
-SoundTests T ts = (k : ℕ) → k < 24 → SoundTest T k (getD ts k pastTest)
+SoundTests T ts = (k : ℕ) → k < 24 → SoundTest T k (getD ts k noTest)
 
 -- blank tests list nothing, so they suit all terms
 sound-no-tests : (T : Terms) {ts : List Test} → ts ≡ replicate 24 noTest → SoundTests T ts
 unfolding listed
 sound-no-tests T e k l =
-    rw (e, getD-replicate 24 k noTest pastTest l)
+    rw (e, getD-replicate 24 k noTest noTest l)
     (record { listing = sound-no-listing; own = λ i m t. false-true (getD-replicate 64 i false false m) t; untaken = λ e i m. getD-replicate 64 i false false m })
 
 pub sound-new : Sound newYear
 sound-new =
-    record { closed = lit≤ tt; held = lit≤ tt; terms = sound-no-terms; clearings = each-replicate SoundClearings noClearings 64 sound-no-clearings; events = each-replicate SoundEvent pastEvent 16 sound-no-event; places = length-replicate 24 noTest; tests = sound-no-tests noTerms refl; retests = each-replicate SoundRetest noRetest 64 (lit≤ tt); billed = sound-no-amounts; fresh = λ e. (refl, refl, refl, refl) }
+    record { closed = lit≤ tt; held = lit≤ tt; terms = sound-no-terms; clearings = each-replicate SoundClearings noClearings 64 sound-no-clearings; events = each-replicate SoundEvent noEvent 16 sound-no-event; places = length-replicate 24 noTest; tests = sound-no-tests noTerms refl; retests = each-replicate SoundRetest noRetest 64 (lit≤ tt); billed = sound-no-amounts; fresh = λ e. (refl, refl, refl, refl) }
 
 module _ {y : Year} (s : Sound y) where
   sound-terms : {opened : Bool} {T : Terms} {cs : List Clearings} → SoundTerms T → Each SoundClearings noClearings 64 cs → SoundTests T (y .tests) → Sound (withTerms y opened T cs)
@@ -96,11 +96,11 @@ module _ {y : Year} (s : Sound y) where
 
   pub sound-event : y .held < 16 → {e : Event} → SoundEvent e → Sound (withEvent y e)
   sound-event l h =
-      record { closed = s .closed; held = omega arith; terms = s .terms; clearings = s .clearings; events = each-set SoundEvent pastEvent (s .events) (y .held) h; places = s .places; tests = s .tests; retests = s .retests; billed = s .billed; fresh = λ e. false-true e refl }
+      record { closed = s .closed; held = omega arith; terms = s .terms; clearings = s .clearings; events = each-set SoundEvent noEvent (s .events) (y .held) h; places = s .places; tests = s .tests; retests = s .retests; billed = s .billed; fresh = λ e. false-true e refl }
 
   pub sound-test : (place : ℕ) {t : Test} → SoundTest (y .terms) place t → Sound (withTest y place t)
   sound-test place {t} h =
-      record { closed = s .closed; held = s .held; terms = s .terms; clearings = s .clearings; events = s .events; places = length-set (y .tests) place t ∙ s .places; tests = kept-set (λ k u. k < 24 → SoundTest (y .terms) k u) pastTest (y .tests) place (λ l. h) (s .tests); retests = s .retests; billed = s .billed; fresh = λ e. false-true e refl }
+      record { closed = s .closed; held = s .held; terms = s .terms; clearings = s .clearings; events = s .events; places = length-set (y .tests) place t ∙ s .places; tests = kept-set (λ k u. k < 24 → SoundTest (y .terms) k u) noTest (y .tests) place (λ l. h) (s .tests); retests = s .retests; billed = s .billed; fresh = λ e. false-true e refl }
 
   -- a retest comes after a test, so the year has begun
   pub sound-retest : y .started ≡ true → {l : Listing} → SoundListing l → Sound (withRetest y l)

@@ -14,7 +14,7 @@ use Rattle.year.specs.declared.Retest.{Retest}
 use Rattle.year.specs.declared.Terms.{Terms}
 use Rattle.year.specs.declared.Amounts.{Amounts}
 use Rattle.year.specs.declared.Year.{Year}
-use Rattle.year.specs.Year.{noRegistration, noClearings, noTest, noRetest, pastEvent, pastTest, listed, zone, product}
+use Rattle.year.specs.Year.{noRegistration, noClearings, noTest, noRetest, noEvent, listed, zone, product}
 
 pub record SoundRegistration (r : Registration) : Type 0 where
   pub seller : r .seller < 16
@@ -82,9 +82,9 @@ pub record Sound (y : Year) : Type 0 where
   pub held : y .held ≤ 16
   pub terms : SoundTerms (y .terms)
   pub clearings : Each SoundClearings noClearings 64 (y .clearings)
-  pub events : Each SoundEvent pastEvent 16 (y .events)
+  pub events : Each SoundEvent noEvent 16 (y .events)
   pub places : length (y .tests) ≡ 24
-  pub tests : (k : ℕ) → k < 24 → SoundTest (y .terms) k (getD (y .tests) k pastTest)
+  pub tests : (k : ℕ) → k < 24 → SoundTest (y .terms) k (getD (y .tests) k noTest)
   pub retests : Each SoundRetest noRetest 64 (y .retests)
   pub billed : SoundAmounts (y .billed)
   pub fresh : y .started ≡ false → (y .held ≡ 0) × (y .closed ≡ 0) × (y .tests ≡ replicate 24 noTest) × (y .retests ≡ replicate 64 noRetest)

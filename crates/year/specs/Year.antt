@@ -3,7 +3,7 @@ use Prim.Native.Nat.{ℕ, _+_, _*_}
 use mathlib.Core.List.{List, []}
 use mathlib.Core.Bool.{Bool, false}
 use lib.ListN.{getD, length, take, replicate}
-use Rattle.ids.specs.Ids.{at, holds}
+use Rattle.ids.specs.Ids.{at}
 use Rattle.year.specs.declared.Registration.{Registration}
 use Rattle.year.specs.declared.Clearings.{Clearings}
 use Rattle.year.specs.declared.Listing.{Listing}
@@ -45,19 +45,16 @@ abbrev pub newYear : Year
 newYear =
     record { opened = false; started = false; closed = 0; terms = noTerms; clearings = replicate 64 noClearings; events = replicate 16 noEvent; held = 0; tests = replicate 24 noTest; retests = replicate 64 noRetest; billed = noAmounts }
 
--- what the code reads past an array's end: every number 0, every test false, every list empty
-abbrev pub pastListing : Listing
-pastListing = record { listed = []; reductions = []; second = []; deficits = [] }
-
-abbrev pub pastEvent : Event
-pastEvent = record { area = 0; month = 0; period = 0; apart = false; listing = pastListing }
-
-abbrev pub pastTest : Test
-pastTest = record { taken = false; month = 0; listing = pastListing }
-
 -- the accepted events, in order of acceptance
 abbrev pub accepted : Year → List Event
 accepted y = take (y .held) (y .events)
+
+-- event ev in order of acceptance, and the test at a place
+abbrev pub eventAt : Year → ℕ → Event
+eventAt y ev = getD (y .events) ev noEvent
+
+abbrev pub testAt : Year → ℕ → Test
+testAt y p = getD (y .tests) p noTest
 
 -- what registration i's clearings come to
 abbrev pub clearingsOf : Year → ℕ → Clearings
@@ -69,7 +66,7 @@ retestOf y i = getD (y .retests) i noRetest
 
 -- is registration i listed, with which reduction, and with which second one, 0 where it has none; the deficit of seller s, 0 where it is absent
 unfoldable pub listed : Listing → ℕ → Bool
-listed l i = holds (l .listed) i
+listed l i = getD (l .listed) i false
 
 unfoldable pub reduction : Listing → ℕ → ℕ
 reduction l i = at (l .reductions) i

@@ -19,7 +19,7 @@ use Rattle.layouts.specs.Layout.{itemsIn, rulesTo, rulesFor}
 use Rattle.layouts.specs.Questions.{recordQuestions, firstFailed, kindOf, headOf, rulesOf, numbersOf, isKind, isWhole, permits, permitted, isFilled, rises, idsRise, recordNumber, consumed, rulesBy}
 use Rattle.records.specs.Calls.{bytesBy}
 use Rattle.year.specs.Year.{newYear, listed, reduction, second, deficit, known, seller, area, zone, product, committed, fieldRate, obligation}
-use Rattle.owed.specs.Facts.{Facts}
+use Rattle.owed.specs.Facts.{Facts, factsOf}
 use Rattle.owed.specs.Owed.{beforeCap, raised, unforced, own, ofArea, areaRate, rate, ofSeller, shareOf, called, calls, shortfallOver, u, measured, offU, asked, cap, daily, spent, charge, excess, e, creditShare, creditLimit, creditOf, result, B, testOf, compliance, test, credit, charges, credits, lse, amounts}
 use Rattle.owed.specs.Retests.{belowQuarter, entryOf, failed, testedKw, failedKw, hadRetest}
 use Rattle.statement.specs.Statement.{difference, hasRegistration, hasObligation, sellerColumns, lineFields, linesTo, statementFields, statementOf}
@@ -28,7 +28,7 @@ use Rattle.heads.specs.Record.{headOf as namedHead, withItem, withItems, listin
 use Rattle.questions.specs.Questions.{monthBegun, inTime, q6, q7, q8, q9, q10, q17, q11, q20, q21, q12, q13, q14, q15, q16, questions}
 use Rattle.entries.specs.Entries.{inArea, inGroup, everyListed, deficitsListed, listsExactly}
 use Rattle.recorded.specs.After.{yearBy}
-use Rattle.recorded.specs.Recorded.{gather, lastOr, sumOver, summed, termsIn, clearingsIn, eventsIn, testsIn, retestsIn, recorded, factsIn}
+use Rattle.recorded.specs.Recorded.{gather, lastOr, sumOver, summed, termsIn, clearingsIn, eventsIn, testsIn, retestsIn, recorded}
 use Rattle.accepting.specs.Leaves.{bufferWith}
 use Rattle.book.specs.Outcome.{postNumber, yearAfter, bufferAfter}
 use Rattle.text.specs.Lines.{digitsTo, decimal}
@@ -112,7 +112,7 @@ bill file = billText file blank
 
 -- what the rules read of the records that are accepted of a file
 abbrev owedBy : List ℕ → Facts
-owedBy file = factsIn (acceptedIn (answers newYear (callsIn file blank)))
+owedBy file = factsOf (recorded (acceptedIn (answers newYear (callsIn file blank))))
 
 -- Year A: each record's number, the buffer that each is lent (as the one before left it; one record more shows what the last leaves), the
 -- statement, and the printed lines. Of the others: 400 kW convert to 396, less 100 is 296:
@@ -249,7 +249,7 @@ closed = refl
 claimed : AtClose before (shown (run newYear earlier) close)
 claimed = demand3 (earlier ++ close ∷ []) .closed before (shown (run newYear earlier) close) [] (answers-more newYear earlier close) closed
 
-claim-figures : (test (factsIn (acceptedIn before)) 1 0 ≡ 147600) × (lse (factsIn (acceptedIn before)) 1 0 ≡ 110700) × (lse (factsIn (acceptedIn before)) 1 1 ≡ 36900)
+claim-figures : (test (factsOf (recorded (acceptedIn before))) 1 0 ≡ 147600) × (lse (factsOf (recorded (acceptedIn before))) 1 0 ≡ 110700) × (lse (factsOf (recorded (acceptedIn before))) 1 1 ≡ 36900)
     × (hasRegistration (termsIn (acceptedIn before)) 0 ≡ true) × (hasObligation (termsIn (acceptedIn before)) 1 ≡ true)
 unfolding bill
 claim-figures = (refl, refl, refl, refl, refl)

@@ -1,14 +1,14 @@
 -- `cells::test_month` meets its contract: the month in the place's row. Assumes nothing.
 use borrow.Author.Needs.{needs}
 use mathlib.Core.Path.{ap, sym}
-use Rattle.year.specs.Year.{pastTest}
+use Rattle.year.specs.Year.{noTest}
 use Rattle.year.specs.declared.Test.{Test}
 use Rattle.cells.specs.Regions.{test-in}
 use Rattle.cells.proofs.test_month.Statement.{statement}
 use Rattle.cells.proofs.test_month.Tie as tie
 
 returns : tie.Need-returns
-returns c = sym (ap (λ (t : Test). t .month) (test-in (c .before .args .year .now) pastTest (c .before .pre)))
+returns c = sym (ap (λ (t : Test). t .month) (test-in (c .before .args .year .now) noTest (c .before .pre)))
 
 pub test-month-spec : {M : Type 1} → statement M
 test-month-spec =

@@ -4,6 +4,7 @@ use mathlib.Core.Path.{_≡_, refl, _∙_}
 use mathlib.Core.Logic.{⊎-elim}
 use native.Mathlib.Omega.{arith}
 use Rattle.ids.specs.Ids.{at}
+use Rattle.year.specs.Year.{listed}
 use Rattle.charging.specs.Charging.{lineOf, line-is}
 use Rattle.looks.specs.Looks.{facts}
 use Rattle.owed_laws.specs.Limits.{limits}
@@ -55,7 +56,7 @@ add-at-requires c κs =
     rw (line (c .before .before .before .before .before)) (omega (arith, b, l .inv .given .columns .long), omega (arith, credit-most (l .inv) L (s .pre .1 .0 .0) _ b, credit-eq (c .before), credit-le L (s .args .k) (s .args .ev) (l .i)))
 
 -- the mark of entry i
-marked : (c : tie.After-get Inv-loop μ-loop) → c .get .result ≡ mark (facts (c .before .before .before .before .before .before .before .before .before .args .year .now) .listed (c .before .before .before .before .before .before .before .before .before .args .ev) (c .before .before .before .loop .i))
+marked : (c : tie.After-get Inv-loop μ-loop) → c .get .result ≡ mark (listed (facts (c .before .before .before .before .before .before .before .before .before .args .year .now) .event (c .before .before .before .before .before .before .before .before .before .args .ev) .listing) (c .before .before .before .loop .i))
 marked c =
     let l = c .before .before .before .loop in
     let read : c .get .result ≡ at (l .work) (listedRow + l .i) = c .get .ensures in

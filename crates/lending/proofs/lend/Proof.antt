@@ -55,7 +55,7 @@ returns c =
     let lent = lent-at (c .before .before .before .before .before) in
     let s₁ = rw (lent, r) at (c .before .before .add-at .ensures) in
     let s₂ = rw (lent, own, worth-is F (s .args .i), r) at (c .add-at2 .ensures) in
-    (own, (lending-more F (L .area (s .args .i)) s₁ s₂ (s .pre .1 .1 .1), lending-aside F (L .area (s .args .i)) s₁ s₂))
+    (own, (lending-more F (s .args .i) (L .area (s .args .i)) s₁ s₂ (s .pre .1 .1 .1), lending-aside F (s .args .i) (L .area (s .args .i)) s₁ s₂))
 
 pub lend-spec : {M : Type 1} → statement M
 lend-spec =

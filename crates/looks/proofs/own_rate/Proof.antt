@@ -12,7 +12,7 @@ use Rattle.looks.proofs.own_rate.Statement.{statement}
 use Rattle.looks.proofs.own_rate.Tie as tie
 
 -- is the registration known
-known-is : (s : tie.Start) → facts (s .args .year .now) .known (s .args .i) ≡ s .args .r .known
+known-is : (s : tie.Start) → known (facts (s .args .year .now) .terms) (s .args .i) ≡ s .args .r .known
 unfolding known
 known-is s = ap (λ r. r .known) (sym (s .pre .1 .1))
 

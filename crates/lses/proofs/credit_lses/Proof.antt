@@ -8,6 +8,7 @@ use lib.ListN.{length}
 use borrow.Author.Tests.{lt-ltb}
 use Rattle.allotment.specs.Allot.{share, share-zero}
 use Rattle.allotment.specs.Stepper.{Before, before-first, share-asks, share-value, share-next, share-skip, divisions-made}
+use Rattle.year.specs.Year.{obligation}
 use Rattle.looks.specs.Looks.{facts}
 use Rattle.owed.specs.Divisions.{knownLse, lseDivisions}
 use Rattle.owed_laws.specs.Limits.{limits}
@@ -20,8 +21,8 @@ use Rattle.lses.proofs.credit_lses.Tie as tie
 
 abbrev Inv-loop : tie.InvT-loop
 Inv-loop year work₀ net₀ a₀ j₀ work a j =
-    (j ≤ 16) × (length work ≡ size) × Aside lseRow 16 work₀ work × Before 16 (knownLse (facts year)) (facts year .obligation) (net work₀) j a
-    × Renewed work lseRow 16 (share 16 (facts year .obligation) (net work₀)) none j
+    (j ≤ 16) × (length work ≡ size) × Aside lseRow 16 work₀ work × Before 16 (knownLse (facts year)) (obligation (facts year .terms)) (net work₀) j a
+    × Renewed work lseRow 16 (share 16 (obligation (facts year .terms)) (net work₀)) none j
 
 abbrev μ-loop : tie.MeasureT-loop
 μ-loop year work₀ net₀ a₀ j₀ work a j = 16 - j
@@ -40,9 +41,9 @@ loop-again c =
     let F = facts (c .before .before .before .before .before .before .before .before .before .args .year .now) in
     let w = c .before .obligation-of .ensures in
     ⊎-elim
-    (λ a. rw (a .5, a .6) (omega arith, a .3 .ensures .long ∙ l .inv .1, aside-more (l .inv .2) (a .3 .ensures) (omega arith) (omega arith), share-next (l .inv .3) w (lt-ltb 0 (F .obligation (l .j)) (omega (arith, w, a .0 .taken))) (a .1 .ensures), renewed-more (l .inv .4) (a .3 .ensures) (share-value (l .inv .3) w (a .1 .ensures))))
-    (λ a. let z : F .obligation (l .j) ≡ 0 = sym w ∙ a .0 .left in
-    rw (a .1, a .2) (omega arith, l .inv .1, l .inv .2, share-skip (l .inv .3) (rw z) z, renewed-none (l .inv .4) (omega arith) (sym (share-zero 16 (F .obligation) _ (l .j) z))))
+    (λ a. rw (a .5, a .6) (omega arith, a .3 .ensures .long ∙ l .inv .1, aside-more (l .inv .2) (a .3 .ensures) (omega arith) (omega arith), share-next (l .inv .3) w (lt-ltb 0 (obligation (F .terms) (l .j)) (omega (arith, w, a .0 .taken))) (a .1 .ensures), renewed-more (l .inv .4) (a .3 .ensures) (share-value (l .inv .3) w (a .1 .ensures))))
+    (λ a. let z : obligation (F .terms) (l .j) ≡ 0 = sym w ∙ a .0 .left in
+    rw (a .1, a .2) (omega arith, l .inv .1, l .inv .2, share-skip (l .inv .3) (rw z) z, renewed-none (l .inv .4) (omega arith) (sym (share-zero 16 (obligation (F .terms)) _ (l .j) z))))
     (c .if1 .came)
 
 returns : tie.Need-returns Inv-loop μ-loop

@@ -8,9 +8,10 @@ use Rattle.sharing.specs.Sharing.{secondOf}
 use Rattle.offpeak.specs.OffPeak.{entry-is, second-small}
 use Rattle.offpeak.proofs.entry_at.Statement.{statement}
 use Rattle.offpeak.proofs.entry_at.Tie as tie
+use Rattle.year.specs.Year.{committed}
 
 -- what is committed and the second reduction, in the table
-committed-is : (c : tie.After-get3) → c .get3 .result ≡ facts (c .before .before .before .before .args .year .now) .committed (c .before .before .before .before .args .i)
+committed-is : (c : tie.After-get3) → c .get3 .result ≡ committed (facts (c .before .before .before .before .args .year .now) .terms) (c .before .before .before .before .args .i)
 committed-is c = let s = c .before .before .before .before in c .get3 .ensures ∙ s .pre .1 .1 .columns .committed .is (s .args .i) (s .pre .1 .0 .1)
 
 second-is : (c : tie.After-get4) → c .get4 .result ≡ secondOf (facts (c .before .before .before .before .before .before .args .year .now)) (c .before .before .before .before .before .before .args .ev) (c .before .before .before .before .before .before .args .i)

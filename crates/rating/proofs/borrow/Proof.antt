@@ -15,18 +15,19 @@ use Rattle.table.specs.Rows.{renewed-next}
 use Rattle.rating.specs.Rating.{rating-none, rating-more}
 use Rattle.rating.proofs.borrow.Statement.{statement}
 use Rattle.rating.proofs.borrow.Tie as tie
+use Rattle.year.specs.Year.{area, committed}
 
 -- what is read of the table
 own-is : (c : tie.After-get) → c .get .result ≡ owed.own (facts (c .before .before .args .year .now)) (c .before .before .args .i)
 own-is c = let s = c .before .before in c .get .ensures ∙ renewed-next (s .pre .1 .1 .rate) (s .pre .1 .0)
 
-committed-is : (c : tie.After-get2) → c .get2 .result ≡ facts (c .before .before .before .before .before .args .year .now) .committed (c .before .before .before .before .before .args .i)
+committed-is : (c : tie.After-get2) → c .get2 .result ≡ committed (facts (c .before .before .before .before .before .args .year .now) .terms) (c .before .before .before .before .before .args .i)
 committed-is c = let s = c .before .before .before .before .before in c .get2 .ensures ∙ s .pre .1 .1 .entered .committed .is (s .args .i) (s .pre .1 .0)
 
-new-is : (c : tie.After-new) → c .new .result .0 ≡ facts (c .before .before .before .before .before .before .args .year .now) .committed (c .before .before .before .before .before .before .args .i)
+new-is : (c : tie.After-new) → c .new .result .0 ≡ committed (facts (c .before .before .before .before .before .before .args .year .now) .terms) (c .before .before .before .before .before .before .args .i)
 new-is c = c .new .ensures ∙ committed-is (c .before)
 
-area-is : (c : tie.After-get3) → c .get3 .result ≡ facts (c .before .before .before .before .before .before .before .before .before .before .args .year .now) .area (c .before .before .before .before .before .before .before .before .before .before .args .i)
+area-is : (c : tie.After-get3) → c .get3 .result ≡ area (facts (c .before .before .before .before .before .before .before .before .before .before .args .year .now) .terms) (c .before .before .before .before .before .before .before .before .before .before .args .i)
 area-is c = let s = c .before .before .before .before .before .before .before .before .before .before in c .get3 .ensures ∙ s .pre .1 .1 .entered .area .is (s .args .i) (s .pre .1 .0)
 
 -- one that commits something is known, and borrows
@@ -37,8 +38,8 @@ rate-is c =
     let L = limits (s .pre .0 .sound) in
     let i = s .args .i in
     let none : owed.own F i ≡ 0 = sym (own-is (c .before .before .before .before .before .before .before .before .before .before)) ∙ omega (arith, c .before .before .before .before .before .before .before .before .before .if1 .left) in
-    let there = known-is L i ∙ lt-ltb 0 (F .committed i) (omega (arith, new-is (c .before .before .before .before .before .before), c .before .before .before .before .if2 .left)) in
-    rw (area-is (c .before .before)) at (c .get4 .ensures) ∙ s .pre .1 .1 .areas .is (F .area i) (L .area i) ∙ sym (rate-borrowed F i there none)
+    let there = known-is L i ∙ lt-ltb 0 (committed (F .terms) i) (omega (arith, new-is (c .before .before .before .before .before .before), c .before .before .before .before .if2 .left)) in
+    rw (area-is (c .before .before)) at (c .get4 .ensures) ∙ s .pre .1 .1 .areas .is (area (F .terms) i) (L .area i) ∙ sym (rate-borrowed F i there none)
 
 returns : tie.Need-returns
 returns c =
@@ -53,7 +54,7 @@ returns-2 c =
     let s = c .before .before .before .before .before .before .before .before in
     let F = facts (s .args .year .now) in
     let i = s .args .i in
-    let unknown = known-is (limits (s .pre .0 .sound)) i ∙ le-ltb 0 (F .committed i) (omega (arith, new-is (c .before .before), c .if2 .taken)) in
+    let unknown = known-is (limits (s .pre .0 .sound)) i ∙ le-ltb 0 (committed (F .terms) i) (omega (arith, new-is (c .before .before), c .if2 .taken)) in
     rating-none (s .pre .1 .1) (s .pre .1 .0) (rate-unknown F i unknown)
 
 get-requires-4 : tie.Need-get-requires-4

@@ -5,6 +5,7 @@ use mathlib.Core.Logic.{⊎-elim}
 use mathlib.Core.Bool.{true}
 use native.Mathlib.Omega.{arith}
 use lib.Dec.{lit≤}
+use Rattle.year.specs.Year.{listed}
 use Rattle.looks.specs.Looks.{facts}
 use Rattle.owed_laws.specs.Limits.{limits}
 use Rattle.weighing.specs.declared.Entry.{Entry}
@@ -18,14 +19,14 @@ Inv-loop year work₀ ev i₀ work i = Sharing (facts year) ev i work₀ work
 abbrev μ-loop : tie.MeasureT-loop
 μ-loop year work₀ ev i₀ work i = 64 - i
 
-listed : (c : tie.After-entry-at Inv-loop μ-loop) → c .entry-at .result .listed ≡ true → facts (c .before .before .before .before .args .year .now) .listed (c .before .before .before .before .args .ev) (c .before .before .before .loop .i) ≡ true
-listed c t = sym (ap (λ (x : Entry). x .listed) (c .entry-at .ensures)) ∙ t
+is-listed : (c : tie.After-entry-at Inv-loop μ-loop) → c .entry-at .result .listed ≡ true → listed (facts (c .before .before .before .before .args .year .now) .event (c .before .before .before .before .args .ev) .listing) (c .before .before .before .loop .i) ≡ true
+is-listed c t = sym (ap (λ (x : Entry). x .listed) (c .entry-at .ensures)) ∙ t
 
 share-requires : tie.Need-share-requires Inv-loop μ-loop
 share-requires c κs =
     let l = c .before .before .before .before .before .loop in
     let L = limits (c .before .before .before .before .before .before .pre .0 .sound) in
-    rw (c .before .before .entry-at .ensures) ((l .inv .columns .long, lit≤ tt, L .seller (l .i)), u-asks (l .inv) L (omega arith) (listed (c .before .before) (c .before .if1 .taken)))
+    rw (c .before .before .entry-at .ensures) ((l .inv .columns .long, lit≤ tt, L .seller (l .i)), u-asks (l .inv) L (omega arith) (is-listed (c .before .before) (c .before .if1 .taken)))
 
 share-requires-2 : tie.Need-share-requires-2 Inv-loop μ-loop
 share-requires-2 c κs =
@@ -33,14 +34,14 @@ share-requires-2 c κs =
     let L = limits (c .before .before .before .before .before .before .before .before .pre .0 .sound) in
     let e = c .before .before .before .before .entry-at .ensures in
     let g = rw e at (c .before .share .ensures) in
-    rw e ((g .long ∙ l .inv .columns .long, lit≤ tt, L .seller (l .i)), e-asks (l .inv) L (omega arith) (listed (c .before .before .before .before) (c .before .before .before .if1 .taken)) g)
+    rw e ((g .long ∙ l .inv .columns .long, lit≤ tt, L .seller (l .i)), e-asks (l .inv) L (omega arith) (is-listed (c .before .before .before .before) (c .before .before .before .if1 .taken)) g)
 
 loop-again : tie.Need-loop-again Inv-loop μ-loop
 loop-again c =
     let v = c .before .before .before .before .loop .inv in
     let e = c .before .entry-at .ensures in
     ⊎-elim
-    (λ a. rw (a .13) (sharing-more v (limits (c .before .before .before .before .before .pre .0 .sound)) (omega arith) (listed (c .before) (a .0 .taken)) (rw e at (a .2 .ensures)) (rw e at (a .4 .ensures)) (a .6 .ensures) (a .8 .ensures) (a .10 .ensures) (rw e at (a .12 .ensures))))
+    (λ a. rw (a .13) (sharing-more v (limits (c .before .before .before .before .before .pre .0 .sound)) (omega arith) (is-listed (c .before) (a .0 .taken)) (rw e at (a .2 .ensures)) (rw e at (a .4 .ensures)) (a .6 .ensures) (a .8 .ensures) (a .10 .ensures) (rw e at (a .12 .ensures))))
     (λ a. rw (a .1) (sharing-none v (omega arith) (sym (ap (λ (x : Entry). x .listed) e) ∙ a .0 .left)))
     (c .if1 .came)
 

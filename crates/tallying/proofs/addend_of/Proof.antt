@@ -11,9 +11,10 @@ use Rattle.owed.specs.Owed as owed
 use Rattle.owed_laws.specs.Limits.{limits}
 use Rattle.tallying.proofs.addend_of.Statement.{statement}
 use Rattle.tallying.proofs.addend_of.Tie as tie
+use Rattle.year.specs.Year.{committed, seller}
 
 -- what is read of the table, and its limits
-committed-is : (c : tie.After-get) → c .get .result ≡ facts (c .before .before .before .args .year .now) .committed (c .before .before .before .args .i)
+committed-is : (c : tie.After-get) → c .get .result ≡ committed (facts (c .before .before .before .args .year .now) .terms) (c .before .before .before .args .i)
 committed-is c = let s = c .before .before .before in c .get .ensures ∙ s .pre .1 .0 .columns .committed .is (s .args .i) (s .pre .1 .1)
 
 place-is : (c : tie.After-get2) → c .get2 .result ≡ placeIn (c .before .before .before .before .before .args .year .now) (c .before .before .before .before .before .args .i)

@@ -12,6 +12,7 @@ use Rattle.looks.specs.Looks.{facts}
 use Rattle.tallying.specs.Sums.{committed-most, reduction-most, worth-most, shortfall-is, base-is}
 use Rattle.testing.proofs.charge_of.Statement.{statement}
 use Rattle.testing.proofs.charge_of.Tie as tie
+use Rattle.year.specs.Year.{deficit}
 
 shortfall-requires : tie.Need-shortfall-requires
 shortfall-requires c κs = let s = c .before .before .before .before .before in (s .pre .0, rw (c .before .before .before .sum .ensures) (committed-most (s .pre .0) (s .pre .1 .1 .0) (s .pre .1 .1 .1) (s .pre .1 .0)))
@@ -35,7 +36,7 @@ module _ (c : tie.After-rate-of) where
       let s = c .before .before .before .before .before .before .before .before in
       let F = facts (s .args .year .now) in
       let L = limits (s .pre .0 .sound) in
-      rw (short, rate) (mul-le-mul (shortfall-le L (owed.stands F (s .args .place)) (owed.result F (s .args .place)) (F .testDeficit (s .args .place)) (s .args .s)) (raised-le L (s .args .place) (s .args .s)))
+      rw (short, rate) (mul-le-mul (shortfall-le L (owed.stands F (s .args .place)) (owed.result F (s .args .place)) (deficit (F .test (s .args .place) .listing)) (s .args .s)) (raised-le L (s .args .place) (s .args .s)))
 
 pub charge-of-spec : {M : Type 1} → statement M
 charge-of-spec =

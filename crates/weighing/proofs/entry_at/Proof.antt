@@ -7,9 +7,10 @@ use Rattle.looks.specs.Looks.{facts}
 use Rattle.owed_laws.specs.Limits.{limits}
 use Rattle.weighing.proofs.entry_at.Statement.{statement}
 use Rattle.weighing.proofs.entry_at.Tie as tie
+use Rattle.year.specs.Year.{committed}
 
 -- what is committed, in the table
-committed-is : (c : tie.After-get) → c .get .result ≡ facts (c .before .before .before .before .args .year .now) .committed (c .before .before .before .before .args .i)
+committed-is : (c : tie.After-get) → c .get .result ≡ committed (facts (c .before .before .before .before .args .year .now) .terms) (c .before .before .before .before .args .i)
 committed-is c = let s = c .before .before .before .before in c .get .ensures ∙ s .pre .1 .1 .committed .is (s .args .i) (s .pre .1 .0 .1)
 
 returns : tie.Need-returns

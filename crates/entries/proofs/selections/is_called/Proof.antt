@@ -6,7 +6,7 @@ use native.Mathlib.Omega.{arith}
 use lib.ListN.{getD}
 use Rattle.ids.specs.Ids.{at, anyTo}
 use Rattle.ids.specs.Tests.{any-at, any-none}
-use Rattle.year.specs.Year.{listed, pastEvent}
+use Rattle.year.specs.Year.{listed, noEvent}
 use Rattle.cells.specs.Layout.{cellEvents}
 use Rattle.owed.specs.Owed.{called}
 use Rattle.entries.proofs.selections.is_called.Statement.{statement}
@@ -15,7 +15,7 @@ use Rattle.cells.proofs.held.Reads as held-reads
 use Rattle.cells.proofs.listed_in.Reads as listed-in-reads
 
 abbrev Inv-loop : tie.InvT-loop
-Inv-loop year i n e₀ e = (e ≤ n) × (anyTo e (λ k. listed (getD (cellEvents year) k pastEvent .listing) i) ≡ false)
+Inv-loop year i n e₀ e = (e ≤ n) × (anyTo e (λ k. listed (getD (cellEvents year) k noEvent .listing) i) ≡ false)
 
 abbrev μ-loop : tie.MeasureT-loop
 μ-loop year i n e₀ e = n - e
@@ -31,7 +31,7 @@ returns c =
     let events = cellEvents (start .args .year .now) in
     let held = c .before .before .before .before .held in
     let e = c .before .before .before .loop .e in
-    sym (any-at (at (start .args .year .now) 2) (λ k. listed (getD events k pastEvent .listing) (start .args .i)) e (omega (arith, held .ensures)) (sym (c .before .listed-in .ensures) ∙ c .if1 .taken))
+    sym (any-at (at (start .args .year .now) 2) (λ k. listed (getD events k noEvent .listing) (start .args .i)) e (omega (arith, held .ensures)) (sym (c .before .listed-in .ensures) ∙ c .if1 .taken))
 
 loop-again : tie.Need-loop-again Inv-loop μ-loop
 loop-again c = (omega arith, any-none _ _ (c .before .before .before .loop .inv .1) (sym (c .before .listed-in .ensures) ∙ c .if1 .left))
