@@ -4,14 +4,8 @@ use mathlib.Core.Bool.{cond}
 use mathlib.Core.List.{List, _++_}
 use lib.ListN.{length, drop}
 use Rattle.year.specs.declared.Year.{Year}
-use Rattle.owed.specs.Facts.{factsOf}
-use Rattle.owed.specs.Owed.{amounts}
-use Rattle.statement.specs.Statement.{statementOf}
 use Rattle.heads.specs.Record.{Record, isClose, monthOf}
-
--- the statement of a close
-abbrev pub closing : Year → ℕ → List ℕ
-closing y month = statementOf (y .terms) month (amounts (factsOf y) month) (y .billed)
+use Rattle.month_end.specs.Closing.{closing}
 
 -- what an accepted record leaves in the buffer: a close its statement, with the rest as it was; and the statement's bytes
 unfoldable pub bufferWith : Year → Record → List ℕ → List ℕ

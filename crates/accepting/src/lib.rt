@@ -1,21 +1,18 @@
 // What an accepted record does: it changes the year, and a close leaves its statement.
 ghost use mathlib.Core.Path.{_≡_};
 ghost use mathlib.Core.Bool.{true};
-ghost use mathlib.Core.List.{_++_};
-ghost use Prim.Native.Nat.{_+_, _≤_, _<_};
-ghost use lib.ListN.{length, drop};
+ghost use Prim.Native.Nat.{_≤_};
+ghost use lib.ListN.{length};
 ghost use Rattle.ids.specs.Ids.{at};
-ghost use Rattle.year.specs.Steps.{withClose};
-ghost use Rattle.owed.specs.Facts.{factsOf};
-ghost use Rattle.owed.specs.Owed.{amounts};
 ghost use Rattle.questions.specs.Questions.{q16};
 ghost use Rattle.cells.specs.Layout.{listingAt, yearIn, Held};
 ghost use Rattle.recorded.specs.After.{registrationOf, yearBy};
-ghost use Rattle.accepting.specs.Leaves.{closing, bufferWith, writtenWith};
+ghost use Rattle.accepting.specs.Leaves.{bufferWith, writtenWith};
 ghost use Rattle.accepting.specs.Suits.{Suits};
 use cells::Cells;
 use heads::Head;
 use heads::RegistrationHead;
+use month_end::close;
 use units::Nominated;
 use year::Registration;
 
@@ -36,26 +33,6 @@ fn registration_of(r: RegistrationHead) -> Registration
     }
 }
 
-// Closes the month; its statement goes to the front of the buffer. Answers the statement's bytes.
-fn close(year: &mut Cells, month: u64, buffer: &mut [u8]) -> usize
-    requires { ⌜ Held (now year) ⌝ }
-    requires { ⌜ yearIn (now year) .closed < 15 ⌝ }
-    requires { ⌜ month ≡ yearIn (now year) .closed + 1 ⌝ }
-    requires { ⌜ 354 ≤ length (now buffer) ⌝ }
-    ensures equals { λ r. ⌜ yearIn (now (year .exit)) ≡ (let y = yearIn (now (year .entry)) in withClose y (amounts (factsOf y) month)) ⌝ }
-    ensures held { λ r. ⌜ Held (now (year .exit)) ⌝ }
-    ensures leaves { λ r. ⌜ now (buffer .exit) ≡ (let s = closing (yearIn (now (year .entry))) month in s ++ drop (length s) (now (buffer .entry))) ⌝ }
-    ensures writes { λ r. ⌜ r ≡ length (closing (yearIn (now (year .entry))) month) ⌝ }
-{
-    let terms = snapshot::terms_of(year);
-    let registrations = terms.registrations;
-    let owed = settlement::amounts_of(registrations, year, month);
-    let billed = snapshot::billed_of(year);
-    let written = issue::write_statement(terms, month, owed, billed, buffer);
-    steps::close(year, owed);
-    written
-}
-
 // Changes the year by an accepted record; a close leaves its statement in the buffer. Answers the statement's bytes.
 pub fn take(year: &mut Cells, head: Head, listing: &[u64], buffer: &mut [u8]) -> usize
     requires { ⌜ Held (now year) ⌝ }
@@ -69,16 +46,16 @@ pub fn take(year: &mut Cells, head: Head, listing: &[u64], buffer: &mut [u8]) ->
 {
     match head {
         Head::Opening(o) => {
-            steps::open(year, o.leap, o.factor, o.requirement);
+            setup::open(year, o.leap, o.factor, o.requirement);
             0
         }
         Head::Registration(r) => {
             let registration = registration_of(r);
-            steps::register(year, r.id as usize, registration);
+            setup::register(year, r.id as usize, registration);
             0
         }
         Head::Lse(j) => {
-            steps::oblige(year, j.id as usize, j.obligation);
+            setup::oblige(year, j.id as usize, j.obligation);
             0
         }
         Head::Event(e) => {
@@ -91,7 +68,7 @@ pub fn take(year: &mut Cells, head: Head, listing: &[u64], buffer: &mut [u8]) ->
         }
         Head::Close(c) => close(year, c.month, buffer),
         Head::Clearing(c) => {
-            steps::clear(year, c.registration as usize, c.price, c.kw);
+            setup::clear(year, c.registration as usize, c.price, c.kw);
             0
         }
         Head::Retest(_) => {

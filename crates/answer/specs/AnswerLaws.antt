@@ -9,7 +9,7 @@ use Rattle.bits.specs.BitLaws.{byte-field, field-mid}
 use Rattle.layouts.specs.Questions.{kindOf, recordNumber, consumed}
 use Rattle.layouts.specs.Layout.{longestRecord}
 use Rattle.year.specs.declared.Year.{Year}
-use Rattle.book.specs.Outcome.{Posts}
+use Rattle.outcome.specs.Outcome.{Posts}
 use Rattle.file.specs.Walk.{ends, recordsIn}
 use Rattle.file.specs.WalkLaws.{records-in}
 use Rattle.file.specs.Window.{Alike, cut-alike, same-kind, same-consumed}

@@ -4,7 +4,7 @@ use cells::Cells;
 ghost use mathlib.Core.Path.{_≡_};
 ghost use Prim.Native.Nat.{_+_};
 ghost use Rattle.cells.specs.Layout.{yearIn, Held};
-ghost use Rattle.book.specs.Outcome.{Posts};
+ghost use Rattle.outcome.specs.Outcome.{Posts};
 ghost use Rattle.text.specs.Pasted.{Pasted};
 ghost use Rattle.answer.specs.Answer.{answerText, Ready};
 

@@ -17,26 +17,26 @@ fn bill(input: i32, buffer: &mut [u8], out: &mut [u8]) -> bool
     let mut year = book::new_book();
     let mut course = Course { position: 1, at: 0 };
     let least = file::window();
-    let mut window = stream::input::new_window();
+    let mut window = input::new_window();
     while course.position < u64::MAX {
-        window = stream::input::filled(input, buffer, window, least);
+        window = input::filled(input, buffer, window, least);
         if window.failed {
             return false;
         }
         let start = window.start;
         let end = window.end;
         if start == end {
-            return stream::output::finish(out, course.at);
+            return output::finish(out, course.at);
         }
         let answered = answer::step(&mut year, course, &buffer[start..end], &mut statement, out);
         course = answered.next;
-        let gathered = stream::output::with_room(out, course.at, report::ROOM);
+        let gathered = output::with_room(out, course.at, report::ROOM);
         if gathered.failed {
             return false;
         }
         course.at = gathered.at;
         let posted = answered.posted;
-        window = stream::input::behind(window, posted.used, file::ends(posted.number));
+        window = input::behind(window, posted.used, file::ends(posted.number));
     }
     false
 }

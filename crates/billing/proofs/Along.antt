@@ -8,7 +8,7 @@ use lib.ListN.{length, take, drop, set}
 use Rattle.layouts.specs.Questions.{recordNumber, consumed}
 use Rattle.records.specs.Calls.{over}
 use Rattle.year.specs.declared.Year.{Year}
-use Rattle.book.specs.Outcome.{postNumber}
+use Rattle.outcome.specs.Outcome.{postNumber}
 use Rattle.file.specs.Walk.{ends, recordsTo}
 use Rattle.file.specs.WalkLaws.{records-none, records-first}
 use Rattle.recorded.specs.Recorded.{gather}

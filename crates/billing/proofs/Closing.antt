@@ -6,7 +6,7 @@ use lib.ListN.{length}
 use Rattle.records.specs.Calls.{over}
 use Rattle.year.specs.declared.Year.{Year}
 use Rattle.year.specs.Sound.{Sound}
-use Rattle.book.specs.Outcome.{bufferAfter, writtenAfter}
+use Rattle.outcome.specs.Outcome.{bufferAfter, writtenAfter}
 use Rattle.history.specs.Runs.{Call}
 use Rattle.history.specs.Taking.{closes, buffered}
 use Rattle.history.specs.Closes.{close-buffer, close-written, other-leaves}

@@ -13,7 +13,7 @@ use Rattle.records.specs.Calls.{over}
 use Rattle.year.specs.declared.Year.{Year}
 use Rattle.year.specs.Year.{newYear}
 use Rattle.year.specs.Sound.{Sound}
-use Rattle.book.specs.Outcome.{postNumber, Posts}
+use Rattle.outcome.specs.Outcome.{postNumber, Posts}
 use Rattle.file.specs.Walk.{ends}
 use Rattle.history.specs.Runs.{Call}
 use Rattle.history.specs.Taking.{step}

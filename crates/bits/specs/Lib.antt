@@ -5,3 +5,4 @@ pub mod TableLaws
 pub mod ItemLaws
 pub mod Pack
 pub mod PackLaws
+pub mod Shifts

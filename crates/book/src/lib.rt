@@ -2,7 +2,7 @@
 ghost use mathlib.Core.Path.{_≡_};
 ghost use Rattle.year.specs.Year.{newYear};
 ghost use Rattle.cells.specs.Layout.{yearIn, Held};
-ghost use Rattle.book.specs.Outcome.{Posts};
+ghost use Rattle.outcome.specs.Outcome.{Posts};
 use accepting::take;
 use cells::Cells;
 use verdict::number_of;
@@ -31,7 +31,7 @@ pub fn post(year: &mut Cells, bytes: &[u8], buffer: &mut [u8]) -> Posted
     ensures held { λ r. ⌜ Held (now (year .exit)) ⌝ }
 {
     let mut values = [0u64; records::NUMBERS];
-    let parsed = records::parse(bytes, &mut values);
+    let parsed = parsing::parse(bytes, &mut values);
     let used = parsed.used;
     if parsed.number != 0 {
         return Posted {

@@ -70,7 +70,7 @@ pub fn test_number(year: &Cells, t: TestHead, listing: &[u64]) -> u64
     if !may_test(year, t.product, t.month) {
         return 11;
     }
-    if cells::test_taken(year, (3 * t.zone + t.product) as usize) {
+    if tested::test_taken(year, (3 * t.zone + t.product) as usize) {
         return 13;
     }
     if lists_exactly(year, listing, Selection::Uncalled(t.zone, t.product)) {

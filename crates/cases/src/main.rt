@@ -1,7 +1,7 @@
 // Answers calls, one to a line that begins with the call's name: `take BYTES ROOM`, `read BYTES ROOM`, `write ROOM NUMBERS`, `telemetry pair BITS BITS`, `telemetry direct BITS`.
 // Bytes are in hexadecimal, `-` where there are none, and so are the eight digits of a value's bits. Records are taken from a new book on, and `new` begins another. A line with another name is passed over.
-use bits::Cursor;
 use cells::Cells;
+use cursor::Cursor;
 use libc::STDIN_FILENO;
 use libc::STDOUT_FILENO;
 use telemetry::Sample;
@@ -17,9 +17,9 @@ fn main() {
 // One line after another, up to the end.
 fn cases(input: i32, buffer: &mut [u8]) {
     let mut year = book::new_book();
-    let mut window = stream::input::new_window();
+    let mut window = input::new_window();
     for _ in 0..u64::MAX {
-        let next = stream::input::next_line(input, buffer, window);
+        let next = input::next_line(input, buffer, window);
         window = next.window;
         let start = window.start;
         let end = next.end;
@@ -27,7 +27,7 @@ fn cases(input: i32, buffer: &mut [u8]) {
             return;
         }
         case(&mut year, &buffer[start..end]);
-        window = stream::input::past(next);
+        window = input::past(next);
     }
 }
 
@@ -129,7 +129,7 @@ fn read(bytes: &[u8], row: &mut [u64])
     requires { ⌜ length (now row) ≤ 515 ⌝ }
 {
     let room = row.len() - 3;
-    let answer = records::read(bytes, &mut row[3..]);
+    let answer = reading::read(bytes, &mut row[3..]);
     row[0] = answer.number;
     row[1] = answer.count as u64;
     row[2] = answer.used as u64;
@@ -191,6 +191,6 @@ fn value_of(word: &[u8]) -> f32 {
 
 fn reduce(sample: Sample) {
     let mut kw: u64 = 0;
-    let number = telemetry::answer(sample, &mut kw);
+    let number = sample_answers::answer(sample, &mut kw);
     print_numbers(&[number, kw], 2);
 }

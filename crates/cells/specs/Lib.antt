@@ -2,4 +2,3 @@
 pub mod Rows
 pub mod Layout
 pub mod Regions
-pub mod Tested

@@ -33,7 +33,7 @@ pub fn charge(year: &Cells, work: &mut Work, ev: usize, k: u64) -> u64
         if (u != 0) | (off != 0) {
             let line = pricing::line_at(work, i);
             let daily = pricing::daily_of(peak, line);
-            let due = pricing::cents(line.product, month, k, days, daily);
+            let due = due_cents::cents(line.product, month, k, days, daily);
             table::add_at(work, table::SPENT, i, daily);
             table::add_at(work, table::COMPLIANCE, line.seller, due);
             all = all + due;

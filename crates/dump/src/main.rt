@@ -14,26 +14,26 @@ fn dump(input: i32, buffer: &mut [u8], out: &mut [u8]) -> bool
     requires { ⌜ lineRoom ≤ length (now out) ⌝ }
 {
     let least = file::window();
-    let mut window = stream::input::new_window();
+    let mut window = input::new_window();
     let mut at: usize = 0;
     let mut position: u64 = 1;
     while position < u64::MAX {
-        window = stream::input::filled(input, buffer, window, least);
+        window = input::filled(input, buffer, window, least);
         if window.failed {
             return false;
         }
         let start = window.start;
         let end = window.end;
         if start == end {
-            return stream::output::finish(out, at);
+            return output::finish(out, at);
         }
         let printed = line::print(position, &buffer[start..end], out, at);
-        let gathered = stream::output::with_room(out, printed.at, line::ROOM);
+        let gathered = output::with_room(out, printed.at, line::ROOM);
         if gathered.failed {
             return false;
         }
         at = gathered.at;
-        window = stream::input::behind(window, printed.used, file::ends(printed.number));
+        window = input::behind(window, printed.used, file::ends(printed.number));
         position += 1;
     }
     false

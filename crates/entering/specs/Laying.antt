@@ -17,7 +17,7 @@ use Rattle.year.specs.Sound.{SoundTest}
 use Rattle.cells.specs.Rows.{from, Laid, laid-on, Same, same-on, same-in, same-before, same-behind}
 use Rattle.cells.specs.Layout.{flag, listingAt, cellTerms, cellTests, retestAt, cellRetests, yearIn, Held}
 use Rattle.cells.specs.Regions.{row-listed, row-reduction, retest-in, registrations-kept, terms-kept, events-kept, places-kept, tests-kept, billed-kept, clearings-kept, retests-kept}
-use Rattle.entering.specs.Entered.{Entered}
+use Rattle.merging.specs.Entered.{Entered}
 use Rattle.entering.specs.Tests.{testOf, untaken-free, Tested, tests-laid}
 
 -- a test is laid by the mark, its head and its deficits, then its entries among those of all tests

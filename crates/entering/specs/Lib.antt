@@ -1,4 +1,3 @@
 -- The year in cells into which the entries of a test or a retest were laid.
-pub mod Entered
 pub mod Tests
 pub mod Laying

@@ -19,7 +19,7 @@ use Rattle.year.specs.Sound.{SoundTest, Sound}
 use Rattle.cells.specs.Rows.{from, Same}
 use Rattle.cells.specs.Layout.{flag, listingAt, cellTerms, placeIn, testAt, cellTests, yearIn}
 use Rattle.cells.specs.Regions.{row-listed, row-reduction, test-same, test-in}
-use Rattle.cells.specs.Tested.{testedAt, firstAt, tested-in}
+use Rattle.tested.specs.Tested.{testedAt, firstAt, tested-in}
 
 -- a test that was taken
 abbrev pub testOf : ℕ → Listing → Test

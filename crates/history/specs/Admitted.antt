@@ -8,8 +8,8 @@ use Rattle.records.specs.Accepted.{Accepted}
 use Rattle.year.specs.declared.Year.{Year}
 use Rattle.questions.specs.Questions.{monthBegun, questions}
 use Rattle.questions.specs.Admitted.{Admitted, admitted}
-use Rattle.book.specs.Outcome.{recordIn, postNumber}
-use Rattle.book.specs.Numbers.{all-passed}
+use Rattle.outcome.specs.Outcome.{recordIn, postNumber}
+use Rattle.outcome.specs.Numbers.{all-passed}
 use Rattle.history.specs.Runs.{Call, isAccepted}
 use Rattle.history.specs.Taking.{accepts}
 

@@ -9,7 +9,7 @@ use Rattle.questions.specs.Admitted.{event-held}
 use Rattle.recorded.specs.After.{yearWith}
 use Rattle.recorded.specs.Recorded.{gather, alone}
 use Rattle.recorded.specs.Booked.{booked, booked-new, booked-more}
-use Rattle.book.specs.Outcome.{recordIn, yearAfter}
+use Rattle.outcome.specs.Outcome.{recordIn, yearAfter}
 use Rattle.history.specs.Runs.{Call, isAccepted, recordFrom, acceptedIn}
 use Rattle.history.specs.Taking.{shown, step, answered, answers, run, accepts}
 use Rattle.history.specs.Admitted.{accepted-admitted}

@@ -11,7 +11,7 @@ use Rattle.heads.specs.Record.{Record}
 use Rattle.recorded.specs.Recorded.{recorded}
 use Rattle.recorded.specs.Booked.{booked, facts-booked}
 use Rattle.questions.specs.Questions.{monthBegun, q6, q7, q8, q9, q10, q17, q11, q20, q21, q12, q13, q14, q15, questions}
-use Rattle.book.specs.Outcome.{recordIn, postNumber}
+use Rattle.outcome.specs.Outcome.{recordIn, postNumber}
 use Rattle.history.specs.Runs.{Call, Answered, acceptedIn}
 use Rattle.history.specs.Taking.{shown, step, answered, answers, run}
 use Rattle.history.specs.Along.{run-years}

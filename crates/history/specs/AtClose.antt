@@ -14,7 +14,7 @@ use Rattle.owed_laws.specs.Totals.{sound-amounts}
 use Rattle.owed_laws.specs.Cap.{yearly-limit}
 use Rattle.statement.specs.Starts.{starts}
 use Rattle.heads.specs.Record.{Record, monthOf}
-use Rattle.book.specs.Outcome.{recordIn}
+use Rattle.outcome.specs.Outcome.{recordIn}
 use Rattle.recorded.specs.Recorded.{termsIn, recorded}
 use Rattle.recorded.specs.Booked.{booked, facts-booked}
 use Rattle.history.specs.Runs.{Call, acceptedIn, statements, soFar}

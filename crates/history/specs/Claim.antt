@@ -12,7 +12,7 @@ use Rattle.statement.specs.Statement.{hasRegistration, hasObligation}
 use Rattle.statement.specs.ReadBack.{complianceIn, testIn, creditIn, lseIn, chargesIn, creditsIn}
 use Rattle.heads.specs.Record.{monthOf}
 use Rattle.recorded.specs.Recorded.{gather, alone, termsIn, recorded}
-use Rattle.book.specs.Outcome.{recordIn, postNumber}
+use Rattle.outcome.specs.Outcome.{recordIn, postNumber}
 use Rattle.history.specs.Runs.{Call, Answered, isClosing, acceptances, acceptedIn, statements, soFar, Variant}
 
 -- at an accepted close x, after the calls before it

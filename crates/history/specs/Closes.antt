@@ -24,7 +24,7 @@ use Rattle.heads.specs.Record.{Record, isClose, monthOf}
 use Rattle.questions.specs.Admitted.{not-finished, next-month}
 use Rattle.recorded.specs.After.{yearBy, yearWith}
 use Rattle.accepting.specs.Leaves.{bufferWith, writtenWith}
-use Rattle.book.specs.Outcome.{recordIn, bufferAfter, writtenAfter}
+use Rattle.outcome.specs.Outcome.{recordIn, bufferAfter, writtenAfter}
 use Rattle.history.specs.Runs.{Call, isAccepted, isClosing}
 use Rattle.history.specs.Taking.{accepts, closes, buffered, step}
 use Rattle.history.specs.Along.{step-by}

@@ -25,9 +25,9 @@ use Rattle.heads.specs.Record.{Record, monthOf}
 use Rattle.questions.specs.Questions.{monthBegun, questions}
 use Rattle.recorded.specs.After.{yearWith}
 use Rattle.recorded.specs.Recorded.{gather, alone}
-use Rattle.book.specs.Outcome.{recordIn, postNumber, yearAfter, bufferAfter}
-use Rattle.book.specs.Numbers.{record-refused, record-accepted}
-use Rattle.book.specs.Numbers as numbers
+use Rattle.outcome.specs.Outcome.{recordIn, postNumber, yearAfter, bufferAfter}
+use Rattle.outcome.specs.Numbers.{record-refused, record-accepted}
+use Rattle.outcome.specs.Numbers as numbers
 use Rattle.file.specs.Walk.{ends}
 use Rattle.file.specs.Window.{Alike, same-number, same-numbers}
 use Rattle.history.specs.Runs.{Call, statements}

@@ -22,8 +22,8 @@ use Rattle.recorded.specs.Booked.{booked, booked-new}
 use Rattle.questions.specs.Questions.{monthBegun}
 use Rattle.questions.specs.Admitted.{Admitted, event-held}
 use Rattle.questions.specs.Blind.{records-blind}
-use Rattle.book.specs.Outcome.{recordIn}
-use Rattle.book.specs.Numbers.{same-post}
+use Rattle.outcome.specs.Outcome.{recordIn}
+use Rattle.outcome.specs.Numbers.{same-post}
 use Rattle.history.specs.Runs.{Call, Answered, isAccepted, isClosing, acceptances, Variant, done, next}
 use Rattle.history.specs.Taking.{buffered, shown, step, answered, answers, accepts, closes}
 use Rattle.history.specs.Claim.{chargeLine, chargeLines}

@@ -25,8 +25,8 @@ use Rattle.questions.specs.Questions.{monthBegun}
 use Rattle.questions.specs.Admitted.{Admitted, event-held}
 use Rattle.heads.specs.Events.{eventOf}
 use Rattle.recorded.specs.After.{yearBy, yearWith}
-use Rattle.book.specs.Outcome.{recordIn, yearAfter}
-use Rattle.book.specs.Kept.{sound-after}
+use Rattle.outcome.specs.Outcome.{recordIn, yearAfter}
+use Rattle.outcome.specs.Kept.{sound-after}
 use Rattle.history.specs.Runs.{Call, isAccepted}
 use Rattle.history.specs.Taking.{accepts, step, run}
 use Rattle.history.specs.Along.{step-by}

@@ -23,7 +23,7 @@ use Rattle.heads.specs.RecordLaws.{is-retest}
 use Rattle.entries.specs.Entries.{everyListed}
 use Rattle.recorded.specs.After.{yearBy, yearWith}
 use Rattle.questions.specs.Admitted.{retest-own}
-use Rattle.book.specs.Outcome.{recordIn}
+use Rattle.outcome.specs.Outcome.{recordIn}
 use Rattle.history.specs.Runs.{Call}
 use Rattle.history.specs.Taking.{step, accepts}
 use Rattle.history.specs.Along.{step-by}

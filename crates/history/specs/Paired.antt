@@ -10,7 +10,7 @@ use Rattle.year.specs.declared.Year.{Year}
 use Rattle.heads.specs.Record.{Record}
 use Rattle.spreading.specs.Listed.{Permitted}
 use Rattle.recorded.specs.Recorded.{termsIn}
-use Rattle.book.specs.Outcome.{recordIn}
+use Rattle.outcome.specs.Outcome.{recordIn}
 use Rattle.history.specs.Runs.{Call, Varied, refused, accepted}
 use Rattle.history.specs.Taking.{shown}
 use Rattle.history.specs.Admitted.{accepted-record}

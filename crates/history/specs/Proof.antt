@@ -5,7 +5,7 @@ use mathlib.Core.Path.{_≡_}
 use lib.ListN.{length}
 use Rattle.year.specs.Year.{newYear}
 use Rattle.recorded.specs.Recorded.{recorded}
-use Rattle.book.specs.Outcome.{postNumber}
+use Rattle.outcome.specs.Outcome.{postNumber}
 use Rattle.history.specs.Runs.{Call, Answered, isClosing, acceptedIn}
 use Rattle.history.specs.Claim.{AtClose, Demand3}
 use Rattle.history.specs.Taking.{answers}

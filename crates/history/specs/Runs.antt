@@ -12,7 +12,7 @@ use Rattle.year.specs.declared.Terms.{Terms}
 use Rattle.year.specs.Year.{seller}
 use Rattle.heads.specs.Record.{Record, isClose, isRetestOf}
 use Rattle.recorded.specs.Recorded.{gather, alone, termsIn}
-use Rattle.book.specs.Outcome.{recordIn}
+use Rattle.outcome.specs.Outcome.{recordIn}
 
 -- a call: any bytes, none too, and a lent buffer of any length and contents
 pub record Call : Type 0 where

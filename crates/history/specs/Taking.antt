@@ -4,7 +4,7 @@ use mathlib.Core.Bool.{Bool}
 use mathlib.Core.List.{List, [], _∷_}
 use lib.ListN.{length}
 use Rattle.year.specs.declared.Year.{Year}
-use Rattle.book.specs.Outcome.{postNumber, yearAfter, bufferAfter}
+use Rattle.outcome.specs.Outcome.{postNumber, yearAfter, bufferAfter}
 use Rattle.history.specs.Runs.{Call, Answered, isAccepted, isClosing}
 
 -- a call that gets the year y, as `post` promises it: its number, what the buffer holds afterwards, and the year after it

@@ -12,7 +12,7 @@ use Rattle.heads.specs.declared.Head.{Head}
 use Rattle.heads.specs.Record.{Record, forEvent}
 use Rattle.recorded.specs.Recorded.{gather, close}
 use Rattle.questions.specs.Questions.{inTime}
-use Rattle.book.specs.Outcome.{recordIn, numberUnder, yearLeft, bufferLeft}
+use Rattle.outcome.specs.Outcome.{recordIn, numberUnder, yearLeft, bufferLeft}
 use Rattle.history.specs.Runs.{Call, Answered, recordFrom}
 use Rattle.history.specs.Taking.{answered, answers}
 

@@ -16,8 +16,8 @@ use Rattle.recorded.specs.Recorded.{gather, close, recorded}
 use Rattle.recorded.specs.Gathered.{gather-each}
 use Rattle.recorded.specs.Booked.{booked, booked-new}
 use Rattle.questions.specs.Questions.{monthBegun, inTime, q11, questions}
-use Rattle.book.specs.Outcome.{recordIn, numberUnder, postNumber, yearAfter, bufferAfter}
-use Rattle.book.specs.Numbers.{same-number}
+use Rattle.outcome.specs.Outcome.{recordIn, numberUnder, postNumber, yearAfter, bufferAfter}
+use Rattle.outcome.specs.Numbers.{same-number}
 use Rattle.history.specs.Runs.{Call, recordFrom}
 use Rattle.history.specs.Taking.{numberOf, buffered, shown, step, answered, answers}
 use Rattle.history.specs.Along.{step-booked}

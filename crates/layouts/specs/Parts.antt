@@ -8,9 +8,7 @@ use lib.ListN.{length, getD, take, drop}
 use Rattle.ids.specs.Ids.{at, allTo}
 use Rattle.bits.specs.Table.{total}
 use Rattle.layouts.specs.declared.Part.{Part}
-use Rattle.layouts.specs.declared.shapes.Shape.{Shape}
-use Rattle.layouts.specs.declared.shapes.ItemList.{ItemList}
-use Rattle.layouts.specs.Layout.{Rule, Items, noItems, Layout, layouts, layoutOf, head, listAt, itemsIn, rulesFor, widths, longestRecord}
+use Rattle.layouts.specs.Layout.{Rule, Items, noItems, Layout, layouts, layoutOf, head, rulesFor, widths, longestRecord}
 
 -- lists one after another, and where list k starts among them
 unfoldable pub join : {A : Type 0} → List (List A) → List A
@@ -72,20 +70,6 @@ pub record Stated (k : ℕ) (vs : List ℕ) : Type 0 where
   pub kind : k < length layouts
   pub head : length (head k) ≤ length vs
   pub bits : total (widths (rulesFor k vs)) ≤ 8 * longestRecord
-
--- l is list i of the record that the numbers state, and the tables have the fields of its items there
-pub record Listed (k : ℕ) (vs : List ℕ) (i : ℕ) (l : ItemList) : Type 0 where
-  pub fields : (f : Rule → ℕ) → take (l .end - l .start) (drop (l .start) (map f rules)) ≡ map f (listAt k i .fields)
-  pub long : l .end ≡ l .start + length (listAt k i .fields)
-  pub within : l .end ≤ length rules
-  pub bits : l .bits ≡ total (widths (listAt k i .fields))
-  pub items : l .items ≡ itemsIn k vs i
-  pub numbers : l .numbers ≡ itemsIn k vs i * length (listAt k i .fields)
-
--- how many fields and bits there are
-pub record Shaped (rs : List Rule) (s : Shape) : Type 0 where
-  pub count : s .count ≡ length rs
-  pub bits : s .bits ≡ total (widths rs)
 
 -- question 3 over a table of lowest values and one of highest: of numbers, of n numbers that stand w apart from place p on, and of n items in a row, field by field
 abbrev pub between : ℕ → ℕ → ℕ → Bool

@@ -5,8 +5,6 @@ ghost use lib.ListN.{length};
 ghost use Rattle.layouts.specs.Layout.{layouts, lists, widths};
 ghost use Rattle.layouts.specs.Parts.{startOf, kinds, parts, rules, lows, highs, rowOf, rowAt, Placed};
 
-pub mod shapes;
-
 // How many kinds the tables have, 0 among them, which is none.
 pub const KINDS: u64 = 10;
 

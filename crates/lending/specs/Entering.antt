@@ -1,34 +1,23 @@
 -- The registrations as they are entered into the working table: their terms, and what they lend their areas.
-use Prim.Native.Nat.{ℕ, _+_, _*_, _≤_, _<_}
-use mathlib.Core.Bool.{Bool, true, false, cond}
+use Prim.Native.Nat.{ℕ, _+_, _*_, _<_}
 use mathlib.Core.List.{List}
 use mathlib.Core.Path.{_≡_, refl, _∙_}
 use native.Mathlib.Omega.{arith}
-use native.Mathlib.Nat.{zero-mul, mul-le-mul, le-refl}
 use lib.ListN.{length, replicate, length-replicate}
-use Rattle.ids.specs.Ids.{at, only}
 use Rattle.ids.specs.Sets.{getD-replicate-same}
-use Rattle.ids.specs.Tests.{cond-le}
 use Rattle.year.specs.Year as year
 use Rattle.cells.specs.Layout.{placeIn}
 use Rattle.owed.specs.Facts.{Facts}
-use Rattle.owed.specs.Owed.{lends}
 use Rattle.owed.specs.Owed as owed
-use Rattle.owed_laws.specs.Limits.{Limits}
 use Rattle.looks.specs.Looks.{facts}
 use Rattle.table.specs.Places.{size, sellerRow, productRow, committedRow, rateRow, capRow, callsRow, placeRow, areaRow, lentRow, worthRow, freshPlaces}
-use Rattle.table.specs.Rows.{Stored, Aside, Row, Grown, none, aside-none, aside-more, row-aside, row-kept, row-first, row-more, grown-first, grown-kept, grown-more, grown-most}
+use Rattle.table.specs.Rows.{Stored, Aside, Row, none, row-aside, row-kept, row-first, row-more, grown-first}
+use Rattle.area_sums.specs.Lent.{lentAt, worthAt, Lending, lending-kept}
 
--- registration i's cap by its own rate; what it lends: kilowatts, and what they are worth
+-- registration i's cap by its own rate
 module _ (F : Facts) where
   abbrev pub ownCap : ℕ → ℕ
   ownCap i = owed.unforced F (year.committed (F .terms) i) * owed.own F i
-
-  abbrev pub lentAt : ℕ → ℕ
-  lentAt = only (lends F) (year.committed (F .terms))
-
-  abbrev pub worthAt : ℕ → ℕ
-  worthAt = only (lends F) (λ i. year.committed (F .terms) i * owed.own F i)
 
 -- the first i registrations' terms, but for their rates
 pub record Entered (c : List ℕ) (i : ℕ) (w : List ℕ) : Type 0 where
@@ -37,11 +26,6 @@ pub record Entered (c : List ℕ) (i : ℕ) (w : List ℕ) : Type 0 where
   pub committed : Row w committedRow i (year.committed (facts c .terms))
   pub place : Row w placeRow i (placeIn c)
   pub area : Row w areaRow i (year.area (facts c .terms))
-
--- by area what they lend
-pub record Lending (F : Facts) (i : ℕ) (w : List ℕ) : Type 0 where
-  pub lent : Grown w lentRow 8 none (year.area (F .terms)) (lentAt F) i
-  pub worth : Grown w worthRow 8 none (year.area (F .terms)) (worthAt F) i
 
 -- both stand in the table, with their own rates and the caps by these, and nothing else
 pub record Begun (c : List ℕ) (i : ℕ) (w : List ℕ) : Type 0 where
@@ -65,47 +49,6 @@ begun-first c =
       lending = record { lent = grown-first (year.area (F .terms)) (lentAt F) (zeros lentRow 8); worth = grown-first (year.area (F .terms)) (worthAt F) (zeros worthRow 8) };
       fresh = zeros callsRow freshPlaces;
     }
-
--- what is lent, at the own rate
-pub worth-is : (F : Facts) (i : ℕ) → lentAt F i * owed.own F i ≡ worthAt F i
-worth-is F i = go (lends F i)
-  where
-    go : (b : Bool) → cond b (year.committed (F .terms) i) 0 * owed.own F i ≡ cond b (year.committed (F .terms) i * owed.own F i) 0
-    go true = refl
-    go false = zero-mul (owed.own F i)
-
-module _ {F : Facts} (L : Limits F) (i : ℕ) where
-  pub lent-le : lentAt F i ≤ 100000
-  lent-le = cond-le (lends F i) (L .committed i)
-
-  pub worth-at-le : worthAt F i ≤ 10000000000
-  worth-at-le = cond-le (lends F i) (mul-le-mul (L .committed i) (L .own i))
-
--- room for one more
-module _ {F : Facts} (L : Limits F) {i : ℕ} (b : i ≤ 64) {w : List ℕ} (h : Lending F i w) (a : ℕ) (m : a < 8) where
-  pub lent-room : at w (lentRow + a) ≤ 6400000
-  lent-room = grown-most (h .lent) 0 100000 b (λ j l. le-refl 0) (λ j l. lent-le L j) a m
-
-  pub worth-room : at w (worthRow + a) ≤ 640000000000
-  worth-room = grown-most (h .worth) 0 10000000000 b (λ j l. le-refl 0) (λ j l. worth-at-le L j) a m
-
--- one more lends
-module _ (F : Facts) (i : ℕ) {w m v : List ℕ} (l : year.area (F .terms) i < 8)
-    (s₁ : Stored (lentRow + year.area (F .terms) i) (at w (lentRow + year.area (F .terms) i) + lentAt F i) w m) (s₂ : Stored (worthRow + year.area (F .terms) i) (at m (worthRow + year.area (F .terms) i) + worthAt F i) m v) where
-  pub lending-more : Lending F i w → Lending F (i + 1) v
-  lending-more h =
-      record {
-        lent = grown-kept (grown-more (h .lent) s₁ l refl refl) s₂ (λ a b. omega arith);
-        worth = grown-more (grown-kept (h .worth) s₁ (λ a b. omega arith)) s₂ l refl refl;
-      }
-
-  pub lending-aside : Aside lentRow 16 w v
-  lending-aside = aside-more (aside-more aside-none s₁ (omega arith) (omega arith)) s₂ (omega arith) (omega arith)
-
--- what is stored before the sums leaves them as they are
-pub lending-kept : {F : Facts} {i q x : ℕ} {w v : List ℕ} → Lending F i w → Stored q x w v → q < lentRow → Lending F i v
-lending-kept h s l =
-    record { lent = grown-kept (h .lent) s (λ a b. omega arith); worth = grown-kept (h .worth) s (λ a b. omega arith) }
 
 -- and its terms are entered
 pub begun-more : {c : List ℕ} {i : ℕ} {w w₀ w₁ w₂ w₃ w₄ w₅ w₆ v : List ℕ} → Begun c i w → i < 64 → let F = facts c in

@@ -1,48 +1,13 @@
 // Registrations entered into the working table one by one, with what each lends its area.
-ghost use mathlib.Core.Bool.{cond};
 ghost use mathlib.Core.Path.{_≡_};
 ghost use Prim.Native.Nat.{_+_, _<_};
-ghost use lib.Dec.{ltb};
-ghost use lib.ListN.{length};
 ghost use Rattle.year.specs.Year.{registration};
 ghost use Rattle.cells.specs.Layout.{yearIn, Held};
-ghost use Rattle.owed.specs.Owed.{own};
-ghost use Rattle.looks.specs.Looks.{facts};
-ghost use Rattle.table.specs.Places.{size, lentRow};
-ghost use Rattle.table.specs.Rows.{Aside};
-ghost use Rattle.lending.specs.Entering.{Lending, Begun};
+ghost use Rattle.lending.specs.Entering.{Begun};
+use area_sums::lend;
 use cells::Cells;
 use table::Work;
-use units::Nominated;
 use year::Registration;
-
-// What a registration lends: all that it committed, at a rate of 0 nothing.
-fn lent_by(committed: Nominated, own: u64) -> Nominated
-    ensures { λ r. ⌜ r .0 ≡ cond (ltb 0 own) (committed .0) 0 ⌝ }
-{
-    if own == 0 {
-        return Nominated(0);
-    }
-    committed
-}
-
-// What a registration lends goes to its area's sums. Gives its own rate.
-fn lend(year: &Cells, work: &mut Work, i: usize, r: Registration) -> u64
-    requires { ⌜ Held (now year) ⌝ }
-    requires { ⌜ (i < 64) × (r ≡ registration (yearIn (now year) .terms) i) ⌝ }
-    requires { ⌜ (length (now work) ≡ size) × Lending (facts (now year)) i (now work) ⌝ }
-    ensures own { λ r. ⌜ r ≡ own (facts (now (year .entry))) i ⌝ }
-    ensures lending { λ _. ⌜ Lending (facts (now (year .entry))) (i + 1) (now (work .exit)) ⌝ }
-    ensures aside { λ _. ⌜ Aside lentRow 16 (now (work .entry)) (now (work .exit)) ⌝ }
-{
-    let own = looks::own_rate(year, i, r);
-    let lent = lent_by(r.committed, own);
-    let worth = lent.0 * own;
-    let area = r.area as usize;
-    table::add_at(work, table::LENT, area, lent.0);
-    table::add_at(work, table::WORTH, area, worth);
-    own
-}
 
 // A registration's terms go into the table, with its own rate and the cap by that: the rate for all that it committed.
 pub fn enter(year: &Cells, work: &mut Work, i: usize, r: Registration)

@@ -1,4 +1,3 @@
--- A record as a line of text, and a line of text as a record.
+-- A record as a line of text.
 pub mod Line
 pub mod Lines
-pub mod Packs

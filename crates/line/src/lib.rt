@@ -1,15 +1,10 @@
-// A record as a line of text, and a line of text as a record.
+// A record as a line of text.
 ghost use mathlib.Core.Path.{_≡_};
 ghost use Prim.Native.Nat.{_+_, _≤_};
 ghost use lib.ListN.{length};
-ghost use Rattle.layouts.specs.Layout.{longestPermitted};
 ghost use Rattle.layouts.specs.Questions.{recordNumber, consumed};
 ghost use Rattle.text.specs.Pasted.{Pasted};
 ghost use Rattle.line.specs.Line.{recordLine, lineRoom};
-ghost use Rattle.line.specs.Packs.{lineNumber, lineRecord};
-
-// The most numbers of a record and one more, so that writing refuses the count of a longer line.
-const NUMBERS: usize = records::NUMBERS + 1;
 
 // The bytes that a caller leaves free for the line of one record.
 pub const ROOM: usize = 21 * records::NUMBERS + 1;
@@ -28,7 +23,7 @@ pub fn print(position: u64, bytes: &[u8], out: &mut [u8], at: usize) -> Printed
     ensures { λ r. ⌜ Pasted (now (out .entry)) (now (out .exit)) at (recordLine position (now (bytes .entry))) (r .at) ⌝ }
 {
     let mut values = [0u64; records::NUMBERS];
-    let record = records::parse(bytes, &mut values);
+    let record = parsing::parse(bytes, &mut values);
     let number = record.number;
     let used = record.used;
     if number != 0 {
@@ -44,32 +39,6 @@ pub fn print(position: u64, bytes: &[u8], out: &mut [u8], at: usize) -> Printed
     Printed {
         number: number,
         used: used,
-        at: next,
-    }
-}
-
-// What packing one line leaves: its number, and the place after its record.
-pub struct Packed {
-    pub number: u64,
-    pub at: usize,
-}
-
-// The record of a line. One of which the start is cut off is longer than any record's.
-pub fn pack(line: &[u8], cut: bool, out: &mut [u8], at: usize) -> Packed
-    requires { ⌜ at + longestPermitted ≤ length (now out) ⌝ }
-    ensures { λ r. ⌜ r .number ≡ lineNumber cut (now (line .entry)) ⌝ }
-    ensures { λ r. ⌜ Pasted (now (out .entry)) (now (out .exit)) at (lineRecord cut (now (line .entry))) (r .at) ⌝ }
-{
-    if cut {
-        return Packed { number: 3, at: at };
-    }
-    let mut numbers = [0u64; NUMBERS];
-    let n = scan::decimals(line, &mut numbers);
-    let answer = writing::write(&numbers[..n], &mut out[at..]);
-    let used = answer.used;
-    let next = at + used;
-    Packed {
-        number: answer.number,
         at: next,
     }
 }

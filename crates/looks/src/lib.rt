@@ -1,14 +1,13 @@
-// What the closing reads of the year: of an event its entries, one look at a time, month, period, whether it is measured apart, and deficits; a registration's own rate; the factors.
+// What the closing reads of the year: of an event its entries, one look at a time, month, period, whether it is measured apart, and deficits; the factors.
 ghost use mathlib.Core.Path.{_≡_};
 ghost use Prim.Native.Nat.{_-_, _≤_, _<_};
-ghost use Rattle.year.specs.Year.{registration, deficit};
-ghost use Rattle.cells.specs.Layout.{yearIn, Held};
-ghost use Rattle.owed.specs.Owed.{oneOrThree, D, unforced, own};
+ghost use Rattle.cells.specs.Layout.{Held};
+ghost use Rattle.owed.specs.Owed.{oneOrThree, D, unforced};
 ghost use Rattle.looks.specs.Looks.{facts, lookAt};
 use cells::Cells;
 use units::Nominated;
 use units::Unforced;
-use year::Registration;
+ghost use Rattle.year.specs.Year.{deficit};
 
 pub struct Entry {
     pub listed: bool,
@@ -68,23 +67,6 @@ pub fn deficit_of(year: &Cells, ev: usize, s: usize) -> Unforced
 {
     let p = cells::EVENTS + cells::EVENT * ev;
     Unforced(year[p + (cells::DEFICITS + s)])
-}
-
-// A registration's own rate: what its clearings say, where it has any, else its field; 0 where it is not known.
-pub fn own_rate(year: &Cells, i: usize, r: Registration) -> u64
-    requires { ⌜ Held (now year) ⌝ }
-    requires { ⌜ i < 64 ⌝ }
-    requires { ⌜ r ≡ registration (yearIn (now year) .terms) i ⌝ }
-    ensures { λ rate. ⌜ rate ≡ own (facts (now (year .entry))) i ⌝ }
-{
-    if !r.known {
-        return 0;
-    }
-    let clearings = cells::clearings_at(year, i);
-    if clearings.count == 0 {
-        return r.rate;
-    }
-    clearings.value / clearings.kw
 }
 
 // Converted by the year's factors: a registration's kilowatts, or a seller's sum.

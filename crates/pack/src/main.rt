@@ -15,18 +15,18 @@ fn refuse(position: u64, number: u64) -> bool {
 
 // One line after another, up to the end; answers whether all is read and written.
 // A failed read or write ends it with nothing more written. No contract can name what is read or written:
-// what a line packs to is the contract of `line::pack`.
+// what a line packs to is the contract of `packed_line::pack`.
 fn pack(input: i32, buffer: &mut [u8], out: &mut [u8]) -> bool
     requires { ⌜ longestPermitted ≤ length (now out) ⌝ }
 {
-    let mut window = stream::input::new_window();
+    let mut window = input::new_window();
     let mut at: usize = 0;
     let mut position: u64 = 1;
     // the line is too long for the buffer, and its start is passed
     let mut cut = false;
     // a turn for each line, or piece of one that is too long
     for _ in 1..u64::MAX {
-        let next = stream::input::next_line(input, buffer, window);
+        let next = input::next_line(input, buffer, window);
         window = next.window;
         if window.failed {
             return false;
@@ -39,19 +39,19 @@ fn pack(input: i32, buffer: &mut [u8], out: &mut [u8]) -> bool
             continue;
         }
         if start == window.end && !cut {
-            return stream::output::finish(out, at);
+            return output::finish(out, at);
         }
-        let packed = line::pack(&buffer[start..end], cut, out, at);
+        let packed = packed_line::pack(&buffer[start..end], cut, out, at);
         let number = packed.number;
         if number != 0 && !refuse(position, number) {
             return false;
         }
-        let gathered = stream::output::with_room(out, packed.at, records::PERMITTED);
+        let gathered = output::with_room(out, packed.at, records::PERMITTED);
         if gathered.failed {
             return false;
         }
         at = gathered.at;
-        window = stream::input::past(next);
+        window = input::past(next);
         cut = false;
         position += 1;
     }

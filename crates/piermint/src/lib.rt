@@ -3,7 +3,7 @@ ghost use mathlib.Core.Path.{_≡_};
 ghost use Rattle.records.specs.Calls.{Reads, Writes};
 ghost use Rattle.year.specs.Year.{newYear};
 ghost use Rattle.cells.specs.Layout.{yearIn, Held};
-ghost use Rattle.book.specs.Outcome.{Posts};
+ghost use Rattle.outcome.specs.Outcome.{Posts};
 ghost use Rattle.billing.specs.Billed.{Bills};
 ghost use Rattle.telemetry.specs.declared.Sample.the-variants.{Pair, Direct};
 ghost use Rattle.telemetry.specs.Reduction.{Answers};
@@ -21,7 +21,7 @@ pub extern "C" fn piermint_read(
 ) -> u64
     ensures { λ r. ⌜ Reads (now (bytes .entry)) (now (numbers .entry)) r (now (count .exit)) (now (used .exit)) (now (numbers .exit)) ⌝ }
 {
-    let read = records::read(bytes, numbers);
+    let read = reading::read(bytes, numbers);
     *count = read.count;
     *used = read.used;
     read.number
@@ -92,7 +92,7 @@ pub extern "C" fn piermint_reduction(expected: u32, metered: u32, kw: &mut u64) 
 {
     let expected = eighths::from_pattern(expected);
     let metered = eighths::from_pattern(metered);
-    telemetry::answer(Sample::Pair(expected, metered), kw)
+    sample_answers::answer(Sample::Pair(expected, metered), kw)
 }
 
 // The kW of an entry from a direct reduction, in the same way.
@@ -100,5 +100,5 @@ pub extern "C" fn piermint_reduction(expected: u32, metered: u32, kw: &mut u64) 
 pub extern "C" fn piermint_direct_reduction(reduction: u32, kw: &mut u64) -> u64
     ensures { λ r. ⌜ Answers (Direct (ofBits binary32 reduction)) r (now (kw .exit)) ⌝ }
 {
-    telemetry::answer(Sample::Direct(eighths::from_pattern(reduction)), kw)
+    sample_answers::answer(Sample::Direct(eighths::from_pattern(reduction)), kw)
 }

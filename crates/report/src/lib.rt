@@ -1,6 +1,6 @@
 // The bill's lines, as bytes: those of a statement and of a refusal.
 // Each function puts its text into a lent buffer from a place on and answers the next place, so that output can be gathered.
-use bits::Cursor;
+use cursor::Cursor;
 use text::put_byte;
 use text::put_decimal;
 use text::put_number;

@@ -1,14 +1,12 @@
 // The questions put to a retest.
 ghost use mathlib.Core.Path.{_≡_};
 ghost use mathlib.Core.Bool.{not, _&&_, _||_};
-ghost use Prim.Native.Nat.{ℕ, _≤_};
+ghost use Prim.Native.Nat.{ℕ};
 ghost use lib.Dec.{leb, eqb};
 ghost use lib.ListN.{length, getD};
 ghost use Rattle.ids.specs.Ids.{at};
 ghost use Rattle.layouts.specs.Questions.{firstFailed};
 ghost use Rattle.year.specs.Year.{seller, noTest, testPlace};
-ghost use Rattle.owed.specs.Facts.{factsOf};
-ghost use Rattle.owed.specs.Retests.{belowQuarter, testedKw, failedKw, hadRetest};
 ghost use Rattle.cells.specs.Layout.{listingAt, yearIn, Held};
 ghost use Rattle.heads.specs.Within.{GroupWithin};
 ghost use Rattle.entries.specs.Entries.{inGroup, everyListed};
@@ -18,21 +16,12 @@ use entries::Condition;
 use entries::Selection;
 use heads::Head;
 use heads::RetestHead;
-use listings::any_selected;
-use listings::committed_kw;
 use listings::every_listed;
 use listings::lists_exactly;
 use questions::may_test;
 use questions::open_number;
-use units::Nominated;
-
-// The place of the test of its zone and product.
-fn place_of(t: RetestHead) -> u64
-    requires { ⌜ GroupWithin (t .zone) (t .product) ⌝ }
-    ensures { λ r. ⌜ r ≡ testPlace (t .zone) (t .product) ⌝ }
-{
-    3 * t.zone + t.product
-}
+use retestable::may_retest;
+use retestable::place_of;
 
 // Question 10: is every listed registration known, of the zone and product, and the seller's?
 fn lists_own(year: &Cells, t: RetestHead, listing: &[u64]) -> bool
@@ -54,37 +43,10 @@ fn in_time(year: &Cells, t: RetestHead) -> bool
         return false;
     }
     let place = place_of(t) as usize;
-    if !cells::test_taken(year, place) {
+    if !tested::test_taken(year, place) {
         return true;
     }
-    cells::test_month(year, place) <= t.month
-}
-
-// Are failed kW × 4 between 1 and one less than tested kW?
-fn below_quarter(failed: Nominated, tested: Nominated) -> bool
-    requires { ⌜ failed .0 ≤ 6400000 ⌝ }
-    ensures { λ r. ⌜ r ≡ belowQuarter (failed .0) (tested .0) ⌝ }
-{
-    let four = failed.0 * 4;
-    0 < four && four < tested.0
-}
-
-// Question 20: was there a test, has the seller had no retest of it, and did it fail with less than a quarter, and some?
-fn may_retest(year: &Cells, t: RetestHead) -> bool
-    requires { ⌜ Held (now year) ⌝ }
-    requires { ⌜ GroupWithin (t .zone) (t .product) ⌝ }
-    ensures { λ r. ⌜ r ≡ (let y = yearIn (now (year .entry)) in let p = testPlace (t .zone) (t .product) in getD (y .tests) p noTest .taken && (not (hadRetest (factsOf y) p (t .seller)) && belowQuarter (failedKw (factsOf y) p (t .seller)) (testedKw (factsOf y) p (t .seller)))) ⌝ }
-{
-    let place = place_of(t);
-    if !cells::test_taken(year, place as usize) {
-        return false;
-    }
-    if any_selected(year, Selection::Retested(place, t.seller)) {
-        return false;
-    }
-    let failed = committed_kw(year, Selection::Failed(place, t.seller));
-    let tested = committed_kw(year, Selection::Tested(place, t.seller));
-    below_quarter(failed, tested)
+    tested::test_month(year, place) <= t.month
 }
 
 // Of a retest.

@@ -14,7 +14,7 @@ use Rattle.recorded.specs.After.{yearWith}
 use Rattle.recorded.specs.Recorded.{gather, alone, recorded}
 use Rattle.recorded.specs.Gathered.{gather-more, some-more}
 use Rattle.recorded.specs.Booked.{facts-booked}
-use Rattle.book.specs.Outcome.{recordIn}
+use Rattle.outcome.specs.Outcome.{recordIn}
 use Rattle.history.specs.Runs.{Call, recordFrom, acceptedIn}
 use Rattle.history.specs.Taking.{shown, step, answered, answers, run, accepts}
 use Rattle.history.specs.Along.{step-by, run-years}

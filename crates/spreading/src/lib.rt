@@ -9,8 +9,8 @@ ghost use Rattle.spreading.specs.Listed.{Permitted};
 ghost use Rattle.spreading.specs.Spread.{Spreads};
 use layouts::lists_of;
 use layouts::part_at;
-use layouts::shapes::head_of;
-use layouts::shapes::list_at;
+use shapes::head_of;
+use shapes::list_at;
 
 // List i of a record, which begins at a place: its items go into the row, as entries or as deficits. Answers where the next list begins.
 fn spread_list(values: &[u64], i: usize, from: usize, row: &mut [u64; 208]) -> usize

@@ -9,21 +9,14 @@ use lib.Dec.{lit<, lit≤}
 use lib.ListN.{length, length-append}
 use lib.Seq.{getD-append-add}
 use Rattle.ids.specs.Ids.{at}
-use Rattle.year.specs.declared.Registration.{Registration}
 use Rattle.year.specs.declared.Amounts.{Amounts}
-use Rattle.year.specs.Year.{clearingsOf}
-use Rattle.year.specs.Steps.{withOpening, withRegistration, withLse, withClearing, withEvent, withClose}
-use Rattle.year.specs.Sound.{SoundAmounts, Sound}
-use Rattle.cells.specs.Rows.{Laid, laid-on, Same, same-on, same-in, same-before, same-behind, rows-laid, cells-laid, numbers-kept, numbers-anew}
-use Rattle.cells.specs.Layout.{flag, registrationAt, listingAt, eventAt, cellRegistrations, cellObligations, cellEvents, cellBilled, cellClearings, yearIn}
-use Rattle.cells.specs.Regions.{registration-view, clearings-view, listing-view, event-view, registrations-kept, obligations-kept, terms-kept, events-kept, tests-kept, billed-kept, clearings-kept, retests-kept}
+use Rattle.year.specs.Steps.{withEvent, withClose}
+use Rattle.year.specs.Sound.{SoundAmounts}
+use Rattle.cells.specs.Rows.{Laid, laid-on, Same, same-on, same-in, same-before, same-behind, rows-laid, numbers-kept, numbers-anew}
+use Rattle.cells.specs.Layout.{flag, listingAt, eventAt, cellEvents, cellBilled, yearIn}
+use Rattle.cells.specs.Regions.{listing-view, event-view, registrations-kept, terms-kept, events-kept, tests-kept, billed-kept, clearings-kept, retests-kept}
 use Rattle.heads.specs.declared.EventHead.{EventHead}
 use Rattle.heads.specs.Events.{eventOf}
-use Rattle.steps.specs.Unmarked.{unmarked, tests-unmarked}
-
--- a known registration is the one that its row has
-registration-row : (r : Registration) → r .known ≡ true → registrationAt (at (1 ∷ r .seller ∷ r .area ∷ r .zone ∷ r .product ∷ r .committed .0 ∷ r .rate ∷ [])) ≡ r
-registration-row r e = rw (← e)
 
 -- the row of an event's head, with a mark for its bool, and of the whole event
 abbrev pub headRow : EventHead → List ℕ
@@ -36,93 +29,6 @@ marked false = refl
 event-row : (e : EventHead) (l : List ℕ) → eventAt (at (headRow e ++ l)) ≡ eventOf e (listingAt (at l))
 event-row e l =
     cc (marked (e .apart), listing-view (λ k. at (headRow e ++ l) (4 + k)) (at l) (λ k m. getD-append-add (headRow e) l k 0))
-
-module _ {c d : List ℕ} where
-  pub opening-laid : {leap factor requirement : ℕ} → Laid 3 (1 ∷ leap ∷ factor ∷ requirement ∷ []) c d → yearIn d ≡ withOpening (yearIn c) leap factor requirement
-  opening-laid h =
-      let marks = same-before h 0 3 (lit≤ tt) in
-      let registrations = registrations-kept (same-behind h 7 448 (lit≤ tt)) in
-      cc (
-        marks .cell 0 (lit< tt),
-        marks .cell 1 (lit< tt),
-        marks .cell 2 (lit< tt),
-        h .inside 0 (lit< tt),
-        h .inside 1 (lit< tt),
-        h .inside 2 (lit< tt),
-        h .inside 3 (lit< tt),
-        registrations,
-        obligations-kept (same-behind h 455 16 (lit≤ tt)),
-        clearings-kept (same-behind h 4487 192 (lit≤ tt)),
-        events-kept (same-behind h 471 3392 (lit≤ tt)),
-        tests-kept registrations (same-behind h 3863 560 (lit≤ tt)),
-        retests-kept (same-behind h 4679 128 (lit≤ tt)),
-        billed-kept (same-behind h 4423 64 (lit≤ tt)),
-      )
-
-  -- before any test, since the place of a listed registration is never to change
-  pub registration-laid : Sound (yearIn c) → yearIn c .started ≡ false → (id : ℕ) (r : Registration) → id < 64 → r .known ≡ true
-      → Laid (7 + 7 * id) (1 ∷ r .seller ∷ r .area ∷ r .zone ∷ r .product ∷ r .committed .0 ∷ r .rate ∷ []) c d → yearIn d ≡ withRegistration (yearIn c) id r
-  unfolding cellRegistrations
-  registration-laid s e id r l k h =
-      let marks = same-before h 0 7 (omega arith) in
-      cc (
-        marks .cell 0 (lit< tt),
-        marks .cell 1 (lit< tt),
-        marks .cell 2 (lit< tt),
-        marks .cell 3 (lit< tt),
-        marks .cell 4 (lit< tt),
-        marks .cell 5 (lit< tt),
-        marks .cell 6 (lit< tt),
-        rows-laid registration-view 64 7 id l refl h,
-        registration-row r k,
-        obligations-kept (same-behind h 455 16 (omega arith)),
-        clearings-kept (same-behind h 4487 192 (omega arith)),
-        events-kept (same-behind h 471 3392 (omega arith)),
-        tests-unmarked (unmarked c s (s .fresh e .2)) (same-behind h 3863 560 (omega arith)),
-        retests-kept (same-behind h 4679 128 (omega arith)),
-        billed-kept (same-behind h 4423 64 (omega arith)),
-      )
-
-  pub lse-laid : (id : ℕ) {kw : ℕ} → id < 16 → Laid (455 + id) (kw ∷ []) c d → yearIn d ≡ withLse (yearIn c) id kw
-  unfolding cellObligations
-  lse-laid id l h =
-      let marks = same-before h 0 7 (omega arith) in
-      let registrations = registrations-kept (same-before h 7 448 (omega arith)) in
-      cc (
-        marks .cell 0 (lit< tt),
-        marks .cell 1 (lit< tt),
-        marks .cell 2 (lit< tt),
-        marks .cell 3 (lit< tt),
-        marks .cell 4 (lit< tt),
-        marks .cell 5 (lit< tt),
-        marks .cell 6 (lit< tt),
-        registrations,
-        cells-laid (λ x. x) 16 455 id l h,
-        clearings-kept (same-behind h 4487 192 (omega arith)),
-        events-kept (same-behind h 471 3392 (omega arith)),
-        tests-kept registrations (same-behind h 3863 560 (omega arith)),
-        retests-kept (same-behind h 4679 128 (omega arith)),
-        billed-kept (same-behind h 4423 64 (omega arith)),
-      )
-
-  pub clearing-laid : (id price kw : ℕ) → id < 64 → let old = clearingsOf (yearIn c) id in
-      Laid (4487 + 3 * id) ((old .count + 1) ∷ (old .value + price * kw) ∷ (old .kw + kw) ∷ []) c d → yearIn d ≡ withClearing (yearIn c) id price kw
-  unfolding cellClearings
-  clearing-laid id price kw l h =
-      let marks = same-before h 0 7 (omega arith) in
-      let registrations = registrations-kept (same-before h 7 448 (omega arith)) in
-      cc (
-        marks .cell 0 (lit< tt),
-        marks .cell 1 (lit< tt),
-        marks .cell 2 (lit< tt),
-        marks .cell 3 (lit< tt),
-        terms-kept (same-before h 4 467 (omega arith)),
-        rows-laid clearings-view 64 4487 id l refl h,
-        events-kept (same-before h 471 3392 (omega arith)),
-        tests-kept registrations (same-before h 3863 560 (omega arith)),
-        retests-kept (same-behind h 4679 128 (omega arith)),
-        billed-kept (same-before h 4423 64 (omega arith)),
-      )
 
 -- an event is laid by three rows: its head, its listing, and the marks
 pub call-laid : {a b c d l : List ℕ} (n : ℕ) (event : EventHead) → n ≡ at a 2 → n < 16 → length l ≡ 208

@@ -1,3 +1,2 @@
 -- The year in cells into which the rows of a step were laid.
-pub mod Unmarked
 pub mod Laying

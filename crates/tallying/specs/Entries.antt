@@ -17,7 +17,7 @@ use Rattle.year.specs.Year.{noTest, retestOf, deficit}
 use Rattle.year.specs.Year as year
 use Rattle.cells.specs.Layout.{flag, placeIn, yearIn, Held}
 use Rattle.cells.specs.Regions.{test-in}
-use Rattle.cells.specs.Tested.{tested-in, first-in}
+use Rattle.tested.specs.Tested.{tested-in, first-in}
 use Rattle.owed.specs.Owed.{D, raised, unforced, ofSeller, called, shortfallOver, testShortfall, B, testOf}
 use Rattle.owed.specs.Owed as owed
 use Rattle.owed_laws.specs.Limits.{limits}

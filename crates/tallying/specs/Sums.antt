@@ -13,7 +13,7 @@ use Rattle.ids.specs.Sums.{sum-same}
 use Rattle.ids.specs.Tests.{cond-le}
 use Rattle.year.specs.Year as year
 use Rattle.cells.specs.Layout.{placeIn, Held}
-use Rattle.cells.specs.Tested.{place-below}
+use Rattle.tested.specs.Tested.{place-below}
 use Rattle.owed.specs.Facts.{Facts}
 use Rattle.owed.specs.Owed.{unforced, ofSeller, called, shortfallOver, testShortfall, B}
 use Rattle.owed.specs.Owed as owed

@@ -44,7 +44,7 @@ fn look(year: &Cells, i: usize) -> Entry
     ensures { λ r. ⌜ r ≡ lookAt (now (year .entry)) i ⌝ }
 {
     let listed = year[cells::TESTED + i] != 0;
-    let retest = cells::retest_at(year, i);
+    let retest = tested::retest_at(year, i);
     let reduction = result(year[cells::TESTED + (64 + i)], retest);
     Entry { listed, reduction }
 }

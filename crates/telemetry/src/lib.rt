@@ -1,6 +1,6 @@
 // Reductions from telemetry: a sample of binary32 kilowatts becomes the kW of an entry, exactly, or a number.
 ghost use mathlib.Core.Path.{_≡_};
-ghost use Rattle.telemetry.specs.Reduction.{limited, reductionOf, numberOf, kwOf, Answers};
+ghost use Rattle.telemetry.specs.Reduction.{limited, reductionOf};
 ghost use Rattle.telemetry.specs.declared.Sample.the-variants.{Pair};
 use eighths::Loads;
 use eighths::counts;
@@ -53,33 +53,4 @@ fn limited(kw: u64) -> Reduced
         return Reduced::TooMuch;
     }
     Reduced::Kw(kw)
-}
-
-// The number that a sample is answered with; its kW go out, 0 where it is refused.
-pub fn answer(sample: Sample, kw: &mut u64) -> u64
-    ensures { λ r. ⌜ Answers sample r (now (kw .exit)) ⌝ }
-{
-    let reduced = reduction(sample);
-    *kw = kw_of(reduced);
-    number_of(reduced)
-}
-
-fn number_of(reduced: Reduced) -> u64
-    ensures { λ r. ⌜ r ≡ numberOf reduced ⌝ }
-{
-    match reduced {
-        Reduced::Kw(_) => 0,
-        Reduced::NotCounted => 18,
-        Reduced::TooMuch => 19,
-    }
-}
-
-fn kw_of(reduced: Reduced) -> u64
-    ensures { λ r. ⌜ r ≡ kwOf reduced ⌝ }
-{
-    match reduced {
-        Reduced::Kw(kw) => kw,
-        Reduced::NotCounted => 0,
-        Reduced::TooMuch => 0,
-    }
 }

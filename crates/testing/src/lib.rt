@@ -68,7 +68,7 @@ fn test_of(year: &Cells, sums: &Sums, s: usize, k: u64) -> u64
     let mut sum: u64 = 0;
     let mut place: usize = 0;
     while place < 24 {
-        if cells::test_taken(year, place) {
+        if tested::test_taken(year, place) {
             sum += charge_of(year, sums, place, s, days);
         }
         place += 1;
@@ -82,7 +82,7 @@ fn any_taken(year: &Cells) -> bool
 {
     let mut place: usize = 0;
     while place < 24 {
-        if cells::test_taken(year, place) {
+        if tested::test_taken(year, place) {
             return true;
         }
         place += 1;

@@ -1,6 +1,6 @@
 -- A new year, and what the rules read of a year.
 use Prim.Native.Nat.{ℕ, _+_, _*_}
-use mathlib.Core.List.{List, []}
+use mathlib.Core.List.{List}
 use mathlib.Core.Bool.{Bool, false}
 use lib.ListN.{getD, length, take, replicate}
 use Rattle.ids.specs.Ids.{at}

@@ -1,2 +1,2 @@
--- Year A from its bytes to its printed lines.
+-- Year A as the bytes of its records.
 pub mod YearA

@@ -1,1 +1,1 @@
-// Figures of Year A, computed over the definitions: no code.
+// Year A as bytes, and what computes its bill: no code.

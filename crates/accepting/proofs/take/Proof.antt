@@ -8,13 +8,13 @@ use Rattle.accepting.specs.Leaves.{bufferWith, writtenWith}
 use Rattle.accepting.specs.Suits.{Suits}
 use Rattle.accepting.proofs.take.Statement.{statement}
 use Rattle.accepting.proofs.take.Tie as tie
-use Rattle.accepting.proofs.close.Reads as close-reads
+use Rattle.month_end.proofs.close.Reads as close-reads
 use Rattle.accepting.proofs.registration_of.Reads as registration-of-reads
 use Rattle.steps.proofs.call.Reads as call-reads
-use Rattle.steps.proofs.clear.Reads as clear-reads
-use Rattle.steps.proofs.oblige.Reads as oblige-reads
-use Rattle.steps.proofs.open.Reads as open-reads
-use Rattle.steps.proofs.register.Reads as register-reads
+use Rattle.setup.proofs.clear.Reads as clear-reads
+use Rattle.setup.proofs.oblige.Reads as oblige-reads
+use Rattle.setup.proofs.open.Reads as open-reads
+use Rattle.setup.proofs.register.Reads as register-reads
 use Rattle.entering.proofs.retest.Reads as retest-reads
 use Rattle.entering.proofs.test.Reads as test-reads
 

@@ -6,7 +6,7 @@ use native.Mathlib.Omega.{arith}
 use lib.ListN.{length, take, drop, set, length-set}
 use borrow.Author.Needs.{needs}
 use Rattle.cells.specs.Layout.{yearIn, Held}
-use Rattle.book.specs.Outcome.{Posts}
+use Rattle.outcome.specs.Outcome.{Posts}
 use Rattle.file.specs.Walk.{ends}
 use Rattle.billing.proofs.Along.{along-all}
 use Rattle.billing.proofs.Turn.{lent, put-back, State, Going, going-none, going-ends, going-full, next-within, written-within, turned}

@@ -17,18 +17,18 @@ use Rattle.questions.specs.Questions.{monthBegun, questions}
 use Rattle.questions.specs.Admitted.{admitted}
 use Rattle.recorded.specs.After.{yearWith}
 use Rattle.accepting.specs.Leaves.{bufferWith, writtenWith}
-use Rattle.book.specs.Outcome.{postNumber}
-use Rattle.book.specs.Numbers.{record-refused, record-accepted}
-use Rattle.book.specs.Made.{values-long, within, permits}
-use Rattle.book.specs.Kept.{suits}
-use Rattle.book.specs.Posting.{refuses, accepts}
+use Rattle.outcome.specs.Outcome.{postNumber}
+use Rattle.outcome.specs.Numbers.{record-refused, record-accepted}
+use Rattle.outcome.specs.Made.{values-long, within, permits}
+use Rattle.outcome.specs.Kept.{suits}
+use Rattle.outcome.specs.Posting.{refuses, accepts}
 use Rattle.book.proofs.post.Statement.{statement}
 use Rattle.book.proofs.post.Tie as tie
 use Rattle.accepting.proofs.take.Reads as take-reads
 use Rattle.heads.proofs.head_of.Reads as head-of-reads
 use Rattle.spreading.proofs.spread.Reads as spread-reads
 use Rattle.verdict.proofs.number_of.Reads as number-of-reads
-use Rattle.records.proofs.parse.Reads as parse-reads
+use Rattle.parsing.proofs.parse.Reads as parse-reads
 
 -- questions 1 to 5 pass, and the values are the record's numbers
 quiet : (c : tie.Else1) → recordNumber (c .before .before .before .before .before .before .before .args .bytes .now) ≡ 0

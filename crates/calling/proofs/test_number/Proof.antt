@@ -10,7 +10,7 @@ use Rattle.questions.specs.Questions.{monthBegun, q6, q7, q8, q9, q10, q17, q11
 use Rattle.questions.specs.Answers.{yes, no, both-pass, one-fails}
 use Rattle.calling.proofs.test_number.Statement.{statement}
 use Rattle.calling.proofs.test_number.Tie as tie
-use Rattle.cells.proofs.test_taken.Reads as test-taken-reads
+use Rattle.tested.proofs.test_taken.Reads as test-taken-reads
 use Rattle.listings.proofs.entries_pass.Reads as entries-pass-reads
 use Rattle.listings.proofs.lists_exactly.Reads as lists-exactly-reads
 use Rattle.questions.proofs.may_test.Reads as may-test-reads

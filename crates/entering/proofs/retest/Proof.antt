@@ -5,7 +5,7 @@ use Rattle.cells.specs.Regions.{stepped}
 use Rattle.entering.specs.Laying.{retest-laid}
 use Rattle.entering.proofs.retest.Statement.{statement}
 use Rattle.entering.proofs.retest.Tie as tie
-use Rattle.entering.proofs.enter.Reads as enter-reads
+use Rattle.merging.proofs.enter.Reads as enter-reads
 
 returns : tie.Need-returns
 returns c =

@@ -7,7 +7,7 @@ use Rattle.entering.specs.Laying.{test-laid}
 use Rattle.entering.proofs.test.Statement.{statement}
 use Rattle.entering.proofs.test.Tie as tie
 use Rattle.cells.proofs.lay.Reads as lay-reads
-use Rattle.entering.proofs.enter.Reads as enter-reads
+use Rattle.merging.proofs.enter.Reads as enter-reads
 
 returns : tie.Need-returns
 returns c =

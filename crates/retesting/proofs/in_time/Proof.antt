@@ -4,10 +4,10 @@ use mathlib.Core.Path.{sym}
 use Rattle.questions.specs.Answers.{yes, no}
 use Rattle.retesting.proofs.in_time.Statement.{statement}
 use Rattle.retesting.proofs.in_time.Tie as tie
-use Rattle.cells.proofs.test_month.Reads as test-month-reads
-use Rattle.cells.proofs.test_taken.Reads as test-taken-reads
+use Rattle.tested.proofs.test_month.Reads as test-month-reads
+use Rattle.tested.proofs.test_taken.Reads as test-taken-reads
 use Rattle.questions.proofs.may_test.Reads as may-test-reads
-use Rattle.retesting.proofs.place_of.Reads as place-of-reads
+use Rattle.retestable.proofs.place_of.Reads as place-of-reads
 
 returns : tie.Need-returns
 returns c = rw (no (c .before .may-test .ensures) (c .if1 .taken))

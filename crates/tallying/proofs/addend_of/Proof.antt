@@ -5,7 +5,7 @@ use native.Mathlib.Omega.{arith}
 use native.Mathlib.Nat.{mul-le-mul}
 use borrow.Author.Needs.{needs}
 use Rattle.cells.specs.Layout.{placeIn}
-use Rattle.cells.specs.Tested.{place-below}
+use Rattle.tested.specs.Tested.{place-below}
 use Rattle.looks.specs.Looks.{facts}
 use Rattle.owed.specs.Owed as owed
 use Rattle.owed_laws.specs.Limits.{limits}

@@ -13,7 +13,7 @@ use Rattle.layouts.specs.Questions.{rulesBy, isKind, permitted, idsRise}
 use Rattle.layouts.specs.QuestionLaws.{kind-in}
 use Rattle.layouts.specs.Parts.{Stated}
 use Rattle.records.specs.Parsing.{Writable}
-use Rattle.writing.proofs.Encoding.{stops-1, stops-3, stops-5, stops-16, stops-none, denies, grants, short-stops, head-stops, passes, by-kind, stated-by}
+use Rattle.encoding.specs.Encoding.{stops-1, stops-3, stops-5, stops-16, stops-none, denies, grants, short-stops, head-stops, passes, by-kind, stated-by}
 use borrow.Author.Needs.{needs}
 use native.Mathlib.Omega.{arith}
 use Rattle.writing.proofs.write.Statement.{statement}

@@ -7,10 +7,10 @@ use Rattle.entries.proofs.selections.is_selected.Statement.{statement}
 use Rattle.entries.proofs.selections.is_selected.Tie as tie
 use Rattle.cells.proofs.registration_at.Reads as registration-at-reads
 use Rattle.entries.proofs.conditions.in_group.Reads as in-group-reads
-use Rattle.entries.proofs.selections.has_failed.Reads as has-failed-reads
+use Rattle.test_entries.proofs.has_failed.Reads as has-failed-reads
 use Rattle.entries.proofs.selections.is_called.Reads as is-called-reads
-use Rattle.entries.proofs.selections.is_entry.Reads as is-entry-reads
-use Rattle.entries.proofs.selections.is_retested.Reads as is-retested-reads
+use Rattle.test_entries.proofs.is_entry.Reads as is-entry-reads
+use Rattle.test_entries.proofs.is_retested.Reads as is-retested-reads
 
 returns : tie.Need-returns
 unfolding known

@@ -10,7 +10,7 @@ use lib.Pow.{pow-pos, pow-add, shr-lt, split}
 use Rattle.writer.specs.declared.Writer.{Writer}
 use Rattle.writer.specs.Written.{Ready}
 use Rattle.bits.specs.Bits.{fieldAt}
-use Rattle.bits.proofs.Shifts.{one-shl, masked, behind}
+use Rattle.bits.specs.Shifts.{one-shl, masked, behind}
 use Rattle.writer.proofs.Writer.put.Statement.{statement}
 use Rattle.writer.proofs.Writer.put.Tie as tie
 

@@ -1,0 +1,2 @@
+-- What registrations lend their areas.
+pub mod Lent

@@ -1,0 +1,3 @@
+-- A window of a lent buffer.
+pub mod Filled
+pub mod Front

@@ -1,0 +1,2 @@
+-- Late events from their bytes to the printed lines.
+pub mod Figures

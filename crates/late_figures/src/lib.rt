@@ -1,0 +1,1 @@
+// Figures of late events, computed over the definitions: no code.

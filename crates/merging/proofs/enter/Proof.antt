@@ -1,0 +1,25 @@
+-- `merging::enter` meets its contract: two rows. Assumes nothing.
+use borrow.Author.Needs.{needs}
+use Rattle.merging.specs.Entered.{entered}
+use Rattle.merging.proofs.enter.Statement.{statement}
+use Rattle.merging.proofs.enter.Tie as tie
+use Rattle.cells.proofs.lay.Reads as lay-reads
+use Rattle.merging.proofs.merge.Reads as merge-reads
+
+returns : tie.Need-returns
+returns c =
+    entered (rw (c .before .before .before .before .before .before .before .before .merge .ensures) at (c .before .before .before .lay .ensures)) (rw (c .before .before .before .before .before .before .merge2 .ensures) at (c .lay2 .ensures))
+
+pub enter-spec : {M : Type 1} → statement M
+enter-spec =
+    tie.close
+    (tie.spec
+    (λ c κs. search needs)
+    (λ c. search needs)
+    (λ c κs. search needs)
+    (λ c. search needs)
+    (λ c κs. search needs)
+    (λ c. search needs)
+    (λ c. search needs)
+    (λ c κs. search needs)
+    returns)

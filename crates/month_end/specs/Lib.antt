@@ -1,0 +1,2 @@
+-- The statement of a close.
+pub mod Closing

@@ -1,0 +1,1 @@
+// The outcome of a call: definitions and laws, no code.

@@ -1,0 +1,2 @@
+-- Output that is gathered in a lent buffer.
+pub mod Room

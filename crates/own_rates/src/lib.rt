@@ -1,0 +1,26 @@
+// A registration's own rate, from its clearings or its field.
+ghost use mathlib.Core.Path.{_≡_};
+ghost use Prim.Native.Nat.{_<_};
+ghost use Rattle.year.specs.Year.{registration};
+ghost use Rattle.cells.specs.Layout.{yearIn, Held};
+ghost use Rattle.owed.specs.Owed.{own};
+ghost use Rattle.looks.specs.Looks.{facts};
+use cells::Cells;
+use year::Registration;
+
+// A registration's own rate: what its clearings say, where it has any, else its field; 0 where it is not known.
+pub fn own_rate(year: &Cells, i: usize, r: Registration) -> u64
+    requires { ⌜ Held (now year) ⌝ }
+    requires { ⌜ i < 64 ⌝ }
+    requires { ⌜ r ≡ registration (yearIn (now year) .terms) i ⌝ }
+    ensures { λ rate. ⌜ rate ≡ own (facts (now (year .entry))) i ⌝ }
+{
+    if !r.known {
+        return 0;
+    }
+    let clearings = cells::clearings_at(year, i);
+    if clearings.count == 0 {
+        return r.rate;
+    }
+    clearings.value / clearings.kw
+}

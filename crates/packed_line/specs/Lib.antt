@@ -1,0 +1,2 @@
+-- The record of a line.
+pub mod Packs

@@ -1,0 +1,3 @@
+-- The numbers that reading leaves in a buffer.
+pub mod Turns
+pub mod Answers

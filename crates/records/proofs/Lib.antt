@@ -1,4 +1,0 @@
--- What the proofs of reading share.
-pub mod Turns
-pub mod Reading
-pub mod Answers

@@ -1,0 +1,51 @@
+// May a seller retest: question 20, and the place of the test that is retested.
+ghost use mathlib.Core.Path.{_≡_};
+ghost use mathlib.Core.Bool.{not, _&&_};
+ghost use Prim.Native.Nat.{_≤_};
+ghost use lib.ListN.{getD};
+ghost use Rattle.year.specs.Year.{noTest, testPlace};
+ghost use Rattle.owed.specs.Facts.{factsOf};
+ghost use Rattle.owed.specs.Retests.{belowQuarter, testedKw, failedKw, hadRetest};
+ghost use Rattle.cells.specs.Layout.{yearIn, Held};
+ghost use Rattle.heads.specs.Within.{GroupWithin};
+use cells::Cells;
+use entries::Selection;
+use heads::RetestHead;
+use listings::any_selected;
+use listings::committed_kw;
+use units::Nominated;
+
+// The place of the test of its zone and product.
+pub fn place_of(t: RetestHead) -> u64
+    requires { ⌜ GroupWithin (t .zone) (t .product) ⌝ }
+    ensures { λ r. ⌜ r ≡ testPlace (t .zone) (t .product) ⌝ }
+{
+    3 * t.zone + t.product
+}
+
+// Are failed kW × 4 between 1 and one less than tested kW?
+fn below_quarter(failed: Nominated, tested: Nominated) -> bool
+    requires { ⌜ failed .0 ≤ 6400000 ⌝ }
+    ensures { λ r. ⌜ r ≡ belowQuarter (failed .0) (tested .0) ⌝ }
+{
+    let four = failed.0 * 4;
+    0 < four && four < tested.0
+}
+
+// Question 20: was there a test, has the seller had no retest of it, and did it fail with less than a quarter, and some?
+pub fn may_retest(year: &Cells, t: RetestHead) -> bool
+    requires { ⌜ Held (now year) ⌝ }
+    requires { ⌜ GroupWithin (t .zone) (t .product) ⌝ }
+    ensures { λ r. ⌜ r ≡ (let y = yearIn (now (year .entry)) in let p = testPlace (t .zone) (t .product) in getD (y .tests) p noTest .taken && (not (hadRetest (factsOf y) p (t .seller)) && belowQuarter (failedKw (factsOf y) p (t .seller)) (testedKw (factsOf y) p (t .seller)))) ⌝ }
+{
+    let place = place_of(t);
+    if !tested::test_taken(year, place as usize) {
+        return false;
+    }
+    if any_selected(year, Selection::Retested(place, t.seller)) {
+        return false;
+    }
+    let failed = committed_kw(year, Selection::Failed(place, t.seller));
+    let tested = committed_kw(year, Selection::Tested(place, t.seller));
+    below_quarter(failed, tested)
+}

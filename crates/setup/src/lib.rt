@@ -1,0 +1,72 @@
+// The year after an opening, a registration, an LSE or a clearing, which all come before the first event, test or close: a step lays a row.
+ghost use mathlib.Core.Path.{_≡_};
+ghost use mathlib.Core.Bool.{true, false};
+ghost use Prim.Native.Nat.{_≤_, _<_};
+ghost use Rattle.year.specs.Year.{clearingsOf};
+ghost use Rattle.year.specs.Steps.{withOpening, withRegistration, withLse, withClearing};
+ghost use Rattle.year.specs.Sound.{SoundRegistration, Factors};
+ghost use Rattle.cells.specs.Layout.{yearIn, Held};
+use cells::CLEARING;
+use cells::CLEARINGS;
+use cells::Cells;
+use cells::OBLIGATIONS;
+use cells::OPENED;
+use cells::REGISTRATION;
+use cells::REGISTRATIONS;
+use cells::lay;
+use year::Registration;
+
+// An opening: the year's leap mark and factors.
+pub fn open(year: &mut Cells, leap: u64, factor: u64, requirement: u64)
+    requires { ⌜ Held (now year) ⌝ }
+    requires { ⌜ Factors leap factor requirement ⌝ }
+    ensures equals { λ r. ⌜ yearIn (now (year .exit)) ≡ withOpening (yearIn (now (year .entry))) leap factor requirement ⌝ }
+    ensures held { λ r. ⌜ Held (now (year .exit)) ⌝ }
+{
+    lay(year, OPENED, &[1, leap, factor, requirement]);
+}
+
+// One more registration, before any event, test or close.
+pub fn register(year: &mut Cells, id: usize, r: Registration)
+    requires { ⌜ Held (now year) ⌝ }
+    requires { ⌜ yearIn (now year) .started ≡ false ⌝ }
+    requires { ⌜ id < 64 ⌝ }
+    requires { ⌜ r .known ≡ true ⌝ }
+    requires { ⌜ SoundRegistration r ⌝ }
+    ensures equals { λ u. ⌜ yearIn (now (year .exit)) ≡ withRegistration (yearIn (now (year .entry))) id r ⌝ }
+    ensures held { λ u. ⌜ Held (now (year .exit)) ⌝ }
+{
+    let committed = r.committed;
+    let row = [1, r.seller, r.area, r.zone, r.product, committed.0, r.rate];
+    lay(year, REGISTRATIONS + REGISTRATION * id, &row);
+}
+
+// One more LSE's obligation.
+pub fn oblige(year: &mut Cells, id: usize, kw: u64)
+    requires { ⌜ Held (now year) ⌝ }
+    requires { ⌜ id < 16 ⌝ }
+    requires { ⌜ kw ≤ 1000000 ⌝ }
+    ensures equals { λ r. ⌜ yearIn (now (year .exit)) ≡ withLse (yearIn (now (year .entry))) id kw ⌝ }
+    ensures held { λ r. ⌜ Held (now (year .exit)) ⌝ }
+{
+    lay(year, OBLIGATIONS + id, &[kw]);
+}
+
+// One more clearing of a registration that has fewer than four.
+pub fn clear(year: &mut Cells, id: usize, price: u64, kw: u64)
+    requires { ⌜ Held (now year) ⌝ }
+    requires { ⌜ id < 64 ⌝ }
+    requires { ⌜ clearingsOf (yearIn (now year)) id .count < 4 ⌝ }
+    requires { ⌜ price ≤ 100000 ⌝ }
+    requires { ⌜ 1 ≤ kw ⌝ }
+    requires { ⌜ kw ≤ 100000 ⌝ }
+    ensures equals { λ r. ⌜ yearIn (now (year .exit)) ≡ withClearing (yearIn (now (year .entry))) id price kw ⌝ }
+    ensures held { λ r. ⌜ Held (now (year .exit)) ⌝ }
+{
+    let old = cells::clearings_at(year, id);
+    let count = old.count;
+    let value = old.value;
+    let cleared = old.kw;
+    let row = [count + 1, value + price * kw, cleared + kw];
+    lay(year, CLEARINGS + CLEARING * id, &row);
+}

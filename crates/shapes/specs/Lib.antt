@@ -1,0 +1,2 @@
+-- A record's lists and shape.
+pub mod Shapes

@@ -1,3 +1,0 @@
-// Input and output in pieces, through lent buffers.
-pub mod input;
-pub mod output;

@@ -1,0 +1,2 @@
+-- The entries of tests and retests in the cells.
+pub mod Tested

@@ -1,2 +1,0 @@
--- What the proofs of writing share.
-pub mod Encoding

@@ -1,2 +1,0 @@
--- What the steps of writing hand on.
-pub mod Lists

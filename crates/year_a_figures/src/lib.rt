@@ -1,0 +1,1 @@
+// Figures of Year A, computed over the definitions: no code.
