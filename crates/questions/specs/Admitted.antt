@@ -1,6 +1,6 @@
 -- What a record that passes questions 6 to 17, 20 and 21 has: each question's yes, and what it says of the year.
 use Prim.Native.Nat.{ℕ, _+_, _≤_, _<_}
-use mathlib.Core.Path.{_≡_, refl, sym, _∙_}
+use mathlib.Core.Path.{_≡_, refl, ap, sym, _∙_}
 use mathlib.Core.Bool.{Bool, true, false, not}
 use native.Mathlib.Omega.{arith}
 use lib.Dec.{ltb, eqb}
@@ -9,13 +9,12 @@ use borrow.Author.Tests.{not-true, ltb-true, leb-true, eqb-true}
 use Rattle.ids.specs.Tests.{and-parts}
 use Rattle.layouts.specs.Questions.{firstFailed}
 use Rattle.records.specs.Accepted.{passed}
-use Rattle.ids.specs.Each.{each-replicate}
+use Rattle.ids.specs.Sets.{getD-replicate-same}
 use Rattle.year.specs.declared.Listing.{Listing}
 use Rattle.year.specs.declared.Test as test
 use Rattle.year.specs.declared.Year.{Year}
 use Rattle.year.specs.Year.{clearingsOf, seller, noTest, testPlace}
 use Rattle.year.specs.Sound.{Sound}
-use Rattle.year.specs.Limits.{each-anywhere}
 use Rattle.heads.specs.declared.EventHead.{EventHead}
 use Rattle.heads.specs.declared.TestHead.{TestHead}
 use Rattle.heads.specs.declared.CloseHead.{CloseHead}
@@ -97,7 +96,7 @@ module _ {rule : ℕ → ℕ → Bool} {y : Year} {l : Listing} {room : ℕ} whe
         go : (b : Bool) → y .started ≡ b → b ≡ true
         go true e = refl
         go false e =
-            let blank = each-anywhere (λ (x : test.Test). x .taken ≡ false) {d = noTest} refl (each-replicate (λ (x : test.Test). x .taken ≡ false) noTest 24 {v = noTest} refl) (testPlace (t .zone) (t .product)) in
+            let blank = ap (λ (x : test.Test). x .taken) (getD-replicate-same 24 (testPlace (t .zone) (t .product)) noTest) in
             absurd (let z : _≡_ {A = ℕ} 0 1 = cc (retest-tested, S .fresh e .2, blank) in omega arith)
 
   pub clearings-few : {c : ClearingHead} → Admitted rule y (record { head = Clearing c; listing = l }) room → clearingsOf y (c .registration) .count < 4

@@ -2,7 +2,6 @@
 use Prim.Native.Nat.{ℕ, _+_, max}
 use mathlib.Core.Bool.{Bool, true, not, _&&_, _||_}
 use mathlib.Core.List.{List, [], _∷_}
-use lib.ListN.{getD}
 use lib.Dec.{leb, ltb, eqb}
 use Rattle.ids.specs.Ids.{anyTo}
 use Rattle.calendar.specs.Calendar.{callable, testable}
@@ -10,7 +9,7 @@ use Rattle.year.specs.declared.Listing.{Listing}
 use Rattle.year.specs.declared.Test.{Test}
 use Rattle.year.specs.declared.Terms.{Terms}
 use Rattle.year.specs.declared.Year.{Year}
-use Rattle.year.specs.Year.{clearingsOf, known, seller, product, obligation, size, lses, noTest, testPlace}
+use Rattle.year.specs.Year.{clearingsOf, known, seller, product, obligation, size, lses, testAt, testPlace}
 use Rattle.owed.specs.Facts.{factsOf}
 use Rattle.owed.specs.Owed.{called}
 use Rattle.owed.specs.Retests.{belowQuarter, failed, testedKw, failedKw, hadRetest}
@@ -43,7 +42,7 @@ module _ (y : Year) where
 
   -- the test of a zone and product
   abbrev testOf : ℕ → ℕ → Test
-  testOf z p = getD (y .tests) (testPlace z p) noTest
+  testOf z p = testAt y (testPlace z p)
 
   -- for an opening: is there no year? For others: is there one, with month 15 not closed?
   unfoldable pub q6 : Head → Bool
