@@ -16,8 +16,8 @@ use Rattle.allotment.specs.Stepper.{Asks, Gives, Before, before-first, share-as
 use Rattle.owed.specs.Facts.{Facts}
 use Rattle.owed.specs.Divisions.{entryOf, divisionsOf}
 use Rattle.owed.specs.Owed.{ofSeller, shareOf}
-use Rattle.cells.specs.Rows.{Off}
-use Rattle.table.specs.Rows.{Stored, Aside, aside-of, Row, none}
+use Rattle.year_cells.specs.Rows.{Off}
+use Rattle.settle_table.specs.Rows.{Stored, Aside, aside-of, Row, none}
 
 -- seller s's allotment, in the rows from p on
 abbrev pub stepper : ℕ → List ℕ → ℕ → Allotment

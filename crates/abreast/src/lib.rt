@@ -3,10 +3,10 @@ ghost use mathlib.Core.Path.{_≡_};
 ghost use Prim.Native.Nat.{_+_, _≤_, _<_};
 ghost use lib.ListN.{length};
 ghost use Rattle.allotment.specs.Stepper.{Asks};
-ghost use Rattle.table.specs.Places.{size};
+ghost use Rattle.settle_table.specs.Places.{size};
 ghost use Rattle.abreast.specs.Abreast.{stepper, Shared};
 use allotment::Allotment;
-use table::Work;
+use settle_table::Work;
 
 // The rows: the sums of all weights, then the amounts, the weights passed, the last quotients and the divisions.
 pub const AMOUNT: usize = 16;
@@ -24,16 +24,16 @@ pub fn share(work: &mut Work, p: usize, s: usize, weight: u64) -> u64
     ensures { λ r. ⌜ Shared p s weight (now (work .entry)) (now (work .exit)) r ⌝ }
 {
     let before = Allotment {
-        amount: table::get(work, p + AMOUNT, s),
-        total: table::get(work, p, s),
-        passed: table::get(work, p + PASSED, s),
-        quotient: table::get(work, p + QUOTIENT, s),
-        divisions: table::get(work, p + DIVISIONS, s),
+        amount: settle_table::get(work, p + AMOUNT, s),
+        total: settle_table::get(work, p, s),
+        passed: settle_table::get(work, p + PASSED, s),
+        quotient: settle_table::get(work, p + QUOTIENT, s),
+        divisions: settle_table::get(work, p + DIVISIONS, s),
     };
     let share = before.share(weight);
     let next = share.next;
-    table::put(work, p + PASSED, s, next.passed);
-    table::put(work, p + QUOTIENT, s, next.quotient);
-    table::put(work, p + DIVISIONS, s, next.divisions);
+    settle_table::put(work, p + PASSED, s, next.passed);
+    settle_table::put(work, p + QUOTIENT, s, next.quotient);
+    settle_table::put(work, p + DIVISIONS, s, next.divisions);
     share.value
 }

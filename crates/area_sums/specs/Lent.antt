@@ -12,8 +12,8 @@ use Rattle.owed.specs.Facts.{Facts}
 use Rattle.owed.specs.Owed.{lends}
 use Rattle.owed.specs.Owed as owed
 use Rattle.owed_laws.specs.Limits.{Limits}
-use Rattle.table.specs.Places.{lentRow, worthRow}
-use Rattle.table.specs.Rows.{Stored, Aside, Grown, none, aside-none, aside-more, grown-kept, grown-more, grown-most}
+use Rattle.settle_table.specs.Places.{lentRow, worthRow}
+use Rattle.settle_table.specs.Rows.{Stored, Aside, Grown, none, aside-none, aside-more, grown-kept, grown-more, grown-most}
 
 -- what registration i lends: kilowatts, and what they are worth
 module _ (F : Facts) where

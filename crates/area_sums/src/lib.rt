@@ -5,16 +5,16 @@ ghost use Prim.Native.Nat.{_+_, _<_};
 ghost use lib.Dec.{ltb};
 ghost use lib.ListN.{length};
 ghost use Rattle.year.specs.Year.{registration};
-ghost use Rattle.cells.specs.Layout.{yearIn, Held};
+ghost use Rattle.year_cells.specs.Layout.{yearIn, Held};
 ghost use Rattle.owed.specs.Owed.{own};
-ghost use Rattle.looks.specs.Looks.{facts};
-ghost use Rattle.table.specs.Places.{size, lentRow};
-ghost use Rattle.table.specs.Rows.{Aside};
+ghost use Rattle.settle_facts.specs.Looks.{facts};
+ghost use Rattle.settle_table.specs.Places.{size, lentRow};
+ghost use Rattle.settle_table.specs.Rows.{Aside};
 ghost use Rattle.area_sums.specs.Lent.{Lending};
-use cells::Cells;
-use table::Work;
+use settle_table::Work;
 use units::Nominated;
 use year::Registration;
+use year_cells::Cells;
 
 // What a registration lends: all that it committed, at a rate of 0 nothing.
 fn lent_by(committed: Nominated, own: u64) -> Nominated
@@ -39,7 +39,7 @@ pub fn lend(year: &Cells, work: &mut Work, i: usize, r: Registration) -> u64
     let lent = lent_by(r.committed, own);
     let worth = lent.0 * own;
     let area = r.area as usize;
-    table::add_at(work, table::LENT, area, lent.0);
-    table::add_at(work, table::WORTH, area, worth);
+    settle_table::add_at(work, settle_table::LENT, area, lent.0);
+    settle_table::add_at(work, settle_table::WORTH, area, worth);
     own
 }

@@ -1,10 +1,10 @@
 // Bills record files, each from a new book: standard input, or the files that the arguments name, where `-` is standard input.
-use answer::Course;
+use bill_step::Course;
 use libc::STDIN_FILENO;
 ghost use Prim.Native.Nat.{_≤_};
 ghost use lib.ListN.{length};
-ghost use Rattle.report.specs.Text.{room};
-ghost use Rattle.layouts.specs.Layout.{longestRecord};
+ghost use Rattle.text_bill.specs.Text.{room};
+ghost use Rattle.record_layouts.specs.Layout.{longestRecord};
 
 // One record after another, up to the end or a number that ends the file; answers whether all is read and written.
 // A failed read or write ends it with nothing more written. No contract can name what is read or written: that
@@ -13,13 +13,13 @@ fn bill(input: i32, buffer: &mut [u8], out: &mut [u8]) -> bool
     requires { ⌜ longestRecord ≤ length (now buffer) ⌝ }
     requires { ⌜ room ≤ length (now out) ⌝ }
 {
-    let mut statement = [0u8; report::STATEMENT];
+    let mut statement = [0u8; text_bill::STATEMENT];
     let mut year = book::new_book();
     let mut course = Course { position: 1, at: 0 };
-    let least = file::window();
-    let mut window = input::new_window();
+    let least = record_file::window();
+    let mut window = text_stream::new_window();
     while course.position < u64::MAX {
-        window = input::filled(input, buffer, window, least);
+        window = text_stream::filled(input, buffer, window, least);
         if window.failed {
             return false;
         }
@@ -28,15 +28,15 @@ fn bill(input: i32, buffer: &mut [u8], out: &mut [u8]) -> bool
         if start == end {
             return output::finish(out, course.at);
         }
-        let answered = answer::step(&mut year, course, &buffer[start..end], &mut statement, out);
+        let answered = bill_step::step(&mut year, course, &buffer[start..end], &mut statement, out);
         course = answered.next;
-        let gathered = output::with_room(out, course.at, report::ROOM);
+        let gathered = output::with_room(out, course.at, text_bill::ROOM);
         if gathered.failed {
             return false;
         }
         course.at = gathered.at;
         let posted = answered.posted;
-        window = input::behind(window, posted.used, file::ends(posted.number));
+        window = text_stream::behind(window, posted.used, record_file::ends(posted.number));
     }
     false
 }

@@ -1,11 +1,11 @@
 // Taking a record: the questions, then what an accepted one does.
 ghost use mathlib.Core.Path.{_≡_};
 ghost use Rattle.year.specs.Year.{newYear};
-ghost use Rattle.cells.specs.Layout.{yearIn, Held};
-ghost use Rattle.outcome.specs.Outcome.{Posts};
-use accepting::take;
-use cells::Cells;
-use verdict::number_of;
+ghost use Rattle.year_cells.specs.Layout.{yearIn, Held};
+ghost use Rattle.book_outcome.specs.Outcome.{Posts};
+use book_accept::take;
+use question_number::number_of;
+use year_cells::Cells;
 
 // A call's answer: 0 or the number of the question that failed, the bytes consumed, and the bytes of the statement that
 // it left in the buffer, 0 where it left none.
@@ -20,7 +20,7 @@ pub fn new_book() -> Cells
     ensures equals { λ r. ⌜ yearIn r ≡ newYear ⌝ }
     ensures held { λ r. ⌜ Held r ⌝ }
 {
-    cells::new_year()
+    year_cells::new_year()
 }
 
 // Takes a record. The buffer is for a close's statement: 354 bytes are enough.
@@ -30,8 +30,8 @@ pub fn post(year: &mut Cells, bytes: &[u8], buffer: &mut [u8]) -> Posted
     ensures refused { λ r. ⌜ ((r .number ≡ 0 → ⊥) → now (year .exit) ≡ now (year .entry)) ⌝ }
     ensures held { λ r. ⌜ Held (now (year .exit)) ⌝ }
 {
-    let mut values = [0u64; records::NUMBERS];
-    let parsed = parsing::parse(bytes, &mut values);
+    let mut values = [0u64; record_numbers::NUMBERS];
+    let parsed = record_parse::parse(bytes, &mut values);
     let used = parsed.used;
     if parsed.number != 0 {
         return Posted {
@@ -40,9 +40,9 @@ pub fn post(year: &mut Cells, bytes: &[u8], buffer: &mut [u8]) -> Posted
             written: 0,
         };
     }
-    let head = heads::head_of(&values);
+    let head = record_heads::head_of(&values);
     let mut listing = [0u64; 208];
-    spreading::spread(&values, &mut listing);
+    record_listing::spread(&values, &mut listing);
     let number = number_of(year, head, &listing, buffer.len());
     if number != 0 {
         return Posted {

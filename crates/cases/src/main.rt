@@ -1,13 +1,13 @@
 // Answers calls, one to a line that begins with the call's name: `take BYTES ROOM`, `read BYTES ROOM`, `write ROOM NUMBERS`, `telemetry pair BITS BITS`, `telemetry direct BITS`.
 // Bytes are in hexadecimal, `-` where there are none, and so are the eight digits of a value's bits. Records are taken from a new book on, and `new` begins another. A line with another name is passed over.
-use cells::Cells;
-use cursor::Cursor;
+use bits_read::Cursor;
 use libc::STDIN_FILENO;
 use libc::STDOUT_FILENO;
 use telemetry::Sample;
+use year_cells::Cells;
 ghost use Prim.Native.Nat.{_≤_};
 ghost use lib.ListN.{length};
-ghost use Rattle.cells.specs.Layout.{Held};
+ghost use Rattle.year_cells.specs.Layout.{Held};
 
 fn main() {
     let mut buffer = io::large_buffer();
@@ -17,9 +17,9 @@ fn main() {
 // One line after another, up to the end.
 fn cases(input: i32, buffer: &mut [u8]) {
     let mut year = book::new_book();
-    let mut window = input::new_window();
+    let mut window = text_stream::new_window();
     for _ in 0..u64::MAX {
-        let next = input::next_line(input, buffer, window);
+        let next = text_stream::next_line(input, buffer, window);
         window = next.window;
         let start = window.start;
         let end = next.end;
@@ -27,7 +27,7 @@ fn cases(input: i32, buffer: &mut [u8]) {
             return;
         }
         case(&mut year, &buffer[start..end]);
-        window = input::past(next);
+        window = text_stream::past(next);
     }
 }
 
@@ -129,7 +129,7 @@ fn read(bytes: &[u8], row: &mut [u64])
     requires { ⌜ length (now row) ≤ 515 ⌝ }
 {
     let room = row.len() - 3;
-    let answer = reading::read(bytes, &mut row[3..]);
+    let answer = record_read::read(bytes, &mut row[3..]);
     row[0] = answer.number;
     row[1] = answer.count as u64;
     row[2] = answer.used as u64;
@@ -160,7 +160,7 @@ fn write_case(line: &[u8]) {
 fn write(numbers: &[u64], bytes: &mut [u8])
     requires { ⌜ length (now bytes) ≤ 4096 ⌝ }
 {
-    let answer = writing::write(numbers, bytes);
+    let answer = record_write::write(numbers, bytes);
     let used = scan::least(answer.used, bytes.len());
     print_call(answer.number, answer.used, &bytes[0..used]);
 }
@@ -186,7 +186,7 @@ fn value_of(word: &[u8]) -> f32 {
     let mut bytes = [0u8; 4];
     scan::hex_bytes(word, &mut bytes);
     let pattern = Cursor::first().take(&bytes, 32);
-    eighths::from_pattern(pattern.value as u32)
+    telemetry_eighths::from_pattern(pattern.value as u32)
 }
 
 fn reduce(sample: Sample) {

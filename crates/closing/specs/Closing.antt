@@ -7,19 +7,19 @@ use native.Mathlib.Omega.{arith}
 use Rattle.ids.specs.Ids.{tabulate}
 use Rattle.ids.specs.Tables.{tabulate-same}
 use Rattle.year.specs.declared.Amounts.{Amounts}
-use Rattle.cells.specs.Rows.{from}
+use Rattle.year_cells.specs.Rows.{from}
 use Rattle.allotment.specs.Allot.{share}
 use Rattle.year.specs.Year as year
 use Rattle.owed.specs.Facts.{Facts}
 use Rattle.owed.specs.Owed.{amounts}
 use Rattle.owed.specs.Owed as owed
-use Rattle.looks.specs.Looks.{facts}
-use Rattle.table.specs.Columns.{columns-aside}
-use Rattle.table.specs.Places.{size, callsRow, calledRow, complianceRow, creditRow, testRow, lseRow, passedPlaces}
-use Rattle.table.specs.Rows.{Aside, Row, none, mark, row-aside, row-within}
-use Rattle.rating.specs.Rating.{Rated}
+use Rattle.settle_facts.specs.Looks.{facts}
+use Rattle.settle_table.specs.Columns.{columns-aside}
+use Rattle.settle_table.specs.Places.{size, callsRow, calledRow, complianceRow, creditRow, testRow, lseRow, passedPlaces}
+use Rattle.settle_table.specs.Rows.{Aside, Row, none, mark, row-aside, row-within}
+use Rattle.settle_rates.specs.Rating.{Rated}
 use Rattle.tallying.specs.Entries.{Ready}
-use Rattle.lses.specs.Lses.{net, lses-are}
+use Rattle.settle_lses.specs.Lses.{net, lses-are}
 
 -- sixteen numbers from p on
 abbrev pub numbers : List ℕ → ℕ → List ℕ

@@ -3,8 +3,8 @@
 use libc::STDIN_FILENO;
 ghost use Prim.Native.Nat.{_≤_};
 ghost use lib.ListN.{length};
-ghost use Rattle.layouts.specs.Layout.{longestRecord};
-ghost use Rattle.line.specs.Line.{lineRoom};
+ghost use Rattle.record_layouts.specs.Layout.{longestRecord};
+ghost use Rattle.text_record.specs.Line.{lineRoom};
 
 // One record after another, up to the end or a number that ends the file; answers whether all is read and written.
 // A failed read or write ends it with nothing more written. No contract can name what is read or written: that
@@ -13,12 +13,12 @@ fn dump(input: i32, buffer: &mut [u8], out: &mut [u8]) -> bool
     requires { ⌜ longestRecord ≤ length (now buffer) ⌝ }
     requires { ⌜ lineRoom ≤ length (now out) ⌝ }
 {
-    let least = file::window();
-    let mut window = input::new_window();
+    let least = record_file::window();
+    let mut window = text_stream::new_window();
     let mut at: usize = 0;
     let mut position: u64 = 1;
     while position < u64::MAX {
-        window = input::filled(input, buffer, window, least);
+        window = text_stream::filled(input, buffer, window, least);
         if window.failed {
             return false;
         }
@@ -27,13 +27,13 @@ fn dump(input: i32, buffer: &mut [u8], out: &mut [u8]) -> bool
         if start == end {
             return output::finish(out, at);
         }
-        let printed = line::print(position, &buffer[start..end], out, at);
-        let gathered = output::with_room(out, printed.at, line::ROOM);
+        let printed = text_record::print(position, &buffer[start..end], out, at);
+        let gathered = output::with_room(out, printed.at, text_record::ROOM);
         if gathered.failed {
             return false;
         }
         at = gathered.at;
-        window = input::behind(window, printed.used, file::ends(printed.number));
+        window = text_stream::behind(window, printed.used, record_file::ends(printed.number));
         position += 1;
     }
     false

@@ -10,24 +10,24 @@ use lib.ListN.{length, take, drop, length-append, length-drop, take-append-drop}
 use lib.Seq.{take-add, take-length, length-take-le}
 use Rattle.ids.specs.Ids.{at}
 use Rattle.ids.specs.Tests.{cond-true, cond-false}
-use Rattle.writer.specs.declared.Writer.{Writer}
+use Rattle.bits_write.specs.declared.Writer.{Writer}
 use Rattle.bits.specs.Bits.{Bytes}
 use Rattle.bits.specs.Table.{total, times, narrow, Valid}
 use Rattle.bits.specs.TableLaws.{total-append, valid-split}
 use Rattle.bits.specs.ItemLaws.{length-times, total-times}
 use Rattle.bits.specs.PackLaws.{length-encode}
-use Rattle.writer.specs.Written.{joined, Wrote, Finished}
-use Rattle.writer.specs.WrittenLaws.{joined-append, written-join, written-size, written-encodes}
-use Rattle.layouts.specs.Layout.{Rule, head, lists, listAt, itemsIn, rulesTo, rulesFor, widths, sizeOf}
-use Rattle.layouts.specs.LayoutLaws.{length-widths, widths-append, rules-front, rules-long, sound-items, narrow-sound}
-use Rattle.layouts.specs.Questions.{firstFailed, rulesBy, isKind, permitted, idsRise}
-use Rattle.layouts.specs.QuestionLaws.{head-refused, head-permitted, stated-bits, kind-in}
-use Rattle.layouts.specs.Parts.{Stated}
-use Rattle.layouts.specs.ListLaws.{rules-behind, widths-list, length-list, stated-list}
-use Rattle.records.specs.Calls.{writeNumber, writeBuffer, bytesBy, over, Writes}
-use Rattle.records.specs.Parsing.{Writable}
+use Rattle.bits_write.specs.Written.{joined, Wrote, Finished}
+use Rattle.bits_write.specs.WrittenLaws.{joined-append, written-join, written-size, written-encodes}
+use Rattle.record_layouts.specs.Layout.{Rule, head, lists, listAt, itemsIn, rulesTo, rulesFor, widths, sizeOf}
+use Rattle.record_layouts.specs.LayoutLaws.{length-widths, widths-append, rules-front, rules-long, sound-items, narrow-sound}
+use Rattle.record_layouts.specs.Questions.{firstFailed, rulesBy, isKind, permitted, idsRise}
+use Rattle.record_layouts.specs.QuestionLaws.{head-refused, head-permitted, stated-bits, kind-in}
+use Rattle.record_layouts.specs.Parts.{Stated}
+use Rattle.record_layouts.specs.ListLaws.{rules-behind, widths-list, length-list, stated-list}
+use Rattle.record_numbers.specs.Calls.{writeNumber, writeBuffer, bytesBy, over, Writes}
+use Rattle.record_numbers.specs.Parsing.{Writable}
 use Rattle.encoding.specs.Lists.{Lists}
-use Rattle.records.specs.RoundTrip.{valid-by}
+use Rattle.record_numbers.specs.RoundTrip.{valid-by}
 
 module _ (vs : List ℕ) (room : ℕ) where
   pub stops-1 : isKind (at vs 0) ≡ false → 1 ≡ writeNumber vs room

@@ -4,10 +4,10 @@ use mathlib.Core.List.{List}
 use lib.ListN.{length, take}
 use Rattle.ids.specs.Ids.{at}
 use Rattle.bits.specs.Table.{total}
-use Rattle.writer.specs.declared.Writer.{Writer}
-use Rattle.writer.specs.Written.{joined, Wrote}
-use Rattle.layouts.specs.Layout.{head, widths}
-use Rattle.layouts.specs.Questions.{rulesBy}
+use Rattle.bits_write.specs.declared.Writer.{Writer}
+use Rattle.bits_write.specs.Written.{joined, Wrote}
+use Rattle.record_layouts.specs.Layout.{head, widths}
+use Rattle.record_layouts.specs.Questions.{rulesBy}
 
 -- a writer that has written the record's head has gone on to q, which has written all of it
 abbrev pub Lists : List ℕ → List ℕ → List ℕ → Writer → Writer → Type 0

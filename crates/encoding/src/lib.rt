@@ -2,19 +2,19 @@
 ghost use mathlib.Core.Path.{_≡_};
 ghost use lib.ListN.{length};
 ghost use Rattle.bits.specs.Table.{total};
-ghost use Rattle.writer.specs.Written.{writtenBits, Ready};
+ghost use Rattle.bits_write.specs.Written.{writtenBits, Ready};
 ghost use Rattle.ids.specs.Ids.{at};
-ghost use Rattle.layouts.specs.Layout.{head, widths, sizeOf};
-ghost use Rattle.layouts.specs.Questions.{rulesBy};
-ghost use Rattle.layouts.specs.Parts.{rules};
-ghost use Rattle.records.specs.Parsing.{Writable};
+ghost use Rattle.record_layouts.specs.Layout.{head, widths, sizeOf};
+ghost use Rattle.record_layouts.specs.Questions.{rulesBy};
+ghost use Rattle.record_layouts.specs.Parts.{rules};
+ghost use Rattle.record_numbers.specs.Parsing.{Writable};
 ghost use Rattle.encoding.specs.Lists.{Lists};
-ghost use Rattle.records.specs.Calls.{over, bytesBy};
-use layouts::lists_of;
-use layouts::part_at;
-use shapes::head_of;
-use shapes::list_at;
-use writer::Writer;
+ghost use Rattle.record_numbers.specs.Calls.{over, bytesBy};
+use bits_write::Writer;
+use record_layouts::lists_of;
+use record_layouts::part_at;
+use record_shapes::head_of;
+use record_shapes::list_at;
 
 // The lists of a record, behind its head.
 fn put_lists(w: Writer, kind: usize, numbers: &[u64], ws: &[u8], bytes: &mut [u8]) -> Writer

@@ -7,9 +7,9 @@ use native.Mathlib.Nat.{add-zero}
 use native.Mathlib.Numerals.{add-one}
 use native.Mathlib.Omega.{arith}
 use Rattle.ids.specs.Ids.{holds, countTo}
-use Rattle.writer.specs.declared.Writer.{Writer}
-use Rattle.writer.specs.Written.{joined, Ready, Wrote}
-use Rattle.writer.specs.WrittenLaws.{joined-append, written-none, written-join}
+use Rattle.bits_write.specs.declared.Writer.{Writer}
+use Rattle.bits_write.specs.Written.{joined, Ready, Wrote}
+use Rattle.bits_write.specs.WrittenLaws.{joined-append, written-none, written-join}
 use Rattle.year.specs.declared.Terms.{Terms}
 use Rattle.year.specs.declared.Amounts.{Amounts}
 use Rattle.year.specs.Sound.{SoundTerms}

@@ -5,14 +5,14 @@ ghost use Prim.Native.Nat.{_+_, _*_, _^_, _≤_, _<_};
 ghost use lib.ListN.{length, drop};
 ghost use Rattle.ids.specs.Ids.{holds};
 ghost use Rattle.year.specs.Sound.{SoundTerms, SoundAmounts};
-ghost use Rattle.writer.specs.Written.{writtenBits, Ready};
+ghost use Rattle.bits_write.specs.Written.{writtenBits, Ready};
 ghost use Rattle.statement.specs.Statement.{difference, sellerColumns, lineFields, sellerFields, lseFields, linesTo, statementOf};
 ghost use Rattle.statement.specs.Columns.{Columns};
 ghost use Rattle.issue.specs.Laid.{Laid};
+use bits_write::Writer;
 use statement::count;
 use statement::obliged;
 use statement::present;
-use writer::Writer;
 use year::Amounts;
 use year::Terms;
 

@@ -6,12 +6,12 @@ use native.Mathlib.Omega.{arith}
 use lib.ListN.{length, replicate, length-replicate}
 use Rattle.ids.specs.Sets.{getD-replicate-same}
 use Rattle.year.specs.Year as year
-use Rattle.cells.specs.Layout.{placeIn}
+use Rattle.year_cells.specs.Layout.{placeIn}
 use Rattle.owed.specs.Facts.{Facts}
 use Rattle.owed.specs.Owed as owed
-use Rattle.looks.specs.Looks.{facts}
-use Rattle.table.specs.Places.{size, sellerRow, productRow, committedRow, rateRow, capRow, callsRow, placeRow, areaRow, lentRow, worthRow, freshPlaces}
-use Rattle.table.specs.Rows.{Stored, Aside, Row, none, row-aside, row-kept, row-first, row-more, grown-first}
+use Rattle.settle_facts.specs.Looks.{facts}
+use Rattle.settle_table.specs.Places.{size, sellerRow, productRow, committedRow, rateRow, capRow, callsRow, placeRow, areaRow, lentRow, worthRow, freshPlaces}
+use Rattle.settle_table.specs.Rows.{Stored, Aside, Row, none, row-aside, row-kept, row-first, row-more, grown-first}
 use Rattle.area_sums.specs.Lent.{lentAt, worthAt, Lending, lending-kept}
 
 -- registration i's cap by its own rate

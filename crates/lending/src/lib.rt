@@ -2,12 +2,12 @@
 ghost use mathlib.Core.Path.{_≡_};
 ghost use Prim.Native.Nat.{_+_, _<_};
 ghost use Rattle.year.specs.Year.{registration};
-ghost use Rattle.cells.specs.Layout.{yearIn, Held};
+ghost use Rattle.year_cells.specs.Layout.{yearIn, Held};
 ghost use Rattle.lending.specs.Entering.{Begun};
 use area_sums::lend;
-use cells::Cells;
-use table::Work;
+use settle_table::Work;
 use year::Registration;
+use year_cells::Cells;
 
 // A registration's terms go into the table, with its own rate and the cap by that: the rate for all that it committed.
 pub fn enter(year: &Cells, work: &mut Work, i: usize, r: Registration)
@@ -16,14 +16,14 @@ pub fn enter(year: &Cells, work: &mut Work, i: usize, r: Registration)
 {
     let own = lend(year, work, i, r);
     let committed = r.committed;
-    let all = looks::unforced(year, committed);
+    let all = settle_facts::unforced(year, committed);
     let cap = all.0 * own;
     let place = 3 * r.zone + r.product;
-    table::put(work, table::SELLER, i, r.seller);
-    table::put(work, table::PRODUCT, i, r.product);
-    table::put(work, table::COMMITTED, i, committed.0);
-    table::put(work, table::RATE, i, own);
-    table::put(work, table::CAP, i, cap);
-    table::put(work, table::PLACE, i, place);
-    table::put(work, table::AREA, i, r.area);
+    settle_table::put(work, settle_table::SELLER, i, r.seller);
+    settle_table::put(work, settle_table::PRODUCT, i, r.product);
+    settle_table::put(work, settle_table::COMMITTED, i, committed.0);
+    settle_table::put(work, settle_table::RATE, i, own);
+    settle_table::put(work, settle_table::CAP, i, cap);
+    settle_table::put(work, settle_table::PLACE, i, place);
+    settle_table::put(work, settle_table::AREA, i, r.area);
 }

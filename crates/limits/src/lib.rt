@@ -5,7 +5,7 @@ ghost use Prim.Native.Nat.{_+_, _*_, _≤_, _<_};
 ghost use lib.Dec.{T};
 ghost use lib.ListN.{length, drop};
 ghost use Rattle.bits.specs.Table.{narrow};
-ghost use Rattle.layouts.specs.Parts.{within, columnWithin, itemsWithin, holdAll, ColumnFits, ItemsFit};
+ghost use Rattle.record_layouts.specs.Parts.{within, columnWithin, itemsWithin, holdAll, ColumnFits, ItemsFit};
 
 fn wide(x: u32) -> u64
     ensures { λ r. ⌜ r ≡ x ⌝ }

@@ -8,8 +8,8 @@ use native.Mathlib.Nat.{zero-add, add-assoc}
 use lib.ListN.{length}
 use Rattle.ids.specs.Ids.{at, tabulate}
 use Rattle.ids.specs.Tables.{length-tabulate, getD-tabulate}
-use Rattle.cells.specs.Rows.{Laid, Same, same-on, same-before, same-behind}
-use Rattle.cells.specs.Layout.{flag}
+use Rattle.year_cells.specs.Rows.{Laid, Same, same-on, same-before, same-behind}
+use Rattle.year_cells.specs.Layout.{flag}
 
 -- what entries become: the listing's part from q on where it lists, else the cells from p on
 module _ (c : List ℕ) (p : ℕ) (l : List ℕ) (q : ℕ) where

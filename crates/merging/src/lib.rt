@@ -3,8 +3,8 @@ ghost use mathlib.Core.Path.{_≡_};
 ghost use Prim.Native.Nat.{_+_, _≤_, _<_};
 ghost use lib.ListN.{length};
 ghost use Rattle.merging.specs.Entered.{mergedAt, merged, Entered};
-use cells::Cells;
-use cells::lay;
+use year_cells::Cells;
+use year_cells::lay;
 
 // An entry of a table with a listing's: where it lists, its own.
 fn merged_at(year: &Cells, place: usize, listing: &[u64], part: usize, i: usize) -> u64

@@ -6,9 +6,9 @@ ghost use lib.ListN.{length, drop};
 ghost use Rattle.year.specs.Steps.{withClose};
 ghost use Rattle.owed.specs.Facts.{factsOf};
 ghost use Rattle.owed.specs.Owed.{amounts};
-ghost use Rattle.cells.specs.Layout.{yearIn, Held};
+ghost use Rattle.year_cells.specs.Layout.{yearIn, Held};
 ghost use Rattle.month_end.specs.Closing.{closing};
-use cells::Cells;
+use year_cells::Cells;
 
 // Closes the month; its statement goes to the front of the buffer. Answers the statement's bytes.
 pub fn close(year: &mut Cells, month: u64, buffer: &mut [u8]) -> usize
@@ -21,11 +21,11 @@ pub fn close(year: &mut Cells, month: u64, buffer: &mut [u8]) -> usize
     ensures leaves { λ r. ⌜ now (buffer .exit) ≡ (let s = closing (yearIn (now (year .entry))) month in s ++ drop (length s) (now (buffer .entry))) ⌝ }
     ensures writes { λ r. ⌜ r ≡ length (closing (yearIn (now (year .entry))) month) ⌝ }
 {
-    let terms = snapshot::terms_of(year);
+    let terms = year_copies::terms_of(year);
     let registrations = terms.registrations;
-    let owed = settlement::amounts_of(registrations, year, month);
-    let billed = snapshot::billed_of(year);
+    let owed = settle_closing::amounts_of(registrations, year, month);
+    let billed = year_copies::billed_of(year);
     let written = issue::write_statement(terms, month, owed, billed, buffer);
-    steps::close(year, owed);
+    year_steps::close(year, owed);
     written
 }

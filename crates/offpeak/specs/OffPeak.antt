@@ -22,10 +22,10 @@ use Rattle.owed_laws.specs.Sellers.{ofSeller-le}
 use Rattle.owed_laws.specs.Bounds.{lack-le, shortfall-le}
 use Rattle.owed_laws.specs.Unlisted.{off-none}
 use Rattle.sharing.specs.Sharing.{secondOf, Shares, shares-aside}
-use Rattle.table.specs.Columns.{Columns, columns-aside}
-use Rattle.table.specs.Places.{offURow, offLackRow, offMoreRow, testRow, apartPlaces}
-use Rattle.table.specs.Rows.{Stored, Aside, Row, Renewed, none, mark, aside-none, aside-of, aside-more, aside-then, row-same, row-kept, row-within, row-first, row-more, renewed-first, renewed-aside, renewed-more, renewed-none}
-use Rattle.weighing.specs.Sums.{Sums, Summed, sums-first, sums-none, sums-more, sums-all, summed-kept, shortfall-is}
+use Rattle.settle_table.specs.Columns.{Columns, columns-aside}
+use Rattle.settle_table.specs.Places.{offURow, offLackRow, offMoreRow, testRow, apartPlaces}
+use Rattle.settle_table.specs.Rows.{Stored, Aside, Row, Renewed, none, mark, aside-none, aside-of, aside-more, aside-then, row-same, row-kept, row-within, row-first, row-more, renewed-first, renewed-aside, renewed-more, renewed-none}
+use Rattle.settle_shortfalls.specs.Sums.{Sums, Summed, sums-first, sums-none, sums-more, sums-all, summed-kept, shortfall-is}
 use Rattle.offpeak.specs.declared.Entry.{Entry}
 
 -- what the table has of an event's entries

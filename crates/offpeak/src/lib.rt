@@ -1,17 +1,17 @@
 // What is measured off-peak apart in an event, from what pass 3 left of its entries in the working table: no look at one.
 ghost use mathlib.Core.Path.{_≡_};
 ghost use Prim.Native.Nat.{_+_, _<_};
-ghost use Rattle.cells.specs.Layout.{Held};
-ghost use Rattle.looks.specs.Looks.{facts};
+ghost use Rattle.year_cells.specs.Layout.{Held};
+ghost use Rattle.settle_facts.specs.Looks.{facts};
 ghost use Rattle.owed.specs.Divisions.{offDivisions};
 ghost use Rattle.owed.specs.Owed.{offU};
-ghost use Rattle.table.specs.Places.{offURow, offLackRow, apartPlaces};
-ghost use Rattle.table.specs.Rows.{Aside, Row, none};
+ghost use Rattle.settle_table.specs.Places.{offURow, offLackRow, apartPlaces};
+ghost use Rattle.settle_table.specs.Rows.{Aside, Row, none};
 ghost use Rattle.offpeak.specs.OffPeak.{Entries, entryAt, sumPlaces, Weighed, Netted, Ready};
-use cells::Cells;
-use table::Work;
+use settle_table::Work;
 use units::Nominated;
 use units::Unforced;
+use year_cells::Cells;
 
 // An entry: whether it is measured, its seller, what it lacks off-peak and what it gives more.
 pub struct Entry {
@@ -28,16 +28,16 @@ fn entry_at(year: &Cells, work: &Work, ev: usize, i: usize) -> Entry
     requires { ⌜ Entries (facts (now year)) ev (now work) ⌝ }
     ensures { λ r. ⌜ r ≡ entryAt (facts (now (year .entry))) ev i ⌝ }
 {
-    let apart = looks::is_apart(year, ev);
-    let listed = table::get(work, table::LISTED, i);
-    let product = table::get(work, table::PRODUCT, i);
-    let committed = Nominated::new(table::get(work, table::COMMITTED, i));
-    let reduction = Nominated::new(table::get(work, table::SECOND, i));
+    let apart = settle_facts::is_apart(year, ev);
+    let listed = settle_table::get(work, settle_table::LISTED, i);
+    let product = settle_table::get(work, settle_table::PRODUCT, i);
+    let committed = Nominated::new(settle_table::get(work, settle_table::COMMITTED, i));
+    let reduction = Nominated::new(settle_table::get(work, settle_table::SECOND, i));
     let lack = committed.less(reduction);
     let more = reduction.less(committed);
     Entry {
         measured: apart & ((listed != 0) & (product != calendar::LIMITED)),
-        seller: table::get(work, table::SELLER, i) as usize,
+        seller: settle_table::get(work, settle_table::SELLER, i) as usize,
         lack: lack,
         more: more,
     }
@@ -56,8 +56,8 @@ fn sums(year: &Cells, work: &mut Work, ev: usize)
     while i < 64 {
         let x = entry_at(year, work, ev, i);
         if x.measured {
-            table::add_at(work, table::OFF_LACK, x.seller, x.lack.0);
-            table::add_at(work, table::OFF_MORE, x.seller, x.more.0);
+            settle_table::add_at(work, settle_table::OFF_LACK, x.seller, x.lack.0);
+            settle_table::add_at(work, settle_table::OFF_MORE, x.seller, x.more.0);
         }
         i += 1;
     }
@@ -73,9 +73,14 @@ fn nets(year: &Cells, work: &mut Work, ev: usize)
 {
     let mut s: usize = 0;
     while s < 16 {
-        let deficit = looks::deficit_of(year, ev, s);
-        let net = weighing::net_of(year, work, table::OFF_LACK, s, deficit);
-        table::put(work, table::OFF_LACK + abreast::AMOUNT, s, net.shortfall.0);
+        let deficit = settle_facts::deficit_of(year, ev, s);
+        let net = settle_shortfalls::net_of(year, work, settle_table::OFF_LACK, s, deficit);
+        settle_table::put(
+            work,
+            settle_table::OFF_LACK + abreast::AMOUNT,
+            s,
+            net.shortfall.0,
+        );
         s += 1;
     }
 }
@@ -93,8 +98,8 @@ fn share(year: &Cells, work: &mut Work, ev: usize)
     while i < 64 {
         let x = entry_at(year, work, ev, i);
         if x.measured {
-            let u = Unforced(abreast::share(work, table::OFF_LACK, x.seller, x.lack.0));
-            table::put(work, table::OFF_U, i, u.0);
+            let u = Unforced(abreast::share(work, settle_table::OFF_LACK, x.seller, x.lack.0));
+            settle_table::put(work, settle_table::OFF_U, i, u.0);
         }
         i += 1;
     }
@@ -110,7 +115,7 @@ pub fn measure(year: &Cells, work: &mut Work, ev: usize)
     ensures divisions { λ _. ⌜ Row (now (work .exit)) (offLackRow + 64) 16 (offDivisions (facts (now (year .entry))) ev) ⌝ }
     ensures aside { λ _. ⌜ Aside offURow apartPlaces (now (work .entry)) (now (work .exit)) ⌝ }
 {
-    if looks::is_apart(year, ev) {
+    if settle_facts::is_apart(year, ev) {
         sums(year, work, ev);
         nets(year, work, ev);
         share(year, work, ev);

@@ -2,11 +2,11 @@
 ghost use mathlib.Core.Path.{_≡_};
 ghost use Prim.Native.Nat.{_<_};
 ghost use Rattle.year.specs.Year.{registration};
-ghost use Rattle.cells.specs.Layout.{yearIn, Held};
+ghost use Rattle.year_cells.specs.Layout.{yearIn, Held};
 ghost use Rattle.owed.specs.Owed.{own};
-ghost use Rattle.looks.specs.Looks.{facts};
-use cells::Cells;
+ghost use Rattle.settle_facts.specs.Looks.{facts};
 use year::Registration;
+use year_cells::Cells;
 
 // A registration's own rate: what its clearings say, where it has any, else its field; 0 where it is not known.
 pub fn own_rate(year: &Cells, i: usize, r: Registration) -> u64
@@ -18,7 +18,7 @@ pub fn own_rate(year: &Cells, i: usize, r: Registration) -> u64
     if !r.known {
         return 0;
     }
-    let clearings = cells::clearings_at(year, i);
+    let clearings = year_cells::clearings_at(year, i);
     if clearings.count == 0 {
         return r.rate;
     }

@@ -4,12 +4,12 @@ use libc::STDERR_FILENO;
 use libc::STDIN_FILENO;
 ghost use Prim.Native.Nat.{_≤_};
 ghost use lib.ListN.{length};
-ghost use Rattle.layouts.specs.Layout.{longestPermitted};
+ghost use Rattle.record_layouts.specs.Layout.{longestPermitted};
 
 // Tells the refusal of a line.
 fn refuse(position: u64, number: u64) -> bool {
     let mut text = [0u8; 64];
-    let end = report::refusal_line(position, number, &mut text, 0);
+    let end = text_bill::refusal_line(position, number, &mut text, 0);
     io::write_all(STDERR_FILENO, &text[0..end])
 }
 
@@ -19,14 +19,14 @@ fn refuse(position: u64, number: u64) -> bool {
 fn pack(input: i32, buffer: &mut [u8], out: &mut [u8]) -> bool
     requires { ⌜ longestPermitted ≤ length (now out) ⌝ }
 {
-    let mut window = input::new_window();
+    let mut window = text_stream::new_window();
     let mut at: usize = 0;
     let mut position: u64 = 1;
     // the line is too long for the buffer, and its start is passed
     let mut cut = false;
     // a turn for each line, or piece of one that is too long
     for _ in 1..u64::MAX {
-        let next = input::next_line(input, buffer, window);
+        let next = text_stream::next_line(input, buffer, window);
         window = next.window;
         if window.failed {
             return false;
@@ -46,12 +46,12 @@ fn pack(input: i32, buffer: &mut [u8], out: &mut [u8]) -> bool
         if number != 0 && !refuse(position, number) {
             return false;
         }
-        let gathered = output::with_room(out, packed.at, records::PERMITTED);
+        let gathered = output::with_room(out, packed.at, record_numbers::PERMITTED);
         if gathered.failed {
             return false;
         }
         at = gathered.at;
-        window = input::past(next);
+        window = text_stream::past(next);
         cut = false;
         position += 1;
     }

@@ -13,12 +13,12 @@ use lib.Seq.{length-take-le, take-all, take-at, drop-drop}
 use Rattle.ids.specs.Ids.{at}
 use Rattle.ids.specs.Tests.{and-parts}
 use Rattle.bits.specs.PackLaws.{length-encode}
-use Rattle.layouts.specs.Layout.{widths, sizeOf, longestPermitted, most}
-use Rattle.layouts.specs.LayoutLaws.{length-widths}
-use Rattle.layouts.specs.Questions.{firstFailed, rulesBy, permitted}
-use Rattle.layouts.specs.QuestionLaws.{head-permitted, permitted-bits}
-use Rattle.records.specs.Calls.{bytesBy, Writes, writeNumber, writeBuffer}
-use Rattle.records.specs.RoundTrip.{writable}
+use Rattle.record_layouts.specs.Layout.{widths, sizeOf, longestPermitted, most}
+use Rattle.record_layouts.specs.LayoutLaws.{length-widths}
+use Rattle.record_layouts.specs.Questions.{firstFailed, rulesBy, permitted}
+use Rattle.record_layouts.specs.QuestionLaws.{head-permitted, permitted-bits}
+use Rattle.record_numbers.specs.Calls.{bytesBy, Writes, writeNumber, writeBuffer}
+use Rattle.record_numbers.specs.RoundTrip.{writable}
 use Rattle.text.specs.Pasted.{Pasted, none}
 use Rattle.scan.specs.Words.{numbers}
 

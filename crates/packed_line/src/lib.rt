@@ -2,12 +2,12 @@
 ghost use mathlib.Core.Path.{_≡_};
 ghost use Prim.Native.Nat.{_+_, _≤_};
 ghost use lib.ListN.{length};
-ghost use Rattle.layouts.specs.Layout.{longestPermitted};
+ghost use Rattle.record_layouts.specs.Layout.{longestPermitted};
 ghost use Rattle.text.specs.Pasted.{Pasted};
 ghost use Rattle.packed_line.specs.Packs.{lineNumber, lineRecord};
 
 // The most numbers of a record and one more, so that writing refuses the count of a longer line.
-const NUMBERS: usize = records::NUMBERS + 1;
+const NUMBERS: usize = record_numbers::NUMBERS + 1;
 
 // What packing one line leaves: its number, and the place after its record.
 pub struct Packed {
@@ -26,7 +26,7 @@ pub fn pack(line: &[u8], cut: bool, out: &mut [u8], at: usize) -> Packed
     }
     let mut numbers = [0u64; NUMBERS];
     let n = scan::decimals(line, &mut numbers);
-    let answer = writing::write(&numbers[..n], &mut out[at..]);
+    let answer = record_write::write(&numbers[..n], &mut out[at..]);
     let used = answer.used;
     let next = at + used;
     Packed {

@@ -2,14 +2,14 @@
 use Prim.Native.Nat.{ℕ, _+_, _≤_}
 use mathlib.Core.List.{List}
 use native.Mathlib.Omega.{arith}
-use Rattle.charging.specs.Charging.{Given, Billed, billed-first}
-use Rattle.crediting.specs.Crediting.{creditBy, credit-first}
+use Rattle.settle_charges.specs.Charging.{Given, Billed, billed-first}
+use Rattle.settle_credits.specs.Crediting.{creditBy, credit-first}
 use Rattle.owed.specs.Facts.{Facts}
 use Rattle.owed.specs.Owed as owed
 use Rattle.sharing.specs.Sharing.{Shares}
-use Rattle.table.specs.Columns.{Columns, columns-aside}
-use Rattle.table.specs.Places.{callsRow, calledRow, spentRow, complianceRow, creditRow, lackRow, offURow}
-use Rattle.table.specs.Rows.{Aside, Row, none, mark, row-aside, row-within}
+use Rattle.settle_table.specs.Columns.{Columns, columns-aside}
+use Rattle.settle_table.specs.Places.{callsRow, calledRow, spentRow, complianceRow, creditRow, lackRow, offURow}
+use Rattle.settle_table.specs.Rows.{Aside, Row, none, mark, row-aside, row-within}
 
 -- after m events
 pub record Run (F : Facts) (k m : ℕ) (w : List ℕ) : Type 0 where

@@ -4,15 +4,15 @@ ghost use mathlib.Core.Bool.{true};
 ghost use Prim.Native.Nat.{_≤_, _<_};
 ghost use lib.ListN.{length};
 ghost use Rattle.bits.specs.Table.{Valid};
-ghost use Rattle.layouts.specs.Layout.{layouts, head, rulesFor, widths};
-ghost use Rattle.layouts.specs.Questions.{permitted};
-ghost use Rattle.layouts.specs.Parts.{rules, lows as lowest, highs as highest, Stated};
-use layouts::lists_of;
-use layouts::part_at;
+ghost use Rattle.record_layouts.specs.Layout.{layouts, head, rulesFor, widths};
+ghost use Rattle.record_layouts.specs.Questions.{permitted};
+ghost use Rattle.record_layouts.specs.Parts.{rules, lows as lowest, highs as highest, Stated};
 use limits::are_within;
 use limits::items_within;
-use shapes::head_of;
-use shapes::list_at;
+use record_layouts::lists_of;
+use record_layouts::part_at;
+use record_shapes::head_of;
+use record_shapes::list_at;
 
 // Is each number of the head permitted?
 pub fn head_permitted(kind: usize, lows: &[u32], highs: &[u32], values: &[u64]) -> bool

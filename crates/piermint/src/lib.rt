@@ -1,15 +1,15 @@
 // The engine for C: a record read, a record written, a record taken by a book, a whole record file billed, and a reduction made from a sample. Every input is answered.
 ghost use mathlib.Core.Path.{_≡_};
-ghost use Rattle.records.specs.Calls.{Reads, Writes};
+ghost use Rattle.record_numbers.specs.Calls.{Reads, Writes};
 ghost use Rattle.year.specs.Year.{newYear};
-ghost use Rattle.cells.specs.Layout.{yearIn, Held};
-ghost use Rattle.outcome.specs.Outcome.{Posts};
-ghost use Rattle.billing.specs.Billed.{Bills};
+ghost use Rattle.year_cells.specs.Layout.{yearIn, Held};
+ghost use Rattle.book_outcome.specs.Outcome.{Posts};
+ghost use Rattle.bill_file.specs.Billed.{Bills};
 ghost use Rattle.telemetry.specs.declared.Sample.the-variants.{Pair, Direct};
 ghost use Rattle.telemetry.specs.Reduction.{Answers};
 ghost use lib.Ieee.{binary32, ofBits};
-use cells::Cells;
 use telemetry::Sample;
+use year_cells::Cells;
 
 // A record's numbers into the front of a lent buffer; how many they are and the bytes of the record go out.
 #[no_mangle]
@@ -21,7 +21,7 @@ pub extern "C" fn piermint_read(
 ) -> u64
     ensures { λ r. ⌜ Reads (now (bytes .entry)) (now (numbers .entry)) r (now (count .exit)) (now (used .exit)) (now (numbers .exit)) ⌝ }
 {
-    let read = reading::read(bytes, numbers);
+    let read = record_read::read(bytes, numbers);
     *count = read.count;
     *used = read.used;
     read.number
@@ -32,7 +32,7 @@ pub extern "C" fn piermint_read(
 pub extern "C" fn piermint_write(numbers: &[u64], bytes: &mut [u8], used: &mut usize) -> u64
     ensures { λ r. ⌜ Writes (now (numbers .entry)) (now (bytes .entry)) r (now (used .exit)) (now (bytes .exit)) ⌝ }
 {
-    let wrote = writing::write(numbers, bytes);
+    let wrote = record_write::write(numbers, bytes);
     *used = wrote.used;
     wrote.number
 }
@@ -79,7 +79,7 @@ pub extern "C" fn piermint_bill(
 ) -> usize
     ensures { λ r. ⌜ Bills (now (records .entry)) (now (numbers .entry)) (now (statements .entry)) r (now (used .exit)) (now (written .exit)) (now (numbers .exit)) (now (statements .exit)) ⌝ }
 {
-    let totals = billing::bill(records, numbers, statements);
+    let totals = bill_file::bill(records, numbers, statements);
     *used = totals.used;
     *written = totals.written;
     totals.answered
@@ -90,8 +90,8 @@ pub extern "C" fn piermint_bill(
 pub extern "C" fn piermint_reduction(expected: u32, metered: u32, kw: &mut u64) -> u64
     ensures { λ r. ⌜ Answers (Pair (ofBits binary32 expected) (ofBits binary32 metered)) r (now (kw .exit)) ⌝ }
 {
-    let expected = eighths::from_pattern(expected);
-    let metered = eighths::from_pattern(metered);
+    let expected = telemetry_eighths::from_pattern(expected);
+    let metered = telemetry_eighths::from_pattern(metered);
     sample_answers::answer(Sample::Pair(expected, metered), kw)
 }
 
@@ -100,5 +100,8 @@ pub extern "C" fn piermint_reduction(expected: u32, metered: u32, kw: &mut u64) 
 pub extern "C" fn piermint_direct_reduction(reduction: u32, kw: &mut u64) -> u64
     ensures { λ r. ⌜ Answers (Direct (ofBits binary32 reduction)) r (now (kw .exit)) ⌝ }
 {
-    sample_answers::answer(Sample::Direct(eighths::from_pattern(reduction)), kw)
+    sample_answers::answer(
+        Sample::Direct(telemetry_eighths::from_pattern(reduction)),
+        kw,
+    )
 }

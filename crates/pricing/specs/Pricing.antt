@@ -3,7 +3,7 @@ use Prim.Native.Nat.{ℕ, _+_, _*_, _-_, _/_, min, max}
 use mathlib.Core.Bool.{Bool, cond}
 use mathlib.Core.List.{List}
 use Rattle.ids.specs.Ids.{at}
-use Rattle.table.specs.Places.{sellerRow, productRow, rateRow, capRow, callsRow, spentRow, uRow, offURow, eRow}
+use Rattle.settle_table.specs.Places.{sellerRow, productRow, rateRow, capRow, callsRow, spentRow, uRow, offURow, eRow}
 use Rattle.pricing.specs.declared.Line.{Line}
 
 -- registration i in the table

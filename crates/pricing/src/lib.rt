@@ -3,7 +3,7 @@ ghost use mathlib.Core.Bool.{cond};
 ghost use mathlib.Core.Path.{_≡_};
 ghost use Prim.Native.Nat.{_-_, _*_, _/_, _≤_, _<_, min, max};
 ghost use Rattle.pricing.specs.Pricing.{lineAt, dailyOf};
-use table::Work;
+use settle_table::Work;
 use units::Nominated;
 use units::Unforced;
 
@@ -24,16 +24,16 @@ pub fn line_at(work: &Work, i: usize) -> Line
     requires { ⌜ i < 64 ⌝ }
     ensures { λ r. ⌜ r ≡ lineAt (now (work .entry)) i ⌝ }
 {
-    let u = Unforced(table::get(work, table::U, i));
-    let off = Unforced(table::get(work, table::OFF_U, i));
-    let e = Nominated(table::get(work, table::E, i));
+    let u = Unforced(settle_table::get(work, settle_table::U, i));
+    let off = Unforced(settle_table::get(work, settle_table::OFF_U, i));
+    let e = Nominated(settle_table::get(work, settle_table::E, i));
     Line {
-        seller: table::get(work, table::SELLER, i) as usize,
-        product: table::get(work, table::PRODUCT, i),
-        calls: table::get(work, table::CALLS, i),
-        rate: table::get(work, table::RATE, i),
-        cap: table::get(work, table::CAP, i),
-        spent: table::get(work, table::SPENT, i),
+        seller: settle_table::get(work, settle_table::SELLER, i) as usize,
+        product: settle_table::get(work, settle_table::PRODUCT, i),
+        calls: settle_table::get(work, settle_table::CALLS, i),
+        rate: settle_table::get(work, settle_table::RATE, i),
+        cap: settle_table::get(work, settle_table::CAP, i),
+        spent: settle_table::get(work, settle_table::SPENT, i),
         u: u,
         off: off,
         e: e,

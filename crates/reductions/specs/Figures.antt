@@ -5,7 +5,7 @@ use mathlib.Core.Path.{_≡_, refl}
 use lib.Dec.{eqb}
 use Rattle.ids.specs.Ids.{anyTo, tabulate}
 use Rattle.bits.specs.Table.{times}
-use Rattle.layouts.specs.Layout.{itemsIn, rulesTo}
+use Rattle.record_layouts.specs.Layout.{itemsIn, rulesTo}
 use Rattle.reductions.specs.Reductions.{reducesIn, isReduction, withReductions}
 
 replaced-figures : (withReductions (λ i. true) (λ j. j) (4 ∷ 1 ∷ 1 ∷ 1 ∷ 1 ∷ 1 ∷ 3 ∷ 100 ∷ 5 ∷ 600 ∷ []) ≡ 4 ∷ 1 ∷ 1 ∷ 1 ∷ 1 ∷ 1 ∷ 3 ∷ 100 ∷ 5 ∷ 9 ∷ [])

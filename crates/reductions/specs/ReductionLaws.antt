@@ -12,9 +12,9 @@ use lib.Dec.{leb, ltb, eqb}
 use lib.ListN.{length, getD}
 use Rattle.ids.specs.Ids.{at, anyTo}
 use Rattle.ids.specs.Tests.{and-parts, any-some}
-use Rattle.layouts.specs.Layout.{noRule, Items, noItems, bare, layouts, head, lists, listAt, itemsIn, rulesTo, rulesFor, placeOf, itemAt}
-use Rattle.layouts.specs.LayoutLaws.{every, every-at, every-in}
-use Rattle.layouts.specs.ListLaws.{length-list, rule-item}
+use Rattle.record_layouts.specs.Layout.{noRule, Items, noItems, bare, layouts, head, lists, listAt, itemsIn, rulesTo, rulesFor, placeOf, itemAt}
+use Rattle.record_layouts.specs.LayoutLaws.{every, every-at, every-in}
+use Rattle.record_layouts.specs.ListLaws.{length-list, rule-item}
 use Rattle.reductions.specs.Reductions.{reducesIn, isReduction}
 
 -- field f of item m of list i is there

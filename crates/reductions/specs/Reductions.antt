@@ -5,7 +5,7 @@ use mathlib.Core.List.{List}
 use lib.ListN.{length}
 use lib.Dec.{eqb}
 use Rattle.ids.specs.Ids.{at, anyTo, tabulate}
-use Rattle.layouts.specs.Layout.{lists, listAt, itemsIn, itemAt}
+use Rattle.record_layouts.specs.Layout.{lists, listAt, itemsIn, itemAt}
 
 -- of the numbers of a record of kind k: is number j a reduction of item m of list i
 unfoldable pub reducesIn : ℕ → List ℕ → ℕ → ℕ → ℕ → Bool

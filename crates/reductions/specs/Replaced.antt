@@ -10,13 +10,13 @@ use lib.ListN.{length, getD, List·getD-eq-default}
 use Rattle.ids.specs.Ids.{at}
 use Rattle.ids.specs.Tables.{length-tabulate, getD-tabulate}
 use Rattle.ids.specs.Tests.{all-same, all-at}
-use Rattle.layouts.specs.Layout.{noRule, head, lists, listAt, itemsIn, rulesFor, placeOf, itemAt}
-use Rattle.layouts.specs.Questions.{rulesBy, permits, permitted, idsRise}
-use Rattle.layouts.specs.QuestionLaws.{permits-yes, rises-same, counts-same, fields-same, rules-same, head-kind}
-use Rattle.layouts.specs.ListLaws.{item-some, ids-rise}
-use Rattle.records.specs.Calls.{writeNumber}
-use Rattle.records.specs.Parsing.{Writable}
-use Rattle.records.specs.RoundTrip.{writable, not-refused}
+use Rattle.record_layouts.specs.Layout.{noRule, head, lists, listAt, itemsIn, rulesFor, placeOf, itemAt}
+use Rattle.record_layouts.specs.Questions.{rulesBy, permits, permitted, idsRise}
+use Rattle.record_layouts.specs.QuestionLaws.{permits-yes, rises-same, counts-same, fields-same, rules-same, head-kind}
+use Rattle.record_layouts.specs.ListLaws.{item-some, ids-rise}
+use Rattle.record_numbers.specs.Calls.{writeNumber}
+use Rattle.record_numbers.specs.Parsing.{Writable}
+use Rattle.record_numbers.specs.RoundTrip.{writable, not-refused}
 use Rattle.reductions.specs.Reductions.{isReduction, withReductions}
 use Rattle.reductions.specs.ReductionLaws.{Field, same-field, reduction-rule, Reduction, reduction-at, behind-head, rule-reduction}
 

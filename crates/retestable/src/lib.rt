@@ -6,14 +6,14 @@ ghost use lib.ListN.{getD};
 ghost use Rattle.year.specs.Year.{noTest, testPlace};
 ghost use Rattle.owed.specs.Facts.{factsOf};
 ghost use Rattle.owed.specs.Retests.{belowQuarter, testedKw, failedKw, hadRetest};
-ghost use Rattle.cells.specs.Layout.{yearIn, Held};
-ghost use Rattle.heads.specs.Within.{GroupWithin};
-use cells::Cells;
-use entries::Selection;
-use heads::RetestHead;
-use listings::any_selected;
-use listings::committed_kw;
+ghost use Rattle.year_cells.specs.Layout.{yearIn, Held};
+ghost use Rattle.record_heads.specs.Within.{GroupWithin};
+use question_conditions::Selection;
+use question_listings::any_selected;
+use question_listings::committed_kw;
+use record_heads::RetestHead;
 use units::Nominated;
+use year_cells::Cells;
 
 // The place of the test of its zone and product.
 pub fn place_of(t: RetestHead) -> u64
@@ -39,7 +39,7 @@ pub fn may_retest(year: &Cells, t: RetestHead) -> bool
     ensures { λ r. ⌜ r ≡ (let y = yearIn (now (year .entry)) in let p = testPlace (t .zone) (t .product) in getD (y .tests) p noTest .taken && (not (hadRetest (factsOf y) p (t .seller)) && belowQuarter (failedKw (factsOf y) p (t .seller)) (testedKw (factsOf y) p (t .seller)))) ⌝ }
 {
     let place = place_of(t);
-    if !tested::test_taken(year, place as usize) {
+    if !year_tested::test_taken(year, place as usize) {
         return false;
     }
     if any_selected(year, Selection::Retested(place, t.seller)) {

@@ -10,9 +10,9 @@ use Rattle.year.specs.declared.Registration.{Registration}
 use Rattle.year.specs.Year.{clearingsOf}
 use Rattle.year.specs.Steps.{withOpening, withRegistration, withLse, withClearing}
 use Rattle.year.specs.Sound.{Sound}
-use Rattle.cells.specs.Rows.{Laid, same-before, same-behind, rows-laid, cells-laid}
-use Rattle.cells.specs.Layout.{registrationAt, cellRegistrations, cellObligations, cellClearings, yearIn}
-use Rattle.cells.specs.Regions.{registration-view, clearings-view, registrations-kept, obligations-kept, terms-kept, events-kept, tests-kept, billed-kept, clearings-kept, retests-kept}
+use Rattle.year_cells.specs.Rows.{Laid, same-before, same-behind, rows-laid, cells-laid}
+use Rattle.year_cells.specs.Layout.{registrationAt, cellRegistrations, cellObligations, cellClearings, yearIn}
+use Rattle.year_cells.specs.Regions.{registration-view, clearings-view, registrations-kept, obligations-kept, terms-kept, events-kept, tests-kept, billed-kept, clearings-kept, retests-kept}
 use Rattle.setup.specs.Unmarked.{unmarked, tests-unmarked}
 
 -- a known registration is the one that its row has

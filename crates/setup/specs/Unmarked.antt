@@ -11,10 +11,10 @@ use Rattle.ids.specs.Ids.{at}
 use Rattle.ids.specs.Tables.{tabulate-same}
 use Rattle.year.specs.Year.{noTest, listed}
 use Rattle.year.specs.Sound.{Sound}
-use Rattle.cells.specs.Rows.{from, Same, same-row, same-in}
-use Rattle.cells.specs.Layout.{flag, placeIn, cellTests, yearIn}
-use Rattle.cells.specs.Regions.{test-same}
-use Rattle.tested.specs.Tested.{place-below, tested-in}
+use Rattle.year_cells.specs.Rows.{from, Same, same-row, same-in}
+use Rattle.year_cells.specs.Layout.{flag, placeIn, cellTests, yearIn}
+use Rattle.year_cells.specs.Regions.{test-same}
+use Rattle.year_tested.specs.Tested.{place-below, tested-in}
 
 pub unmarked : (c : List ℕ) → Sound (yearIn c) → cellTests c ≡ replicate 24 noTest → (i : ℕ) → i < 64 → flag (at c (4295 + i)) ≡ false
 unfolding listed

@@ -5,16 +5,16 @@ ghost use Prim.Native.Nat.{_≤_, _<_};
 ghost use Rattle.year.specs.Year.{clearingsOf};
 ghost use Rattle.year.specs.Steps.{withOpening, withRegistration, withLse, withClearing};
 ghost use Rattle.year.specs.Sound.{SoundRegistration, Factors};
-ghost use Rattle.cells.specs.Layout.{yearIn, Held};
-use cells::CLEARING;
-use cells::CLEARINGS;
-use cells::Cells;
-use cells::OBLIGATIONS;
-use cells::OPENED;
-use cells::REGISTRATION;
-use cells::REGISTRATIONS;
-use cells::lay;
+ghost use Rattle.year_cells.specs.Layout.{yearIn, Held};
 use year::Registration;
+use year_cells::CLEARING;
+use year_cells::CLEARINGS;
+use year_cells::Cells;
+use year_cells::OBLIGATIONS;
+use year_cells::OPENED;
+use year_cells::REGISTRATION;
+use year_cells::REGISTRATIONS;
+use year_cells::lay;
 
 // An opening: the year's leap mark and factors.
 pub fn open(year: &mut Cells, leap: u64, factor: u64, requirement: u64)
@@ -63,7 +63,7 @@ pub fn clear(year: &mut Cells, id: usize, price: u64, kw: u64)
     ensures equals { λ r. ⌜ yearIn (now (year .exit)) ≡ withClearing (yearIn (now (year .entry))) id price kw ⌝ }
     ensures held { λ r. ⌜ Held (now (year .exit)) ⌝ }
 {
-    let old = cells::clearings_at(year, id);
+    let old = year_cells::clearings_at(year, id);
     let count = old.count;
     let value = old.value;
     let cleared = old.kw;

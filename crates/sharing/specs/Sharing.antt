@@ -16,12 +16,12 @@ use Rattle.owed_laws.specs.Limits.{Limits}
 use Rattle.owed_laws.specs.Sellers.{ofSeller-le}
 use Rattle.owed_laws.specs.Bounds.{lack-le, more-le, shortfall-le, excess-le}
 use Rattle.owed_laws.specs.Unlisted.{u-unlisted, e-unlisted}
-use Rattle.cells.specs.Rows.{Off}
-use Rattle.table.specs.Columns.{Columns, columns-aside}
-use Rattle.table.specs.Places.{lackRow, moreRow, uRow, eRow, listedRow, secondRow, offURow, sharedPlaces}
-use Rattle.table.specs.Rows.{Stored, Aside, Row, Renewed, none, mark, aside-none, aside-more, aside-then, row-aside, row-within, renewed-first, renewed-kept, renewed-aside, renewed-more, renewed-none}
-use Rattle.weighing.specs.declared.Entry.{Entry}
-use Rattle.weighing.specs.Weighing.{entryAt, Ready}
+use Rattle.year_cells.specs.Rows.{Off}
+use Rattle.settle_table.specs.Columns.{Columns, columns-aside}
+use Rattle.settle_table.specs.Places.{lackRow, moreRow, uRow, eRow, listedRow, secondRow, offURow, sharedPlaces}
+use Rattle.settle_table.specs.Rows.{Stored, Aside, Row, Renewed, none, mark, aside-none, aside-more, aside-then, row-aside, row-within, renewed-first, renewed-kept, renewed-aside, renewed-more, renewed-none}
+use Rattle.settle_shortfalls.specs.declared.Entry.{Entry}
+use Rattle.settle_shortfalls.specs.Weighing.{entryAt, Ready}
 
 -- the second reductions of an event's entries
 abbrev pub secondOf : Facts → ℕ → ℕ → ℕ

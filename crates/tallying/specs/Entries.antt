@@ -15,17 +15,17 @@ use Rattle.ids.specs.Tables.{getD-tabulate}
 use Rattle.units.specs.Units.{convert-zero}
 use Rattle.year.specs.Year.{noTest, retestOf, deficit}
 use Rattle.year.specs.Year as year
-use Rattle.cells.specs.Layout.{flag, placeIn, yearIn, Held}
-use Rattle.cells.specs.Regions.{test-in}
-use Rattle.tested.specs.Tested.{tested-in, first-in}
+use Rattle.year_cells.specs.Layout.{flag, placeIn, yearIn, Held}
+use Rattle.year_cells.specs.Regions.{test-in}
+use Rattle.year_tested.specs.Tested.{tested-in, first-in}
 use Rattle.owed.specs.Owed.{D, raised, unforced, ofSeller, called, shortfallOver, testShortfall, B, testOf}
 use Rattle.owed.specs.Owed as owed
 use Rattle.owed_laws.specs.Limits.{limits}
 use Rattle.tallying.specs.declared.Entry.{Entry}
-use Rattle.looks.specs.Looks.{facts}
-use Rattle.table.specs.Places.{calledRow, placeRow}
-use Rattle.table.specs.Rows.{Row, mark}
-use Rattle.table.specs.Columns.{Columns}
+use Rattle.settle_facts.specs.Looks.{facts}
+use Rattle.settle_table.specs.Places.{calledRow, placeRow}
+use Rattle.settle_table.specs.Rows.{Row, mark}
+use Rattle.settle_table.specs.Columns.{Columns}
 
 -- a test that is asked the other way round
 pub unless : (b : Bool) {t : Bool} → not b ≡ t → b ≡ not t

@@ -12,16 +12,16 @@ use Rattle.ids.specs.Ids.{at, sumTo, only, keyed}
 use Rattle.ids.specs.Sums.{sum-same}
 use Rattle.ids.specs.Tests.{cond-le}
 use Rattle.year.specs.Year as year
-use Rattle.cells.specs.Layout.{placeIn, Held}
-use Rattle.tested.specs.Tested.{place-below}
+use Rattle.year_cells.specs.Layout.{placeIn, Held}
+use Rattle.year_tested.specs.Tested.{place-below}
 use Rattle.owed.specs.Facts.{Facts}
 use Rattle.owed.specs.Owed.{unforced, ofSeller, called, shortfallOver, testShortfall, B}
 use Rattle.owed.specs.Owed as owed
 use Rattle.owed_laws.specs.Limits.{limits}
 use Rattle.owed_laws.specs.Sellers.{ofSeller-le}
 use Rattle.owed_laws.specs.Bounds.{committed-le, worth-le}
-use Rattle.looks.specs.Looks.{facts}
-use Rattle.table.specs.Rows.{Stored, Row, Grown, none, row-within, grown-first, grown-kept, grown-none, grown-more, grown-most}
+use Rattle.settle_facts.specs.Looks.{facts}
+use Rattle.settle_table.specs.Rows.{Stored, Row, Grown, none, row-within, grown-first, grown-kept, grown-none, grown-more, grown-most}
 use Rattle.tallying.specs.declared.Addend.{Addend}
 use Rattle.tallying.specs.Entries.{lookAt, stands, tested-at, result-at, reduction-le}
 

@@ -4,14 +4,14 @@ ghost use mathlib.Core.Bool.{cond};
 ghost use Prim.Native.Nat.{_<_};
 ghost use lib.ListN.{length};
 ghost use Rattle.ids.specs.Ids.{tabulate};
-ghost use Rattle.cells.specs.Layout.{Held};
-ghost use Rattle.table.specs.Rows.{Row, none};
+ghost use Rattle.year_cells.specs.Layout.{Held};
+ghost use Rattle.settle_table.specs.Rows.{Row, none};
 ghost use Rattle.tallying.specs.Entries.{lookAt, stands, Ready};
 ghost use Rattle.tallying.specs.Sums.{addendAt, Summed};
-use cells::Cells;
-use table::Work;
+use settle_table::Work;
 use units::Nominated;
 use year::Retest;
+use year_cells::Cells;
 
 // By 16 × place + seller, 384 places each: what is committed, the reductions, and what is committed times its rate.
 pub type Sums = [u64; 1152];
@@ -43,9 +43,9 @@ fn look(year: &Cells, i: usize) -> Entry
     requires { ⌜ i < 64 ⌝ }
     ensures { λ r. ⌜ r ≡ lookAt (now (year .entry)) i ⌝ }
 {
-    let listed = year[cells::TESTED + i] != 0;
-    let retest = tested::retest_at(year, i);
-    let reduction = result(year[cells::TESTED + (64 + i)], retest);
+    let listed = year[year_cells::TESTED + i] != 0;
+    let retest = year_tested::retest_at(year, i);
+    let reduction = result(year[year_cells::TESTED + (64 + i)], retest);
     Entry { listed, reduction }
 }
 
@@ -59,7 +59,7 @@ fn standing(year: &Cells, work: &Work) -> [bool; 64]
     while i < 64 {
         let x = look(year, i);
         if x.listed {
-            r[i] = table::get(work, table::CALLED, i) == 0;
+            r[i] = settle_table::get(work, settle_table::CALLED, i) == 0;
         }
         i += 1;
     }
@@ -83,13 +83,14 @@ fn addend_of(year: &Cells, work: &Work, i: usize) -> Addend
 {
     let x = look(year, i);
     let reduction = x.reduction;
-    let committed = Nominated::new(table::get(work, table::COMMITTED, i));
-    let key = 16 * table::get(work, table::PLACE, i) + table::get(work, table::SELLER, i);
+    let committed = Nominated::new(settle_table::get(work, settle_table::COMMITTED, i));
+    let key = 16 * settle_table::get(work, settle_table::PLACE, i)
+        + settle_table::get(work, settle_table::SELLER, i);
     Addend {
         key: key as usize,
         committed: committed,
         reduction: reduction,
-        worth: committed.0 * table::get(work, table::RATE, i),
+        worth: committed.0 * settle_table::get(work, settle_table::RATE, i),
     }
 }
 
@@ -105,9 +106,9 @@ pub fn sum_up(year: &Cells, work: &Work, sums: &mut Sums)
     while i < 64 {
         let x = addend_of(year, work, i);
         if left[i] {
-            table::add_at(sums, COMMITTED, x.key, x.committed.0);
-            table::add_at(sums, REDUCTION, x.key, x.reduction.0);
-            table::add_at(sums, WORTH, x.key, x.worth);
+            settle_table::add_at(sums, COMMITTED, x.key, x.committed.0);
+            settle_table::add_at(sums, REDUCTION, x.key, x.reduction.0);
+            settle_table::add_at(sums, WORTH, x.key, x.worth);
         }
         i += 1;
     }

@@ -7,7 +7,7 @@ use native.Mathlib.Nat.{mul-div-cancel}
 use lib.Dec.{leb, lit<}
 use lib.Ieee.{binary32, round}
 use borrow.Author.Tests.{leb-true, le-leb}
-use Rattle.eighths.specs.Values.{each}
+use Rattle.telemetry_eighths.specs.Values.{each}
 use Rattle.telemetry.specs.Reduction.{allCount, kwIn, limited, reductionOf, kwOf}
 use Rattle.telemetry.specs.declared.Sample.{Sample}
 use Rattle.telemetry.specs.declared.Sample.the-variants.{Direct}

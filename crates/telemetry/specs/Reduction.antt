@@ -5,7 +5,7 @@ use Prim.Native.Nat.{ℕ, _-_, _/_}
 use mathlib.Core.Bool.{Bool, _&&_, cond}
 use lib.Dec.{leb}
 use lib.Ieee.{binary32, ofBits}
-use Rattle.eighths.specs.Eighths.{counts, eighthsOf}
+use Rattle.telemetry_eighths.specs.Eighths.{counts, eighthsOf}
 use Rattle.telemetry.specs.declared.Sample.{Sample}
 use Rattle.telemetry.specs.declared.Sample.the-variants.{Pair, Direct}
 use Rattle.telemetry.specs.declared.Reduced.{Reduced}

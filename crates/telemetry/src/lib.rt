@@ -2,10 +2,10 @@
 ghost use mathlib.Core.Path.{_≡_};
 ghost use Rattle.telemetry.specs.Reduction.{limited, reductionOf};
 ghost use Rattle.telemetry.specs.declared.Sample.the-variants.{Pair};
-use eighths::Loads;
-use eighths::counts;
-use eighths::less;
-use eighths::whole_kw;
+use telemetry_eighths::Loads;
+use telemetry_eighths::counts;
+use telemetry_eighths::less;
+use telemetry_eighths::whole_kw;
 
 // What a gateway delivers: expected and metered load, or one direct reduction from a control switch.
 pub enum Sample {

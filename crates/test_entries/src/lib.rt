@@ -4,8 +4,8 @@ ghost use mathlib.Core.Bool.{_&&_};
 ghost use Prim.Native.Nat.{_<_};
 ghost use Rattle.owed.specs.Facts.{factsOf};
 ghost use Rattle.owed.specs.Retests.{entryOf, failed};
-ghost use Rattle.cells.specs.Layout.{yearIn, Held};
-use cells::Cells;
+ghost use Rattle.year_cells.specs.Layout.{yearIn, Held};
+use year_cells::Cells;
 
 // Has the test of a place an entry of it, as the seller's?
 pub fn is_entry(year: &Cells, i: usize, place: u64, seller: u64) -> bool
@@ -13,8 +13,8 @@ pub fn is_entry(year: &Cells, i: usize, place: u64, seller: u64) -> bool
     requires { ⌜ i < 64 ⌝ }
     ensures { λ b. ⌜ b ≡ entryOf (factsOf (yearIn (now (year .entry)))) place seller i ⌝ }
 {
-    let r = cells::registration_at(year, i);
-    tested::tested_in(year, place, i) && r.seller == seller
+    let r = year_cells::registration_at(year, i);
+    year_tested::tested_in(year, place, i) && r.seller == seller
 }
 
 // Was the entry's reduction in that test below its commitment?
@@ -23,9 +23,9 @@ pub fn has_failed(year: &Cells, i: usize, place: u64, seller: u64) -> bool
     requires { ⌜ i < 64 ⌝ }
     ensures { λ b. ⌜ b ≡ failed (factsOf (yearIn (now (year .entry)))) place seller i ⌝ }
 {
-    let r = cells::registration_at(year, i);
+    let r = year_cells::registration_at(year, i);
     let committed = r.committed;
-    is_entry(year, i, place, seller) && tested::first_in(year, place, i) < committed.0
+    is_entry(year, i, place, seller) && year_tested::first_in(year, place, i) < committed.0
 }
 
 // Is it retested?
@@ -34,6 +34,6 @@ pub fn is_retested(year: &Cells, i: usize, place: u64, seller: u64) -> bool
     requires { ⌜ i < 64 ⌝ }
     ensures { λ b. ⌜ b ≡ (let F = factsOf (yearIn (now (year .entry))) in entryOf F place seller i && F .retest i .taken) ⌝ }
 {
-    let retest = tested::retest_at(year, i);
+    let retest = year_tested::retest_at(year, i);
     is_entry(year, i, place, seller) && retest.taken
 }

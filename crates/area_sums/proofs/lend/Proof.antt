@@ -6,9 +6,9 @@ use native.Mathlib.Nat.{mul-le-mul}
 use borrow.Author.Needs.{needs}
 use Rattle.year.specs.Year.{area, committed}
 use Rattle.year.specs.Sound.{SoundRegistration}
-use Rattle.looks.specs.Looks.{facts}
+use Rattle.settle_facts.specs.Looks.{facts}
 use Rattle.owed_laws.specs.Limits.{limits}
-use Rattle.table.specs.Places.{worthRow}
+use Rattle.settle_table.specs.Places.{worthRow}
 use Rattle.area_sums.specs.Lent.{lentAt, worth-is, lent-le, lent-room, worth-room, lending-more, lending-aside}
 use Rattle.area_sums.proofs.lend.Statement.{statement}
 use Rattle.area_sums.proofs.lend.Tie as tie

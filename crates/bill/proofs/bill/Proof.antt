@@ -5,9 +5,9 @@ use native.Mathlib.Omega.{arith}
 use lib.ListN.{length, take, drop, length-drop}
 use lib.Seq.{length-take-le}
 use borrow.Author.Needs.{needs}
-use Rattle.layouts.specs.QuestionLaws.{consumed-within}
-use Rattle.report.specs.Text.{room}
-use Rattle.cells.specs.Layout.{Held}
+use Rattle.record_layouts.specs.QuestionLaws.{consumed-within}
+use Rattle.text_bill.specs.Text.{room}
+use Rattle.year_cells.specs.Layout.{Held}
 use Rattle.bill.proofs.bill.Statement.{statement}
 use Rattle.bill.proofs.bill.Tie as tie
 

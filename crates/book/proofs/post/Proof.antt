@@ -4,31 +4,31 @@ use mathlib.Core.Path.{_≡_, refl, sym, ap, _∙_}
 use native.Mathlib.Omega.{arith}
 use lib.ListN.{length}
 use Rattle.ids.specs.Ids.{at}
-use Rattle.layouts.specs.Layout.{most}
-use Rattle.layouts.specs.Questions.{firstFailed, numbersOf, recordNumber, row}
-use Rattle.records.specs.Accepted.{accepted}
+use Rattle.record_layouts.specs.Layout.{most}
+use Rattle.record_layouts.specs.Questions.{firstFailed, numbersOf, recordNumber, row}
+use Rattle.record_numbers.specs.Accepted.{accepted}
 use Rattle.year.specs.Sound.{SoundListing}
-use Rattle.cells.specs.Layout.{listingAt, yearIn}
-use Rattle.heads.specs.Record.{Record}
-use Rattle.heads.specs.RecordLaws.{record-row}
-use Rattle.spreading.specs.Listed.{sound-listed}
-use Rattle.heads.specs.Within.{Within}
-use Rattle.questions.specs.Questions.{monthBegun, questions}
-use Rattle.questions.specs.Admitted.{admitted}
-use Rattle.recorded.specs.After.{yearWith}
-use Rattle.accepting.specs.Leaves.{bufferWith, writtenWith}
-use Rattle.outcome.specs.Outcome.{postNumber}
-use Rattle.outcome.specs.Numbers.{record-refused, record-accepted}
-use Rattle.outcome.specs.Made.{values-long, within, permits}
-use Rattle.outcome.specs.Kept.{suits}
-use Rattle.outcome.specs.Posting.{refuses, accepts}
+use Rattle.year_cells.specs.Layout.{listingAt, yearIn}
+use Rattle.record_heads.specs.Record.{Record}
+use Rattle.record_heads.specs.RecordLaws.{record-row}
+use Rattle.record_listing.specs.Listed.{sound-listed}
+use Rattle.record_heads.specs.Within.{Within}
+use Rattle.question_list.specs.Questions.{monthBegun, questions}
+use Rattle.question_list.specs.Admitted.{admitted}
+use Rattle.book_recorded.specs.After.{yearWith}
+use Rattle.book_accept.specs.Leaves.{bufferWith, writtenWith}
+use Rattle.book_outcome.specs.Outcome.{postNumber}
+use Rattle.book_outcome.specs.Numbers.{record-refused, record-accepted}
+use Rattle.book_outcome.specs.Made.{values-long, within, permits}
+use Rattle.book_outcome.specs.Kept.{suits}
+use Rattle.book_outcome.specs.Posting.{refuses, accepts}
 use Rattle.book.proofs.post.Statement.{statement}
 use Rattle.book.proofs.post.Tie as tie
-use Rattle.accepting.proofs.take.Reads as take-reads
-use Rattle.heads.proofs.head_of.Reads as head-of-reads
-use Rattle.spreading.proofs.spread.Reads as spread-reads
-use Rattle.verdict.proofs.number_of.Reads as number-of-reads
-use Rattle.parsing.proofs.parse.Reads as parse-reads
+use Rattle.book_accept.proofs.take.Reads as take-reads
+use Rattle.record_heads.proofs.head_of.Reads as head-of-reads
+use Rattle.record_listing.proofs.spread.Reads as spread-reads
+use Rattle.question_number.proofs.number_of.Reads as number-of-reads
+use Rattle.record_parse.proofs.parse.Reads as parse-reads
 
 -- questions 1 to 5 pass, and the values are the record's numbers
 quiet : (c : tie.Else1) → recordNumber (c .before .before .before .before .before .before .before .args .bytes .now) ≡ 0

@@ -1,9 +1,9 @@
 -- `closing::close` meets its contract: what each pass leaves in the table is what the next asks.
 use native.Mathlib.Omega.{arith}
 use borrow.Author.Needs.{needs}
-use Rattle.lses.specs.Lses.{covered, net-fits}
-use Rattle.table.specs.Places.{callsRow}
-use Rattle.table.specs.Rows.{row-within}
+use Rattle.settle_lses.specs.Lses.{covered, net-fits}
+use Rattle.settle_table.specs.Places.{callsRow}
+use Rattle.settle_table.specs.Rows.{row-within}
 use Rattle.closing.specs.Closing.{Evented, evented, Tested, tested, amounts-are}
 use Rattle.closing.proofs.close.Statement.{statement}
 use Rattle.closing.proofs.close.Tie as tie

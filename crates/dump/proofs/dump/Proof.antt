@@ -5,8 +5,8 @@ use native.Mathlib.Omega.{arith}
 use lib.ListN.{length, take, drop, length-drop}
 use lib.Seq.{length-take-le}
 use borrow.Author.Needs.{needs}
-use Rattle.line.specs.Line.{lineRoom}
-use Rattle.layouts.specs.QuestionLaws.{consumed-within}
+use Rattle.text_record.specs.Line.{lineRoom}
+use Rattle.record_layouts.specs.QuestionLaws.{consumed-within}
 use Rattle.dump.proofs.dump.Statement.{statement}
 use Rattle.dump.proofs.dump.Tie as tie
 

@@ -3,13 +3,13 @@ use Prim.Native.Nat.{ℕ, _+_, _-_, _≤_, _<_}
 use mathlib.Core.List.{List}
 use mathlib.Core.Path.{_≡_, refl, ap, _∙_}
 use lib.ListN.{length, take}
-use Rattle.writer.specs.declared.Writer.{Writer}
+use Rattle.bits_write.specs.declared.Writer.{Writer}
 use Rattle.bits.specs.Table.{total}
-use Rattle.writer.specs.Written.{joined, writtenBits, Ready, Wrote}
-use Rattle.layouts.specs.Layout.{head, lists, rulesTo, widths}
-use Rattle.layouts.specs.Questions.{isKind}
-use Rattle.layouts.specs.QuestionLaws.{kind-in}
-use Rattle.layouts.specs.PartLaws.{table-long}
+use Rattle.bits_write.specs.Written.{joined, writtenBits, Ready, Wrote}
+use Rattle.record_layouts.specs.Layout.{head, lists, rulesTo, widths}
+use Rattle.record_layouts.specs.Questions.{isKind}
+use Rattle.record_layouts.specs.QuestionLaws.{kind-in}
+use Rattle.record_layouts.specs.PartLaws.{table-long}
 use Rattle.encoding.specs.Encoding.{put-stated, part-room, part-long, part-narrow, part-valid, part-total, part-fits, part-next, part-written, lists-written}
 use native.Mathlib.Omega.{arith}
 use Rattle.encoding.proofs.put_lists.Statement.{statement}

@@ -5,13 +5,13 @@ use lib.ListN.{length, take}
 use lib.Seq.{length-take-le}
 use Rattle.ids.specs.Ids.{at}
 use Rattle.bits.specs.Table.{total}
-use Rattle.writer.specs.Written.{joined, Ready, Wrote}
-use Rattle.layouts.specs.Layout.{head, widths}
-use Rattle.layouts.specs.LayoutLaws.{sound-heads, narrow-sound}
-use Rattle.layouts.specs.Questions.{rulesBy, isKind}
-use Rattle.layouts.specs.QuestionLaws.{kind-in}
-use Rattle.layouts.specs.PartLaws.{table-long}
-use Rattle.records.specs.Parsing.{Writable}
+use Rattle.bits_write.specs.Written.{joined, Ready, Wrote}
+use Rattle.record_layouts.specs.Layout.{head, widths}
+use Rattle.record_layouts.specs.LayoutLaws.{sound-heads, narrow-sound}
+use Rattle.record_layouts.specs.Questions.{rulesBy, isKind}
+use Rattle.record_layouts.specs.QuestionLaws.{kind-in}
+use Rattle.record_layouts.specs.PartLaws.{table-long}
+use Rattle.record_numbers.specs.Parsing.{Writable}
 use Rattle.encoding.specs.Encoding.{put-stated, head-long, head-valid, head-fits, all-written}
 use borrow.Author.Needs.{needs}
 use native.Mathlib.Omega.{arith}

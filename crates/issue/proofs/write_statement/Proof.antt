@@ -3,8 +3,8 @@ use borrow.Author.Needs.{needs}
 use mathlib.Core.Path.{refl}
 use native.Mathlib.Omega.{arith}
 use Rattle.ids.specs.Ids.{holds}
-use Rattle.writer.specs.Written.{Ready}
-use Rattle.writer.specs.WrittenLaws.{written-encodes}
+use Rattle.bits_write.specs.Written.{Ready}
+use Rattle.bits_write.specs.WrittenLaws.{written-encodes}
 use Rattle.statement.specs.Statement.{widthsOf, valuesOf, statementFields, statementOf}
 use Rattle.ids.specs.Sums.{count-most}
 use Rattle.statement.specs.Sizes.{same-length, statement-fits, statement-bits, statement-length}

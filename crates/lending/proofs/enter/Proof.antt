@@ -5,7 +5,7 @@ use native.Mathlib.Nat.{mul-le-mul}
 use borrow.Author.Needs.{needs}
 use Rattle.year.specs.Year.{seller, area, zone, product, committed}
 use Rattle.year.specs.Sound.{SoundRegistration}
-use Rattle.cells.specs.Layout.{placeIn}
+use Rattle.year_cells.specs.Layout.{placeIn}
 use Rattle.owed_laws.specs.Limits.{limits}
 use Rattle.owed_laws.specs.Bounds.{unforced-one}
 use Rattle.lending.specs.Entering.{begun-more}

@@ -9,7 +9,7 @@ use lib.ListN.{length, drop}
 use lib.Seq.{getD-drop}
 use Rattle.ids.specs.Ids.{at, allTo}
 use Rattle.ids.specs.Tests.{all-more, all-fails}
-use Rattle.layouts.specs.Parts.{within}
+use Rattle.record_layouts.specs.Parts.{within}
 use borrow.Author.Needs.{needs}
 use native.Mathlib.Omega.{arith}
 use Rattle.limits.proofs.are_within.Statement.{statement}

@@ -7,8 +7,8 @@ use native.Mathlib.Nat.{mul-le-mul-right}
 use native.Mathlib.Omega.{arith}
 use Rattle.ids.specs.Ids.{at, allTo}
 use Rattle.ids.specs.Tests.{all-more, all-fails}
-use Rattle.layouts.specs.Parts.{between, columnWithin}
-use Rattle.layouts.specs.ListLaws.{column-held}
+use Rattle.record_layouts.specs.Parts.{between, columnWithin}
+use Rattle.record_layouts.specs.ListLaws.{column-held}
 use Rattle.limits.proofs.column_within.Statement.{statement}
 use Rattle.limits.proofs.column_within.Tie as tie
 

@@ -5,7 +5,7 @@ use borrow.Author.Tests.{ne-eqb}
 use native.Mathlib.Omega.{arith}
 use lib.Pow.{pow-pos}
 use Rattle.bits.specs.Shifts.{one-shl}
-use Rattle.layouts.specs.Parts.{holdAll}
+use Rattle.record_layouts.specs.Parts.{holdAll}
 use Rattle.limits.proofs.hold_all.Statement.{statement}
 use Rattle.limits.proofs.hold_all.Tie as tie
 

@@ -9,7 +9,7 @@ use lib.ListN.{length}
 use Rattle.ids.specs.Ids.{at, allTo}
 use Rattle.ids.specs.Tests.{all-more, all-fails}
 use Rattle.bits.specs.TableLaws.{width-in}
-use Rattle.layouts.specs.Parts.{columnWithin, itemsWithin, ColumnFits}
+use Rattle.record_layouts.specs.Parts.{columnWithin, itemsWithin, ColumnFits}
 use Rattle.limits.proofs.items_within.Statement.{statement}
 use Rattle.limits.proofs.items_within.Tie as tie
 

@@ -3,7 +3,7 @@ use borrow.Author.Needs.{needs}
 use Rattle.merging.specs.Entered.{entered}
 use Rattle.merging.proofs.enter.Statement.{statement}
 use Rattle.merging.proofs.enter.Tie as tie
-use Rattle.cells.proofs.lay.Reads as lay-reads
+use Rattle.year_cells.proofs.lay.Reads as lay-reads
 use Rattle.merging.proofs.merge.Reads as merge-reads
 
 returns : tie.Need-returns

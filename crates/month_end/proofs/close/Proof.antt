@@ -8,11 +8,11 @@ use Rattle.owed_laws.specs.Limits.{limits}
 use Rattle.owed_laws.specs.Totals.{sound-amounts}
 use Rattle.month_end.proofs.close.Statement.{statement}
 use Rattle.month_end.proofs.close.Tie as tie
-use Rattle.settlement.proofs.amounts_of.Reads as amounts-of-reads
-use Rattle.snapshot.proofs.terms_of.Reads as terms-of-reads
-use Rattle.snapshot.proofs.billed_of.Reads as billed-of-reads
+use Rattle.settle_closing.proofs.amounts_of.Reads as amounts-of-reads
+use Rattle.year_copies.proofs.terms_of.Reads as terms-of-reads
+use Rattle.year_copies.proofs.billed_of.Reads as billed-of-reads
 use Rattle.issue.proofs.write_statement.Reads as write-statement-reads
-use Rattle.steps.proofs.close.Reads as close-reads
+use Rattle.year_steps.proofs.close.Reads as close-reads
 
 -- once the year is read, what is at hand is sound
 record AtHand (b : tie.After-billed-of) : Type 0 where

@@ -2,7 +2,7 @@
 use Prim.Native.Nat.{_-_}
 use mathlib.Core.Path.{_≡_, _∙_}
 use native.Mathlib.Omega.{arith}
-use Rattle.looks.specs.Looks.{facts}
+use Rattle.settle_facts.specs.Looks.{facts}
 use Rattle.owed_laws.specs.Limits.{limits}
 use Rattle.sharing.specs.Sharing.{secondOf}
 use Rattle.offpeak.specs.OffPeak.{entry-is, second-small}

@@ -1,9 +1,9 @@
 -- `offpeak::measure` meets its contract: sums, shortfalls and shares one after the other, or nothing where nothing is measured apart. Assumes nothing.
 use mathlib.Core.Path.{sym, _∙_}
 use native.Mathlib.Omega.{arith}
-use Rattle.looks.specs.Looks.{facts}
-use Rattle.table.specs.Places.{offURow, offLackRow, apartPlaces}
-use Rattle.table.specs.Rows.{aside-none, aside-then, row-aside, row-within}
+use Rattle.settle_facts.specs.Looks.{facts}
+use Rattle.settle_table.specs.Places.{offURow, offLackRow, apartPlaces}
+use Rattle.settle_table.specs.Rows.{aside-none, aside-then, row-aside, row-within}
 use Rattle.offpeak.specs.OffPeak.{sumPlaces, netted-all, measured-none}
 use Rattle.offpeak.proofs.measure.Statement.{statement}
 use Rattle.offpeak.proofs.measure.Tie as tie

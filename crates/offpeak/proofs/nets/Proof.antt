@@ -3,12 +3,12 @@ use Prim.Native.Nat.{_-_}
 use mathlib.Core.Path.{_≡_, refl, ap}
 use native.Mathlib.Omega.{arith}
 use lib.Dec.{lit≤}
-use Rattle.looks.specs.Looks.{facts}
+use Rattle.settle_facts.specs.Looks.{facts}
 use Rattle.owed_laws.specs.Limits.{limits}
-use Rattle.table.specs.Places.{offLackRow}
-use Rattle.table.specs.Rows.{Aside, aside-none, aside-more}
-use Rattle.weighing.specs.declared.Net.{Net}
-use Rattle.weighing.specs.Sums.{lack-most, more-most}
+use Rattle.settle_table.specs.Places.{offLackRow}
+use Rattle.settle_table.specs.Rows.{Aside, aside-none, aside-more}
+use Rattle.settle_shortfalls.specs.declared.Net.{Net}
+use Rattle.settle_shortfalls.specs.Sums.{lack-most, more-most}
 use Rattle.offpeak.specs.OffPeak.{sumPlaces, Netted, netted-first, netted-more}
 use Rattle.offpeak.proofs.nets.Statement.{statement}
 use Rattle.offpeak.proofs.nets.Tie as tie

@@ -5,7 +5,7 @@ use mathlib.Core.Logic.{⊎-elim}
 use mathlib.Core.Bool.{true}
 use native.Mathlib.Omega.{arith}
 use lib.Dec.{lit≤}
-use Rattle.looks.specs.Looks.{facts}
+use Rattle.settle_facts.specs.Looks.{facts}
 use Rattle.owed.specs.Owed.{measured}
 use Rattle.owed_laws.specs.Limits.{limits}
 use Rattle.offpeak.specs.declared.Entry.{Entry}

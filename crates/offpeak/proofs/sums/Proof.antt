@@ -3,10 +3,10 @@ use Prim.Native.Nat.{_+_, _-_}
 use mathlib.Core.Path.{ap, sym, _∙_}
 use mathlib.Core.Logic.{⊎-elim}
 use native.Mathlib.Omega.{arith}
-use Rattle.looks.specs.Looks.{facts}
+use Rattle.settle_facts.specs.Looks.{facts}
 use Rattle.owed_laws.specs.Limits.{limits}
-use Rattle.table.specs.Places.{offMoreRow}
-use Rattle.weighing.specs.Sums.{lack-room, more-room}
+use Rattle.settle_table.specs.Places.{offMoreRow}
+use Rattle.settle_shortfalls.specs.Sums.{lack-room, more-room}
 use Rattle.offpeak.specs.declared.Entry.{Entry}
 use Rattle.offpeak.specs.OffPeak.{Weighing, weighing-first, weighing-none, weighing-more, weighing-all, second-small}
 use Rattle.offpeak.proofs.sums.Statement.{statement}

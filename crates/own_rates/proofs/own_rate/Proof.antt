@@ -7,7 +7,7 @@ use borrow.Author.Tests.{lt-ltb, not-true, not-false}
 use Rattle.year.specs.Year.{known, fieldRate}
 use Rattle.year.specs.Limits.{clearings-sound}
 use Rattle.owed.specs.Owed.{own}
-use Rattle.looks.specs.Looks.{facts}
+use Rattle.settle_facts.specs.Looks.{facts}
 use Rattle.own_rates.proofs.own_rate.Statement.{statement}
 use Rattle.own_rates.proofs.own_rate.Tie as tie
 

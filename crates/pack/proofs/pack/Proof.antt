@@ -4,7 +4,7 @@ use Prim.Native.Nat.{_+_, _-_, _^_, _≤_}
 use native.Mathlib.Omega.{arith}
 use lib.ListN.{length}
 use borrow.Author.Needs.{needs}
-use Rattle.layouts.specs.Layout.{longestPermitted}
+use Rattle.record_layouts.specs.Layout.{longestPermitted}
 use Rattle.pack.proofs.pack.Statement.{statement}
 use Rattle.pack.proofs.pack.Tie as tie
 

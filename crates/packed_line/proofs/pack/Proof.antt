@@ -5,7 +5,7 @@ use native.Mathlib.Omega.{arith}
 use lib.ListN.{length, take, drop, length-drop}
 use lib.Seq.{length-take-le, take-all}
 use borrow.Author.Needs.{needs}
-use Rattle.records.specs.Calls.{Writes}
+use Rattle.record_numbers.specs.Calls.{Writes}
 use Rattle.packed_line.specs.Packs.{kept, lineNumber, kept-front, cut-record, written-number, written-record}
 use Rattle.packed_line.proofs.pack.Statement.{statement}
 use Rattle.packed_line.proofs.pack.Tie as tie

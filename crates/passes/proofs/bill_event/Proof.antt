@@ -1,10 +1,10 @@
 -- `passes::bill_event` meets its contract: each pass finds what the one before it left. Assumes nothing.
 use native.Mathlib.Omega.{arith}
 use lib.Dec.{lit≤}
-use Rattle.table.specs.Places.{callsRow, offURow, passedPlaces, apartPlaces}
-use Rattle.table.specs.Rows.{aside-then, row-aside, row-within}
+use Rattle.settle_table.specs.Places.{callsRow, offURow, passedPlaces, apartPlaces}
+use Rattle.settle_table.specs.Rows.{aside-then, row-aside, row-within}
 use Rattle.sharing.specs.Sharing.{shares-aside}
-use Rattle.charging.specs.Charging.{given-aside}
+use Rattle.settle_charges.specs.Charging.{given-aside}
 use Rattle.passes.specs.Passes.{run-aside, run-more, given}
 use Rattle.passes.proofs.bill_event.Statement.{statement}
 use Rattle.passes.proofs.bill_event.Tie as tie

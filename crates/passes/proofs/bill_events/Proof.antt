@@ -2,11 +2,11 @@
 use Prim.Native.Nat.{_-_, _≤_}
 use mathlib.Core.Path.{_≡_}
 use native.Mathlib.Omega.{arith}
-use Rattle.charging.specs.Charging.{billed-all}
-use Rattle.crediting.specs.Crediting.{credit-all}
-use Rattle.looks.specs.Looks.{facts}
-use Rattle.table.specs.Places.{callsRow, passedPlaces}
-use Rattle.table.specs.Rows.{Aside, aside-none, aside-then, row-within}
+use Rattle.settle_charges.specs.Charging.{billed-all}
+use Rattle.settle_credits.specs.Crediting.{credit-all}
+use Rattle.settle_facts.specs.Looks.{facts}
+use Rattle.settle_table.specs.Places.{callsRow, passedPlaces}
+use Rattle.settle_table.specs.Rows.{Aside, aside-none, aside-then, row-within}
 use Rattle.passes.specs.Passes.{Run, run-first}
 use Rattle.passes.proofs.bill_events.Statement.{statement}
 use Rattle.passes.proofs.bill_events.Tie as tie

@@ -1,8 +1,8 @@
 -- The head's part of the tables has its limits.
 use mathlib.Core.Path.{_∙_}
-use Rattle.layouts.specs.Layout.{head}
-use Rattle.layouts.specs.PartLaws.{table-long, rules-few}
-use Rattle.layouts.specs.ListLaws.{within-is}
+use Rattle.record_layouts.specs.Layout.{head}
+use Rattle.record_layouts.specs.PartLaws.{table-long, rules-few}
+use Rattle.record_layouts.specs.ListLaws.{within-is}
 use borrow.Author.Needs.{needs}
 use native.Mathlib.Omega.{arith}
 use Rattle.permitted.proofs.head_permitted.Statement.{statement}

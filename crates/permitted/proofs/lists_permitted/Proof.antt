@@ -4,11 +4,11 @@ use mathlib.Core.Path.{_≡_, refl, sym, _∙_}
 use Prim.Native.Nat.{_+_, _-_, _≤_, _<_}
 use borrow.Author.Tests.{not-true, not-false}
 use lib.ListN.{length, length-map}
-use Rattle.layouts.specs.LayoutLaws.{sound-items, narrow-sound}
-use Rattle.layouts.specs.Layout.{lists, listAt, rulesTo, rulesFor}
-use Rattle.layouts.specs.Questions.{permitted}
-use Rattle.layouts.specs.PartLaws.{table-long, rules-few}
-use Rattle.layouts.specs.ListLaws.{items-fit, length-list, stated-list, stated-count, permitted-list, permitted-behind}
+use Rattle.record_layouts.specs.LayoutLaws.{sound-items, narrow-sound}
+use Rattle.record_layouts.specs.Layout.{lists, listAt, rulesTo, rulesFor}
+use Rattle.record_layouts.specs.Questions.{permitted}
+use Rattle.record_layouts.specs.PartLaws.{table-long, rules-few}
+use Rattle.record_layouts.specs.ListLaws.{items-fit, length-list, stated-list, stated-count, permitted-list, permitted-behind}
 use native.Mathlib.Omega.{arith}
 use Rattle.permitted.proofs.lists_permitted.Statement.{statement}
 use Rattle.permitted.proofs.lists_permitted.Tie as tie

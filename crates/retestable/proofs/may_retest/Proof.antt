@@ -2,16 +2,16 @@
 use borrow.Author.Needs.{needs}
 use mathlib.Core.Path.{sym, _∙_}
 use Rattle.year.specs.Limits.{committed-sum}
-use Rattle.cells.specs.Layout.{yearIn}
-use Rattle.entries.specs.declared.Selection.the-variants.{Failed}
-use Rattle.entries.specs.Selects.{selects}
-use Rattle.questions.specs.Answers.{yes, no}
+use Rattle.year_cells.specs.Layout.{yearIn}
+use Rattle.question_conditions.specs.declared.Selection.the-variants.{Failed}
+use Rattle.question_conditions.specs.Selects.{selects}
+use Rattle.question_list.specs.Answers.{yes, no}
 use Rattle.owed.specs.Retests.{testedKw, failedKw, hadRetest}
 use Rattle.retestable.proofs.may_retest.Statement.{statement}
 use Rattle.retestable.proofs.may_retest.Tie as tie
-use Rattle.tested.proofs.test_taken.Reads as test-taken-reads
-use Rattle.listings.proofs.any_selected.Reads as any-selected-reads
-use Rattle.listings.proofs.committed_kw.Reads as committed-kw-reads
+use Rattle.year_tested.proofs.test_taken.Reads as test-taken-reads
+use Rattle.question_listings.proofs.any_selected.Reads as any-selected-reads
+use Rattle.question_listings.proofs.committed_kw.Reads as committed-kw-reads
 use Rattle.retestable.proofs.below_quarter.Reads as below-quarter-reads
 use Rattle.retestable.proofs.place_of.Reads as place-of-reads
 

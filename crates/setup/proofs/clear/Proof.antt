@@ -6,12 +6,12 @@ use borrow.Author.Needs.{needs}
 use Rattle.year.specs.Sound.{SoundClearings}
 use Rattle.year.specs.Limits.{clearings-sound}
 use Rattle.year.specs.Kept.{sound-clearing}
-use Rattle.cells.specs.Regions.{stepped}
+use Rattle.year_cells.specs.Regions.{stepped}
 use Rattle.setup.specs.Laying.{clearing-laid}
 use Rattle.setup.proofs.clear.Statement.{statement}
 use Rattle.setup.proofs.clear.Tie as tie
-use Rattle.cells.proofs.clearings_at.Reads as clearings-at-reads
-use Rattle.cells.proofs.lay.Reads as lay-reads
+use Rattle.year_cells.proofs.clearings_at.Reads as clearings-at-reads
+use Rattle.year_cells.proofs.lay.Reads as lay-reads
 
 -- what the earlier ones come to
 old : (c : tie.After-clearings-at) → SoundClearings (c .clearings-at .result)

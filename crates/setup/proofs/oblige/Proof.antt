@@ -1,11 +1,11 @@
 -- `setup::oblige` meets its contract: one number. Assumes nothing.
 use borrow.Author.Needs.{needs}
-use Rattle.cells.specs.Regions.{stepped}
+use Rattle.year_cells.specs.Regions.{stepped}
 use Rattle.setup.specs.Laying.{lse-laid}
 use Rattle.year.specs.Kept.{sound-lse}
 use Rattle.setup.proofs.oblige.Statement.{statement}
 use Rattle.setup.proofs.oblige.Tie as tie
-use Rattle.cells.proofs.lay.Reads as lay-reads
+use Rattle.year_cells.proofs.lay.Reads as lay-reads
 
 returns : tie.Need-returns
 returns c =

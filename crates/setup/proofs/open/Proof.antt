@@ -1,11 +1,11 @@
 -- `setup::open` meets its contract: one row. Assumes nothing.
 use borrow.Author.Needs.{needs}
-use Rattle.cells.specs.Regions.{stepped}
+use Rattle.year_cells.specs.Regions.{stepped}
 use Rattle.setup.specs.Laying.{opening-laid}
 use Rattle.year.specs.Kept.{sound-opening}
 use Rattle.setup.proofs.open.Statement.{statement}
 use Rattle.setup.proofs.open.Tie as tie
-use Rattle.cells.proofs.lay.Reads as lay-reads
+use Rattle.year_cells.proofs.lay.Reads as lay-reads
 
 returns : tie.Need-returns
 returns c =

@@ -6,9 +6,9 @@ use mathlib.Core.Bool.{true}
 use native.Mathlib.Omega.{arith}
 use lib.Dec.{lit≤}
 use Rattle.year.specs.Year.{listed}
-use Rattle.looks.specs.Looks.{facts}
+use Rattle.settle_facts.specs.Looks.{facts}
 use Rattle.owed_laws.specs.Limits.{limits}
-use Rattle.weighing.specs.declared.Entry.{Entry}
+use Rattle.settle_shortfalls.specs.declared.Entry.{Entry}
 use Rattle.sharing.specs.Sharing.{Sharing, sharing-first, sharing-none, sharing-more, sharing-all, sharing-divided, u-asks, e-asks}
 use Rattle.sharing.proofs.share.Statement.{statement}
 use Rattle.sharing.proofs.share.Tie as tie

@@ -4,9 +4,9 @@ use mathlib.Core.Path.{_≡_, _∙_}
 use native.Mathlib.Omega.{arith}
 use native.Mathlib.Nat.{mul-le-mul}
 use borrow.Author.Needs.{needs}
-use Rattle.cells.specs.Layout.{placeIn}
-use Rattle.tested.specs.Tested.{place-below}
-use Rattle.looks.specs.Looks.{facts}
+use Rattle.year_cells.specs.Layout.{placeIn}
+use Rattle.year_tested.specs.Tested.{place-below}
+use Rattle.settle_facts.specs.Looks.{facts}
 use Rattle.owed.specs.Owed as owed
 use Rattle.owed_laws.specs.Limits.{limits}
 use Rattle.tallying.proofs.addend_of.Statement.{statement}

@@ -3,7 +3,7 @@ use borrow.Author.Needs.{needs}
 use Rattle.tallying.specs.Entries.{lookAt}
 use Rattle.tallying.proofs.look.Statement.{statement}
 use Rattle.tallying.proofs.look.Tie as tie
-use Rattle.tested.proofs.retest_at.Reads as retest-at-reads
+use Rattle.year_tested.proofs.retest_at.Reads as retest-at-reads
 use Rattle.tallying.proofs.result.Reads as result-reads
 
 returns : tie.Need-returns

@@ -3,7 +3,7 @@ use mathlib.Core.Path.{_≡_, sym, ap, _∙_}
 use mathlib.Core.Bool.{Bool, true, false}
 use Prim.Native.Nat.{ℕ, _/_}
 use borrow.Author.Needs.{needs}
-use Rattle.eighths.specs.Eighths.{counts}
+use Rattle.telemetry_eighths.specs.Eighths.{counts}
 use Rattle.telemetry.specs.Reduction.{limited, reductionOf}
 use Rattle.telemetry.proofs.of_loads.Statement.{statement}
 use Rattle.telemetry.proofs.of_loads.Tie as tie

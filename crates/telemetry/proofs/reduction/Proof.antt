@@ -4,7 +4,7 @@ use mathlib.Core.Bool.{and-true}
 use native.Mathlib.Nat.{sub-zero}
 use borrow.Author.Needs.{needs}
 use lib.Ieee.{Float, binary32, ofBits}
-use Rattle.eighths.specs.Eighths.{counts, eighthsOf}
+use Rattle.telemetry_eighths.specs.Eighths.{counts, eighthsOf}
 use Rattle.telemetry.specs.Reduction.{reductionOf}
 use Rattle.telemetry.specs.declared.Sample.the-variants.{Pair, Direct}
 use Rattle.telemetry.proofs.reduction.Statement.{statement}

@@ -5,8 +5,8 @@ use Rattle.year.specs.Year.{committed}
 use Rattle.owed.specs.Retests.{failed}
 use Rattle.test_entries.proofs.has_failed.Statement.{statement}
 use Rattle.test_entries.proofs.has_failed.Tie as tie
-use Rattle.tested.proofs.first_in.Reads as first-in-reads
-use Rattle.cells.proofs.registration_at.Reads as registration-at-reads
+use Rattle.year_tested.proofs.first_in.Reads as first-in-reads
+use Rattle.year_cells.proofs.registration_at.Reads as registration-at-reads
 use Rattle.test_entries.proofs.is_entry.Reads as is-entry-reads
 
 returns : tie.Need-returns

@@ -5,8 +5,8 @@ use Rattle.year.specs.Year.{seller}
 use Rattle.owed.specs.Retests.{entryOf}
 use Rattle.test_entries.proofs.is_entry.Statement.{statement}
 use Rattle.test_entries.proofs.is_entry.Tie as tie
-use Rattle.cells.proofs.registration_at.Reads as registration-at-reads
-use Rattle.tested.proofs.tested_in.Reads as tested-in-reads
+use Rattle.year_cells.proofs.registration_at.Reads as registration-at-reads
+use Rattle.year_tested.proofs.tested_in.Reads as tested-in-reads
 
 returns : tie.Need-returns
 unfolding entryOf seller

@@ -3,7 +3,7 @@ use borrow.Author.Needs.{needs}
 use mathlib.Core.Path.{sym}
 use Rattle.test_entries.proofs.is_retested.Statement.{statement}
 use Rattle.test_entries.proofs.is_retested.Tie as tie
-use Rattle.tested.proofs.retest_at.Reads as retest-at-reads
+use Rattle.year_tested.proofs.retest_at.Reads as retest-at-reads
 use Rattle.test_entries.proofs.is_entry.Reads as is-entry-reads
 
 returns : tie.Need-returns

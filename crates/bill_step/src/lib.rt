@@ -1,0 +1,50 @@
+// One record of the bill program: taken, and its answer printed.
+use book::Posted;
+use year_cells::Cells;
+ghost use mathlib.Core.Path.{_≡_};
+ghost use Prim.Native.Nat.{_+_};
+ghost use Rattle.year_cells.specs.Layout.{yearIn, Held};
+ghost use Rattle.book_outcome.specs.Outcome.{Posts};
+ghost use Rattle.text.specs.Pasted.{Pasted};
+ghost use Rattle.bill_step.specs.Answer.{answerText, Ready};
+
+// What goes from record to record beside the year: the next record's position, and the place behind what is printed.
+pub struct Course {
+    pub position: u64,
+    pub at: usize,
+}
+
+// The call's answer, and how it goes on.
+pub struct Answered {
+    pub posted: Posted,
+    pub next: Course,
+}
+
+// Takes the record at the front of the bytes.
+pub fn step(
+    year: &mut Cells,
+    course: Course,
+    bytes: &[u8],
+    statement: &mut [u8],
+    out: &mut [u8],
+) -> Answered
+    requires { ⌜ Held (now year) ⌝ }
+    requires { ⌜ Ready course (now bytes) (now statement) (now out) ⌝ }
+    ensures posts { λ r. ⌜ Posts (yearIn (now (year .entry))) (now (bytes .entry)) (now (statement .entry)) (r .posted .number) (r .posted .used) (r .posted .written) (yearIn (now (year .exit))) (now (statement .exit)) ⌝ }
+    ensures prints { λ r. ⌜ Pasted (now (out .entry)) (now (out .exit)) (course .at) (answerText (course .position) (yearIn (now (year .entry))) (record { bytes = now (bytes .entry); buffer = now (statement .entry) })) (r .next .at) ⌝ }
+    ensures counts { λ r. ⌜ r .next .position ≡ course .position + 1 ⌝ }
+    ensures held { λ r. ⌜ Held (now (year .exit)) ⌝ }
+{
+    let position = course.position;
+    let kind = bytes[0] >> 4;
+    let posted = book::post(year, bytes, statement);
+    let at = text_bill::answer_lines(position, kind, posted.number, statement, out, course.at);
+    let next = Course {
+        position: position + 1,
+        at: at,
+    };
+    Answered {
+        posted: posted,
+        next: next,
+    }
+}

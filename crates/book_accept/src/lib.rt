@@ -1,0 +1,79 @@
+// What an accepted record does: it changes the year, and a close leaves its statement.
+ghost use mathlib.Core.Path.{_≡_};
+ghost use mathlib.Core.Bool.{true};
+ghost use Prim.Native.Nat.{_≤_};
+ghost use lib.ListN.{length};
+ghost use Rattle.ids.specs.Ids.{at};
+ghost use Rattle.question_list.specs.Questions.{q16};
+ghost use Rattle.year_cells.specs.Layout.{listingAt, yearIn, Held};
+ghost use Rattle.book_recorded.specs.After.{registrationOf, yearBy};
+ghost use Rattle.book_accept.specs.Leaves.{bufferWith, writtenWith};
+ghost use Rattle.book_accept.specs.Suits.{Suits};
+use month_end::close;
+use record_heads::Head;
+use record_heads::RegistrationHead;
+use units::Nominated;
+use year::Registration;
+use year_cells::Cells;
+
+// What a registration registers.
+fn registration_of(r: RegistrationHead) -> Registration
+    requires { ⌜ r .committed ≤ 100000 ⌝ }
+    ensures { λ s. ⌜ s ≡ registrationOf r ⌝ }
+{
+    let committed = Nominated::new(r.committed);
+    Registration {
+        known: true,
+        seller: r.seller,
+        area: r.area,
+        zone: r.zone,
+        product: r.product,
+        committed: committed,
+        rate: r.rate,
+    }
+}
+
+// Changes the year by an accepted record; a close leaves its statement in the buffer. Answers the statement's bytes.
+pub fn take(year: &mut Cells, head: Head, listing: &[u64], buffer: &mut [u8]) -> usize
+    requires { ⌜ Held (now year) ⌝ }
+    requires { ⌜ length (now listing) ≡ 208 ⌝ }
+    requires { ⌜ Suits (yearIn (now year)) (listingAt (at (now listing))) head ⌝ }
+    requires { ⌜ q16 (length (now buffer)) head ≡ true ⌝ }
+    ensures equals { λ r. ⌜ yearIn (now (year .exit)) ≡ yearBy (yearIn (now (year .entry))) (listingAt (at (now (listing .entry)))) head ⌝ }
+    ensures held { λ r. ⌜ Held (now (year .exit)) ⌝ }
+    ensures leaves { λ r. ⌜ now (buffer .exit) ≡ bufferWith (yearIn (now (year .entry))) (record { head = head; listing = listingAt (at (now (listing .entry))) }) (now (buffer .entry)) ⌝ }
+    ensures writes { λ r. ⌜ r ≡ writtenWith (yearIn (now (year .entry))) (record { head = head; listing = listingAt (at (now (listing .entry))) }) ⌝ }
+{
+    match head {
+        Head::Opening(o) => {
+            setup::open(year, o.leap, o.factor, o.requirement);
+            0
+        }
+        Head::Registration(r) => {
+            let registration = registration_of(r);
+            setup::register(year, r.id as usize, registration);
+            0
+        }
+        Head::Lse(j) => {
+            setup::oblige(year, j.id as usize, j.obligation);
+            0
+        }
+        Head::Event(e) => {
+            year_steps::call(year, e, listing);
+            0
+        }
+        Head::Test(t) => {
+            year_test_steps::test(year, (3 * t.zone + t.product) as usize, t.month, listing);
+            0
+        }
+        Head::Close(c) => close(year, c.month, buffer),
+        Head::Clearing(c) => {
+            setup::clear(year, c.registration as usize, c.price, c.kw);
+            0
+        }
+        Head::Retest(_) => {
+            year_test_steps::retest(year, listing);
+            0
+        }
+    }
+}

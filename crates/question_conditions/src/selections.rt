@@ -1,0 +1,46 @@
+// Is one registration among those that are meant?
+ghost use mathlib.Core.Path.{_≡_};
+ghost use Prim.Native.Nat.{_<_};
+ghost use Rattle.owed.specs.Facts.{factsOf};
+ghost use Rattle.owed.specs.Owed.{called};
+ghost use Rattle.year_cells.specs.Layout.{yearIn, Held};
+ghost use Rattle.question_conditions.specs.Selects.{selects};
+use crate::Selection;
+use crate::conditions::in_group;
+use test_entries::has_failed;
+use test_entries::is_entry;
+use test_entries::is_retested;
+use year_cells::Cells;
+
+// Does an accepted event list the registration?
+fn is_called(year: &Cells, i: usize) -> bool
+    requires { ⌜ Held (now year) ⌝ }
+    requires { ⌜ i < 64 ⌝ }
+    ensures { λ r. ⌜ r ≡ called (factsOf (yearIn (now (year .entry)))) i ⌝ }
+{
+    let n = year_cells::held(year);
+    let mut e: usize = 0;
+    while e < n {
+        if year_cells::listed_in(year, e, i) {
+            return true;
+        }
+        e += 1;
+    }
+    false
+}
+
+// Is a registration selected?
+pub fn is_selected(year: &Cells, i: usize, selection: Selection) -> bool
+    requires { ⌜ Held (now year) ⌝ }
+    requires { ⌜ i < 64 ⌝ }
+    ensures { λ b. ⌜ b ≡ selects (yearIn (now (year .entry))) selection i ⌝ }
+{
+    let r = year_cells::registration_at(year, i);
+    match selection {
+        Selection::Known => r.known,
+        Selection::Uncalled(zone, product) => in_group(r, zone, product) && !is_called(year, i),
+        Selection::Tested(place, seller) => is_entry(year, i, place, seller),
+        Selection::Failed(place, seller) => has_failed(year, i, place, seller),
+        Selection::Retested(place, seller) => is_retested(year, i, place, seller),
+    }
+}

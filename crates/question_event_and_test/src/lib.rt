@@ -1,0 +1,81 @@
+// The questions put to what calls registrations up: an event, a test.
+ghost use mathlib.Core.Path.{_≡_};
+ghost use mathlib.Core.Bool.{_&&_};
+ghost use Prim.Native.Nat.{ℕ};
+ghost use lib.ListN.{length};
+ghost use Rattle.ids.specs.Ids.{at};
+ghost use Rattle.record_layouts.specs.Questions.{firstFailed};
+ghost use Rattle.year.specs.Year.{product};
+ghost use Rattle.calendar.specs.Calendar.{callable};
+ghost use Rattle.year_cells.specs.Layout.{listingAt, yearIn, Held};
+ghost use Rattle.record_heads.specs.Within.{GroupWithin};
+ghost use Rattle.question_conditions.specs.Entries.{everyListed};
+ghost use Rattle.question_list.specs.Questions.{monthBegun, questions};
+use question_conditions::Condition;
+use question_conditions::Selection;
+use question_list::may_test;
+use question_list::month_begun;
+use question_list::open_number;
+use question_listings::entries_pass;
+use question_listings::every_listed;
+use question_listings::lists_exactly;
+use record_heads::EventHead;
+use record_heads::Head;
+use record_heads::TestHead;
+use year_cells::Cells;
+
+// Question 11 of an event.
+fn may_call(year: &Cells, e: EventHead, listing: &[u64]) -> bool
+    requires { ⌜ Held (now year) ⌝ }
+    requires { ⌜ length (now listing) ≡ 208 ⌝ }
+    ensures { λ r. ⌜ r ≡ (let y = yearIn (now (year .entry)) in monthBegun (y .closed) (e .month) && everyListed (y .terms) (listingAt (at (now (listing .entry)))) (λ i. callable (product (y .terms) i) (e .month) (e .period))) ⌝ }
+{
+    month_begun(year, e.month)
+        && every_listed(year, listing, Condition::Callable(e.month, e.period))
+}
+
+// Of an event.
+pub fn event_number(year: &Cells, e: EventHead, listing: &[u64]) -> u64
+    requires { ⌜ Held (now year) ⌝ }
+    requires { ⌜ length (now listing) ≡ 208 ⌝ }
+    ensures { λ n. ⌜ ((room : ℕ) → n ≡ firstFailed (questions monthBegun (yearIn (now (year .entry))) (record { head = Head.Event e; listing = listingAt (at (now (listing .entry))) }) room)) ⌝ }
+{
+    let first = open_number(year);
+    if first != 0 {
+        return first;
+    }
+    if !entries_pass(year, listing, Condition::InArea(e.area)) {
+        return 10;
+    }
+    if !may_call(year, e, listing) {
+        return 11;
+    }
+    if year_cells::held(year) < 16 { 0 } else { 12 }
+}
+
+// Of a test.
+pub fn test_number(year: &Cells, t: TestHead, listing: &[u64]) -> u64
+    requires { ⌜ Held (now year) ⌝ }
+    requires { ⌜ GroupWithin (t .zone) (t .product) ⌝ }
+    requires { ⌜ length (now listing) ≡ 208 ⌝ }
+    ensures { λ n. ⌜ ((room : ℕ) → n ≡ firstFailed (questions monthBegun (yearIn (now (year .entry))) (record { head = Head.Test t; listing = listingAt (at (now (listing .entry))) }) room)) ⌝ }
+{
+    let first = open_number(year);
+    if first != 0 {
+        return first;
+    }
+    if !entries_pass(year, listing, Condition::InGroup(t.zone, t.product)) {
+        return 10;
+    }
+    if !may_test(year, t.product, t.month) {
+        return 11;
+    }
+    if year_tested::test_taken(year, (3 * t.zone + t.product) as usize) {
+        return 13;
+    }
+    if lists_exactly(year, listing, Selection::Uncalled(t.zone, t.product)) {
+        0
+    } else {
+        14
+    }
+}

@@ -1,0 +1,113 @@
+// Tests over what a record lists, its listing a row by id: 64 marks, 64 reductions, 16 deficits.
+ghost use mathlib.Core.Path.{_≡_};
+ghost use mathlib.Core.Bool.{not, _&&_, _||_};
+ghost use Prim.Native.Nat.{_<_};
+ghost use lib.Dec.{eqb};
+ghost use lib.ListN.{length};
+ghost use Rattle.ids.specs.Ids.{at, anyTo, tabulate};
+ghost use Rattle.year.specs.Year.{listed, seller, size};
+ghost use Rattle.year_cells.specs.Layout.{listingAt, yearIn, Held};
+ghost use Rattle.question_conditions.specs.Entries.{everyListed, deficitsListed, listsExactly};
+ghost use Rattle.question_conditions.specs.Meets.{fulfils};
+ghost use Rattle.question_conditions.specs.Selects.{selects};
+use question_conditions::Condition;
+use question_conditions::Selection;
+use question_conditions::is_selected;
+use question_conditions::meets;
+use year_cells::Cells;
+
+mod registrations;
+
+pub use registrations::any_lse;
+pub use registrations::any_selected;
+pub use registrations::committed_kw;
+
+// Does a registration meet the condition, if it is listed?
+fn passes(year: &Cells, listing: &[u64], condition: Condition, i: usize) -> bool
+    requires { ⌜ length (now listing) ≡ 208 ⌝ }
+    requires { ⌜ i < 64 ⌝ }
+    ensures { λ r. ⌜ r ≡ (not (listed (listingAt (at (now (listing .entry)))) i) || fulfils (yearIn (now (year .entry))) condition i) ⌝ }
+{
+    if listing[i] == 0 {
+        return true;
+    }
+    meets(year, i, condition)
+}
+
+// Does every listed registration meet the condition?
+pub fn every_listed(year: &Cells, listing: &[u64], condition: Condition) -> bool
+    requires { ⌜ Held (now year) ⌝ }
+    requires { ⌜ length (now listing) ≡ 208 ⌝ }
+    ensures { λ r. ⌜ r ≡ (let y = yearIn (now (year .entry)) in everyListed (y .terms) (listingAt (at (now (listing .entry)))) (fulfils y condition)) ⌝ }
+{
+    let mut i: usize = 0;
+    while i < 64 {
+        if !passes(year, listing, condition, i) {
+            return false;
+        }
+        i += 1;
+    }
+    true
+}
+
+// Which sellers have an entry.
+fn sellers_listed(year: &Cells, listing: &[u64]) -> [bool; 16]
+    requires { ⌜ Held (now year) ⌝ }
+    requires { ⌜ length (now listing) ≡ 208 ⌝ }
+    ensures { λ r. ⌜ r ≡ (let T = yearIn (now (year .entry)) .terms in tabulate 16 (λ s. anyTo (size T) (λ i. listed (listingAt (at (now (listing .entry)))) i && eqb (seller T i) s))) ⌝ }
+{
+    let mut sellers = [false; 16];
+    let mut i: usize = 0;
+    while i < 64 {
+        if listing[i] != 0 {
+            let r = year_cells::registration_at(year, i);
+            let s = r.seller as usize;
+            sellers[s] = true;
+        }
+        i += 1;
+    }
+    sellers
+}
+
+// Has every deficit's seller an entry?
+fn deficits_listed(year: &Cells, listing: &[u64]) -> bool
+    requires { ⌜ Held (now year) ⌝ }
+    requires { ⌜ length (now listing) ≡ 208 ⌝ }
+    ensures { λ r. ⌜ r ≡ deficitsListed (yearIn (now (year .entry)) .terms) (listingAt (at (now (listing .entry)))) ⌝ }
+{
+    let sellers = sellers_listed(year, listing);
+    let mut s: usize = 0;
+    while s < 16 {
+        if listing[128 + s] != 0 && !sellers[s] {
+            return false;
+        }
+        s += 1;
+    }
+    true
+}
+
+// Does every listed registration meet the condition, and has every deficit's seller an entry?
+pub fn entries_pass(year: &Cells, listing: &[u64], condition: Condition) -> bool
+    requires { ⌜ Held (now year) ⌝ }
+    requires { ⌜ length (now listing) ≡ 208 ⌝ }
+    ensures { λ r. ⌜ r ≡ (let y = yearIn (now (year .entry)) in let l = listingAt (at (now (listing .entry))) in everyListed (y .terms) l (fulfils y condition) && deficitsListed (y .terms) l) ⌝ }
+{
+    every_listed(year, listing, condition) && deficits_listed(year, listing)
+}
+
+// Are exactly those listed that are selected?
+pub fn lists_exactly(year: &Cells, listing: &[u64], selection: Selection) -> bool
+    requires { ⌜ Held (now year) ⌝ }
+    requires { ⌜ length (now listing) ≡ 208 ⌝ }
+    ensures { λ r. ⌜ r ≡ (let y = yearIn (now (year .entry)) in listsExactly (y .terms) (listingAt (at (now (listing .entry)))) (selects y selection)) ⌝ }
+{
+    let mut i: usize = 0;
+    while i < 64 {
+        let listed = listing[i] != 0;
+        if listed != is_selected(year, i, selection) {
+            return false;
+        }
+        i += 1;
+    }
+    true
+}

@@ -1,0 +1,53 @@
+// The number of the first question from 6 on that fails, of a record of any kind.
+ghost use mathlib.Core.Path.{_≡_};
+ghost use lib.ListN.{length};
+ghost use Rattle.ids.specs.Ids.{at};
+ghost use Rattle.record_layouts.specs.Questions.{firstFailed};
+ghost use Rattle.year.specs.declared.Listing.{Listing};
+ghost use Rattle.year_cells.specs.Layout.{listingAt, yearIn, Held};
+ghost use Rattle.record_heads.specs.Within.{Within};
+ghost use Rattle.question_list.specs.Questions.{monthBegun, questions};
+use question_event_and_test::event_number;
+use question_event_and_test::test_number;
+use question_list::open_number;
+use question_retest::retest_number;
+use question_setup::clearing_number;
+use question_setup::lse_number;
+use question_setup::registration_number;
+use record_heads::CloseHead;
+use record_heads::Head;
+use year_cells::Cells;
+
+// Of a close.
+fn close_number(year: &Cells, c: CloseHead, room: usize) -> u64
+    requires { ⌜ Held (now year) ⌝ }
+    ensures { λ n. ⌜ ((l : Listing) → n ≡ firstFailed (questions monthBegun (yearIn (now (year .entry))) (record { head = Head.Close c; listing = l }) room)) ⌝ }
+{
+    let first = open_number(year);
+    if first != 0 {
+        return first;
+    }
+    if c.month != year_cells::closed(year) + 1 {
+        return 15;
+    }
+    if room < 354 { 16 } else { 0 }
+}
+
+// The number of the first question from 6 on that fails, or 0. The listing is a row by id.
+pub fn number_of(year: &Cells, head: Head, listing: &[u64], room: usize) -> u64
+    requires { ⌜ Held (now year) ⌝ }
+    requires { ⌜ Within head ⌝ }
+    requires { ⌜ length (now listing) ≡ 208 ⌝ }
+    ensures { λ n. ⌜ n ≡ firstFailed (questions monthBegun (yearIn (now (year .entry))) (record { head = head; listing = listingAt (at (now (listing .entry))) }) room) ⌝ }
+{
+    match head {
+        Head::Opening(_) => { if year_cells::opened(year) { 6 } else { 0 } }
+        Head::Registration(r) => registration_number(year, r),
+        Head::Lse(j) => lse_number(year, j),
+        Head::Event(e) => event_number(year, e, listing),
+        Head::Test(t) => test_number(year, t, listing),
+        Head::Close(c) => close_number(year, c, room),
+        Head::Clearing(c) => clearing_number(year, c),
+        Head::Retest(t) => retest_number(year, t, listing),
+    }
+}

@@ -1,0 +1,78 @@
+// The questions put to a retest.
+ghost use mathlib.Core.Path.{_≡_};
+ghost use mathlib.Core.Bool.{not, _&&_, _||_};
+ghost use Prim.Native.Nat.{ℕ};
+ghost use lib.Dec.{leb, eqb};
+ghost use lib.ListN.{length, getD};
+ghost use Rattle.ids.specs.Ids.{at};
+ghost use Rattle.record_layouts.specs.Questions.{firstFailed};
+ghost use Rattle.year.specs.Year.{seller, noTest, testPlace};
+ghost use Rattle.year_cells.specs.Layout.{listingAt, yearIn, Held};
+ghost use Rattle.record_heads.specs.Within.{GroupWithin};
+ghost use Rattle.question_conditions.specs.Entries.{inGroup, everyListed};
+ghost use Rattle.question_list.specs.Questions.{monthBegun, mayTest, questions};
+use question_conditions::Condition;
+use question_conditions::Selection;
+use question_list::may_test;
+use question_list::open_number;
+use question_listings::every_listed;
+use question_listings::lists_exactly;
+use record_heads::Head;
+use record_heads::RetestHead;
+use retestable::may_retest;
+use retestable::place_of;
+use year_cells::Cells;
+
+// Question 10: is every listed registration known, of the zone and product, and the seller's?
+fn lists_own(year: &Cells, t: RetestHead, listing: &[u64]) -> bool
+    requires { ⌜ Held (now year) ⌝ }
+    requires { ⌜ length (now listing) ≡ 208 ⌝ }
+    ensures { λ r. ⌜ r ≡ (let T = yearIn (now (year .entry)) .terms in let l = listingAt (at (now (listing .entry))) in everyListed T l (inGroup T (t .zone) (t .product)) && everyListed T l (λ i. eqb (seller T i) (t .seller))) ⌝ }
+{
+    every_listed(year, listing, Condition::InGroup(t.zone, t.product))
+        && every_listed(year, listing, Condition::OfSeller(t.seller))
+}
+
+// Question 11: a test's, and not before the month of the test, where there was one.
+fn in_time(year: &Cells, t: RetestHead) -> bool
+    requires { ⌜ Held (now year) ⌝ }
+    requires { ⌜ GroupWithin (t .zone) (t .product) ⌝ }
+    ensures { λ r. ⌜ r ≡ (let y = yearIn (now (year .entry)) in let test = getD (y .tests) (testPlace (t .zone) (t .product)) noTest in mayTest (y .closed) (t .product) (t .month) && (not (test .taken) || leb (test .month) (t .month))) ⌝ }
+{
+    if !may_test(year, t.product, t.month) {
+        return false;
+    }
+    let place = place_of(t) as usize;
+    if !year_tested::test_taken(year, place) {
+        return true;
+    }
+    year_tested::test_month(year, place) <= t.month
+}
+
+// Of a retest.
+pub fn retest_number(year: &Cells, t: RetestHead, listing: &[u64]) -> u64
+    requires { ⌜ Held (now year) ⌝ }
+    requires { ⌜ GroupWithin (t .zone) (t .product) ⌝ }
+    requires { ⌜ length (now listing) ≡ 208 ⌝ }
+    ensures { λ n. ⌜ ((room : ℕ) → n ≡ firstFailed (questions monthBegun (yearIn (now (year .entry))) (record { head = Head.Retest t; listing = listingAt (at (now (listing .entry))) }) room)) ⌝ }
+{
+    let first = open_number(year);
+    if first != 0 {
+        return first;
+    }
+    if !lists_own(year, t, listing) {
+        return 10;
+    }
+    if !in_time(year, t) {
+        return 11;
+    }
+    if !may_retest(year, t) {
+        return 20;
+    }
+    let place = place_of(t);
+    if lists_exactly(year, listing, Selection::Failed(place, t.seller)) {
+        0
+    } else {
+        21
+    }
+}

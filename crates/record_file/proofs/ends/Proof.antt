@@ -1,0 +1,13 @@
+-- `record_file::ends` meets its contract.
+use borrow.Author.Tests.{eq-eqb, ne-eqb}
+use Rattle.record_file.proofs.ends.Statement.{statement}
+use Rattle.record_file.proofs.ends.Tie as tie
+
+returns : tie.Need-returns
+returns c = rw (eq-eqb (c .before .args .number) 1 (c .if1 .taken))
+
+returns-2 : tie.Need-returns-2
+returns-2 c = rw (ne-eqb (c .before .args .number) 1 (c .if1 .left))
+
+pub ends-spec : {M : Type 1} → statement M
+ends-spec = tie.close (tie.spec returns returns-2)

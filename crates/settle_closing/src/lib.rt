@@ -1,0 +1,31 @@
+// What is owed at a month, of a year whose registrations are lent: their terms go into the working table, then the closing goes over the year's cells.
+ghost use mathlib.Core.Path.{_≡_};
+ghost use Prim.Native.Nat.{_≤_};
+ghost use Rattle.year_cells.specs.Layout.{yearIn, Held};
+ghost use Rattle.owed.specs.Owed.{amounts};
+ghost use Rattle.settle_facts.specs.Looks.{facts};
+use year::Amounts;
+use year::Registration;
+use year_cells::Cells;
+
+// All amounts to date at month k, of a year whose registrations are lent.
+pub fn settle(registrations: &[Registration], year: &Cells, k: u64) -> Amounts
+    requires { ⌜ Held (now year) × (now registrations ≡ yearIn (now year) .terms .registrations) × (1 ≤ k) × (k ≤ 15) ⌝ }
+    ensures { λ r. ⌜ r ≡ amounts (facts (now (year .entry))) k ⌝ }
+{
+    let mut work = [0u64; 1304];
+    let mut i: usize = 0;
+    while i < 64 {
+        lending::enter(year, &mut work, i, registrations[i]);
+        i += 1;
+    }
+    closing::close(year, &mut work, k)
+}
+
+// All amounts to date at month k: the year's own registrations are lent.
+pub fn amounts_of(registrations: [Registration; 64], year: &Cells, k: u64) -> Amounts
+    requires { ⌜ Held (now year) × (registrations ≡ yearIn (now year) .terms .registrations) × (1 ≤ k) × (k ≤ 15) ⌝ }
+    ensures { λ r. ⌜ r ≡ amounts (facts (now (year .entry))) k ⌝ }
+{
+    settle(&registrations, year, k)
+}

@@ -1,0 +1,56 @@
+// An event's excess credits, from the shares e that the working table keeps of its entries: no look at one.
+ghost use mathlib.Core.Path.{_≡_};
+ghost use Prim.Native.Nat.{_+_, _*_, _/_, _≤_, _<_};
+ghost use Rattle.year_cells.specs.Layout.{Held};
+ghost use Rattle.settle_charges.specs.Charging.{Given};
+ghost use Rattle.ids.specs.Ids.{sumTo};
+ghost use Rattle.settle_facts.specs.Looks.{facts};
+ghost use Rattle.owed.specs.Divisions.{creditDivisions};
+ghost use Rattle.owed.specs.Owed.{charge};
+ghost use Rattle.settle_table.specs.Places.{creditRow};
+ghost use Rattle.settle_table.specs.Rows.{Aside, Row};
+ghost use Rattle.settle_credits.specs.Crediting.{creditBy};
+use allotment::Allotment;
+use settle_table::Work;
+use units::Nominated;
+use year_cells::Cells;
+
+// The most that e kilowatts are credited, the bracket rounded first.
+fn limit(e: Nominated, rate: u64, days: u64) -> u64
+    requires { ⌜ e .0 ≤ 100000 ⌝ }
+    requires { ⌜ rate ≤ 100000 ⌝ }
+    requires { ⌜ days ≤ 366 ⌝ }
+    ensures { λ r. ⌜ r ≡ e .0 * rate / 5 * days / 1000 ⌝ }
+{
+    e.0 * rate / 5 * days / 1000
+}
+
+// Event ev's charges to date at month k, allotted over its entries by e: each seller's credits with those of its entries. Tells the divisions.
+pub fn credit(year: &Cells, work: &mut Work, ev: usize, k: u64, charges: u64) -> u64
+    requires { ⌜ Held (now year) ⌝ }
+    requires { ⌜ (ev < 16) × (1 ≤ k) × (k ≤ 15) ⌝ }
+    requires { ⌜ Given (facts (now year)) ev (now work) ⌝ }
+    requires { ⌜ Row (now work) creditRow 16 (creditBy (facts (now year)) k ev) ⌝ }
+    requires { ⌜ charges ≡ sumTo 64 (charge (facts (now year)) k ev) ⌝ }
+    ensures credited { λ _. ⌜ Row (now (work .exit)) creditRow 16 (creditBy (facts (now (year .entry))) k (ev + 1)) ⌝ }
+    ensures divisions { λ r. ⌜ r ≡ creditDivisions (facts (now (year .entry))) ev ⌝ }
+    ensures aside { λ _. ⌜ Aside creditRow 16 (now (work .entry)) (now (work .exit)) ⌝ }
+{
+    let days = settle_facts::days_to(year, k);
+    let total = settle_table::sum(work, settle_table::E, 64);
+    let mut allotment = Allotment::new(charges, total);
+    let mut i: usize = 0;
+    while i < 64 {
+        if settle_table::get(work, settle_table::LISTED, i) != 0 {
+            let line = pricing::line_at(work, i);
+            let e = line.e;
+            let share = allotment.share(e.0);
+            let most = limit(e, line.rate, days);
+            let credit = pricing::lesser(share.value, most);
+            settle_table::add_at(work, settle_table::CREDIT, line.seller, credit);
+            allotment = share.next;
+        }
+        i += 1;
+    }
+    allotment.divisions
+}

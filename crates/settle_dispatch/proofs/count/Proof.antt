@@ -1,0 +1,54 @@
+-- `settle_dispatch::count` meets its contract. The loop's invariant: the events before ev are counted. Assumes nothing.
+use Prim.Native.Nat.{_-_, _≤_}
+use mathlib.Core.Path.{_≡_}
+use native.Mathlib.Omega.{arith}
+use Rattle.settle_facts.specs.Looks.{facts}
+use Rattle.settle_table.specs.Places.{callsRow}
+use Rattle.settle_table.specs.Rows.{Aside, aside-none, aside-then}
+use Rattle.settle_dispatch.specs.Counting.{Counting, counting-first, calls-all, called-all}
+use Rattle.settle_dispatch.proofs.count.Statement.{statement}
+use Rattle.settle_dispatch.proofs.count.Tie as tie
+
+abbrev Inv-loop : tie.InvT-loop
+Inv-loop year work₀ held ev₀ work ev = (ev ≤ held) × (Counting (facts year) ev work × Aside callsRow 128 work₀ work)
+
+abbrev μ-loop : tie.MeasureT-loop
+μ-loop year work₀ held ev₀ work ev = held - ev
+
+loop-holds : tie.Need-loop-holds Inv-loop μ-loop
+loop-holds c =
+    let s = c .before in
+    (omega arith, (counting-first (facts (s .args .year .now)) (s .pre .1 .0) (s .pre .1 .1), aside-none))
+
+count-event-requires : tie.Need-count-event-requires Inv-loop μ-loop
+count-event-requires c κs =
+    let s = c .before .before .before .before in
+    (omega (arith, c .before .before .before .held .ensures, s .pre .0 .sound .held), c .before .before .loop .inv .1 .0)
+
+returns : tie.Need-returns Inv-loop μ-loop
+returns c =
+    let l = c .before .loop in
+    let F = facts (c .before .before .before .args .year .now) in
+    let z : l .ev ≡ F .events = omega (arith, c .before .before .held .ensures) in
+    let h = rw z at (l .inv .1 .0) in
+    (calls-all h, (called-all h, l .inv .1 .1))
+
+loop-again : tie.Need-loop-again Inv-loop μ-loop
+loop-again c =
+    let l = c .before .before .before .loop in
+    let k = c .count-event .ensures in
+    (omega arith, (k .0, aside-then (l .inv .1 .1) (k .1) (omega arith) (omega arith) (omega arith) (omega arith)))
+
+pub count-spec : {M : Type 1} → statement M
+count-spec =
+    tie.close
+    (tie.spec
+    Inv-loop
+    μ-loop
+    (λ c κs. tt)
+    loop-holds
+    count-event-requires
+    (λ c. omega arith)
+    (λ c. omega arith)
+    loop-again
+    returns)

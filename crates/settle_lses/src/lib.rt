@@ -1,0 +1,53 @@
+// What the LSEs are credited: all charges to date less all credits, allotted by obligation.
+ghost use mathlib.Core.Path.{_≡_};
+ghost use Prim.Native.Nat.{_*_, _<_, _^_};
+ghost use lib.ListN.{length};
+ghost use Rattle.ids.specs.Ids.{sumTo};
+ghost use Rattle.allotment.specs.Allot.{share};
+ghost use Rattle.year.specs.Year.{obligation};
+ghost use Rattle.year_cells.specs.Layout.{Held};
+ghost use Rattle.settle_facts.specs.Looks.{facts};
+ghost use Rattle.owed.specs.Divisions.{lseDivisions};
+ghost use Rattle.settle_table.specs.Places.{size, lseRow};
+ghost use Rattle.settle_table.specs.Rows.{Aside, Row, none};
+ghost use Rattle.settle_lses.specs.Lses.{net, Covered};
+use allotment::Allotment;
+use settle_table::Work;
+use year_cells::Cells;
+
+// All charges less all credits.
+fn net_of(work: &Work) -> u64
+    requires { ⌜ Covered (now work) ⌝ }
+    ensures { λ r. ⌜ r ≡ net (now (work .entry)) ⌝ }
+{
+    let compliance = settle_table::sum(work, settle_table::COMPLIANCE, 16);
+    let test = settle_table::sum(work, settle_table::TEST, 16);
+    let credit = settle_table::sum(work, settle_table::CREDIT, 16);
+    compliance + test - credit
+}
+
+// What is left after the credits is allotted to the LSEs. Who has no obligation is not known, and no party. Tells the divisions.
+pub fn credit_lses(year: &Cells, work: &mut Work) -> u64
+    requires { ⌜ Held (now year) ⌝ }
+    requires { ⌜ Covered (now work) ⌝ }
+    requires { ⌜ net (now work) * sumTo 16 (obligation (facts (now year) .terms)) < 2 ^ 64 ⌝ }
+    requires { ⌜ (length (now work) ≡ size) × Row (now work) lseRow 16 none ⌝ }
+    ensures credited { λ _. ⌜ Row (now (work .exit)) lseRow 16 (share 16 (obligation (facts (now (year .entry)) .terms)) (net (now (work .entry)))) ⌝ }
+    ensures divisions { λ r. ⌜ r ≡ lseDivisions (facts (now (year .entry))) ⌝ }
+    ensures aside { λ _. ⌜ Aside lseRow 16 (now (work .entry)) (now (work .exit)) ⌝ }
+{
+    let net = net_of(work);
+    let mut a = Allotment::new(net, settle_table::sum(year, year_cells::OBLIGATIONS, 16));
+    let mut j: usize = 0;
+    while j < 16 {
+        let weight = year_cells::obligation_of(year, j);
+        if weight != 0 {
+            let share = a.share(weight);
+            settle_table::put(work, settle_table::LSE, j, share.value);
+            let next = share.next;
+            a = next;
+        }
+        j += 1;
+    }
+    a.divisions
+}

@@ -1,0 +1,65 @@
+// The rates in force and the caps, once all registrations are entered into the working table: one without a rate of its own borrows its area's.
+ghost use mathlib.Core.Path.{_≡_};
+ghost use Prim.Native.Nat.{_+_, _<_};
+ghost use lib.ListN.{length};
+ghost use Rattle.year_cells.specs.Layout.{Held};
+ghost use Rattle.settle_table.specs.Places.{size, areaRateRow};
+ghost use Rattle.settle_table.specs.Rows.{Aside, Row};
+ghost use Rattle.lending.specs.Entering.{Begun};
+ghost use Rattle.settle_rates.specs.Rating.{averageIn, Rating, Rated};
+use settle_table::Work;
+use units::Nominated;
+use year_cells::Cells;
+
+// Each area's rate: the average of what is lent there.
+fn average(work: &mut Work)
+    requires { ⌜ length (now work) ≡ size ⌝ }
+    ensures averages { λ _. ⌜ Row (now (work .exit)) areaRateRow 8 (averageIn (now (work .entry))) ⌝ }
+    ensures aside { λ _. ⌜ Aside areaRateRow 8 (now (work .entry)) (now (work .exit)) ⌝ }
+{
+    let mut a: usize = 0;
+    while a < 8 {
+        let lent = Nominated(settle_table::get(work, settle_table::LENT, a));
+        let worth = settle_table::get(work, settle_table::WORTH, a);
+        let rate = lent.average(worth);
+        settle_table::put(work, settle_table::AREA_RATE, a, rate);
+        a += 1;
+    }
+}
+
+// A registration without a rate of its own has its area's, and the cap by that. One that is not known has committed nothing, and has none.
+fn borrow(year: &Cells, work: &mut Work, i: usize)
+    requires { ⌜ Held (now year) ⌝ }
+    requires { ⌜ i < 64 ⌝ }
+    requires { ⌜ Rating (now year) i (now work) ⌝ }
+    ensures { λ _. ⌜ Rating (now (year .entry)) (i + 1) (now (work .exit)) ⌝ }
+{
+    let own = settle_table::get(work, settle_table::RATE, i);
+    if own > 0 {
+        return;
+    }
+    let committed = Nominated::new(settle_table::get(work, settle_table::COMMITTED, i));
+    if committed.0 == 0 {
+        return;
+    }
+    let area = settle_table::get(work, settle_table::AREA, i) as usize;
+    let rate = settle_table::get(work, settle_table::AREA_RATE, area);
+    let all = settle_facts::unforced(year, committed);
+    let cap = all.0 * rate;
+    settle_table::put(work, settle_table::RATE, i, rate);
+    settle_table::put(work, settle_table::CAP, i, cap);
+}
+
+// The rates in force of all registrations, once all are entered, and their caps.
+pub fn rate(year: &Cells, work: &mut Work)
+    requires { ⌜ Held (now year) ⌝ }
+    requires { ⌜ Begun (now year) 64 (now work) ⌝ }
+    ensures { λ _. ⌜ Rated (now (year .entry)) (now (work .exit)) ⌝ }
+{
+    average(work);
+    let mut i: usize = 0;
+    while i < 64 {
+        borrow(year, work, i);
+        i += 1;
+    }
+}

@@ -1,0 +1,113 @@
+// What the tests of a year charge each seller, from the sums of their entries that stand.
+ghost use mathlib.Core.Path.{_≡_};
+ghost use Prim.Native.Nat.{_*_, _/_, _≤_, _<_};
+ghost use Rattle.ids.specs.Ids.{anyTo};
+ghost use Rattle.year.specs.Year.{deficit};
+ghost use Rattle.year_cells.specs.Layout.{Held};
+ghost use Rattle.owed.specs.Owed.{testShortfall, B, raised, test};
+ghost use Rattle.settle_facts.specs.Looks.{facts};
+ghost use Rattle.settle_table.specs.Places.{testRow};
+ghost use Rattle.settle_table.specs.Rows.{Aside, Row, none};
+ghost use Rattle.tallying.specs.Entries.{takenAt, Ready};
+ghost use Rattle.tallying.specs.Sums.{Summed};
+use settle_table::Work;
+use tallying::Sums;
+use tallying::sum_up;
+use units::Nominated;
+use units::Unforced;
+use year_cells::Cells;
+
+// A seller's deficit in the test at a place, 0 where it is absent.
+fn deficit_of(year: &Cells, place: usize, s: usize) -> Unforced
+    requires { ⌜ Held (now year) ⌝ }
+    requires { ⌜ (place < 24) × (s < 16) ⌝ }
+    ensures { λ r. ⌜ r .0 ≡ deficit (facts (now (year .entry)) .test place .listing) s ⌝ }
+{
+    let p = year_cells::TESTS + year_cells::TEST * place;
+    Unforced::sum(year[p + (year_cells::TEST_DEFICITS + s)])
+}
+
+// The rate of a test: the average by committed kilowatts, a fifth more and at least 2,000 more.
+fn rate_of(worth: u64, committed: Nominated) -> u64
+    requires { ⌜ worth ≤ committed .0 * 100000 ⌝ }
+    ensures { λ r. ⌜ r ≡ raised (worth / committed .0) ⌝ }
+{
+    let base = committed.average(worth);
+    let fifth = base / 5;
+    if fifth < 2000 {
+        base + 2000
+    } else {
+        base + fifth
+    }
+}
+
+// A seller's charge of the test at a place: its shortfall at the test's rate, and the days before the rounding.
+fn charge_of(year: &Cells, sums: &Sums, place: usize, s: usize, days: u64) -> u64
+    requires { ⌜ Held (now year) ⌝ }
+    requires { ⌜ Summed (now year) (now sums) ⌝ }
+    requires { ⌜ (place < 24) × (s < 16) × (days ≤ 366) ⌝ }
+    ensures { λ r. ⌜ r ≡ testShortfall (facts (now (year .entry))) place s * raised (B (facts (now (year .entry))) place s) * days / 1000 ⌝ }
+{
+    let key = 16 * place + s;
+    let committed = Nominated::sum(sums[tallying::COMMITTED + key]);
+    let reduction = Nominated::sum(sums[tallying::REDUCTION + key]);
+    let deficit = deficit_of(year, place, s);
+    let shortfall = settle_facts::shortfall(year, committed, reduction, deficit);
+    let rate = rate_of(sums[tallying::WORTH + key], committed);
+    shortfall.0 * rate * days / 1000
+}
+
+// A seller's test charges to date. A place without a test costs nothing.
+fn test_of(year: &Cells, sums: &Sums, s: usize, k: u64) -> u64
+    requires { ⌜ Held (now year) ⌝ }
+    requires { ⌜ Summed (now year) (now sums) ⌝ }
+    requires { ⌜ (s < 16) × (1 ≤ k) × (k ≤ 15) ⌝ }
+    ensures { λ r. ⌜ r ≡ test (facts (now (year .entry))) k s ⌝ }
+{
+    let days = settle_facts::days_to(year, k);
+    let mut sum: u64 = 0;
+    let mut place: usize = 0;
+    while place < 24 {
+        if year_tested::test_taken(year, place) {
+            sum += charge_of(year, sums, place, s, days);
+        }
+        place += 1;
+    }
+    sum
+}
+
+// Is any test taken?
+fn any_taken(year: &Cells) -> bool
+    ensures { λ r. ⌜ r ≡ anyTo 24 (takenAt (now (year .entry))) ⌝ }
+{
+    let mut place: usize = 0;
+    while place < 24 {
+        if year_tested::test_taken(year, place) {
+            return true;
+        }
+        place += 1;
+    }
+    false
+}
+
+// The test charges to date of each seller.
+pub fn charge_tests(year: &Cells, work: &mut Work, k: u64)
+    requires { ⌜ Held (now year) ⌝ }
+    requires { ⌜ Ready (now year) (now work) ⌝ }
+    requires { ⌜ Row (now work) testRow 16 none ⌝ }
+    requires { ⌜ (1 ≤ k) × (k ≤ 15) ⌝ }
+    ensures charged { λ _. ⌜ Row (now (work .exit)) testRow 16 (test (facts (now (year .entry))) k) ⌝ }
+    ensures aside { λ _. ⌜ Aside testRow 16 (now (work .entry)) (now (work .exit)) ⌝ }
+{
+    if !any_taken(year) {
+        return;
+    }
+    let mut sums = [0u64; 1152];
+    sum_up(year, work, &mut sums);
+    let mut s: usize = 0;
+    while s < 16 {
+        let test = test_of(year, &sums, s, k);
+        settle_table::put(work, settle_table::TEST, s, test);
+        s += 1;
+    }
+}

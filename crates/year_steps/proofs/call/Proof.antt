@@ -1,0 +1,41 @@
+-- `year_steps::call` meets its contract: head, listing and marks. Assumes nothing.
+use borrow.Author.Needs.{needs}
+use mathlib.Core.Path.{_∙_}
+use native.Mathlib.Omega.{arith}
+use Rattle.year_cells.specs.Regions.{stepped}
+use Rattle.year_steps.specs.Laying.{call-laid}
+use Rattle.year.specs.Kept.{sound-event}
+use Rattle.year_steps.proofs.call.Statement.{statement}
+use Rattle.year_steps.proofs.call.Tie as tie
+use Rattle.year_cells.proofs.held.Reads as held-reads
+use Rattle.year_cells.proofs.lay.Reads as lay-reads
+
+returns : tie.Need-returns
+returns c =
+    let s = c .before .before .before .before .before .before .before .before .before .before .before .before in
+    let n = c .before .before .before .before .before .before .before .before .before .held in
+    let head = c .before .before .before .before .before .lay .ensures in
+    let listing = c .before .before .before .lay2 .ensures in
+    let marks = c .lay3 .ensures in
+    stepped (s .pre .0) (marks .long ∙ listing .long ∙ head .long)
+    (call-laid (n .result) (s .args .e) (n .ensures) (omega (arith, n .ensures, s .pre .1 .0)) (s .pre .1 .1 .0) head listing marks)
+    (sound-event (s .pre .0 .sound) (s .pre .1 .0) (s .pre .1 .1 .1))
+
+pub call-spec : {M : Type 1} → statement M
+call-spec =
+    tie.close
+    (tie.spec
+    (λ c κs. search needs)
+    (λ c. search needs)
+    (λ c. search needs)
+    (λ c. search needs)
+    (λ c. search needs)
+    (λ c κs. search needs)
+    (λ c. search needs)
+    (λ c. search needs)
+    (λ c. search needs)
+    (λ c κs. search needs)
+    (λ c. search needs)
+    (λ c. search needs)
+    (λ c κs. search needs)
+    returns)

@@ -1,0 +1,59 @@
+// The year after an event or a close, made where it lies: a step lays a few rows. What comes before the first of them is in `setup`, tests and retests are in `entering`.
+ghost use mathlib.Core.Path.{_≡_};
+ghost use Prim.Native.Nat.{_<_};
+ghost use lib.ListN.{length};
+ghost use Rattle.ids.specs.Ids.{at};
+ghost use Rattle.year.specs.Steps.{withEvent, withClose};
+ghost use Rattle.year.specs.Sound.{SoundEvent, SoundAmounts};
+ghost use Rattle.year_cells.specs.Layout.{listingAt, yearIn, Held};
+ghost use Rattle.record_heads.specs.Events.{eventOf};
+use record_heads::EventHead;
+use year::Amounts;
+use year_cells::BILLED;
+use year_cells::CLOSED;
+use year_cells::Cells;
+use year_cells::EVENT;
+use year_cells::EVENTS;
+use year_cells::LISTED;
+use year_cells::STARTED;
+use year_cells::lay;
+
+// One more event; its listing is a row by id: 64 marks, 64 reductions, 16 deficits, 64 second reductions.
+pub fn call(year: &mut Cells, e: EventHead, listing: &[u64])
+    requires { ⌜ Held (now year) ⌝ }
+    requires { ⌜ yearIn (now year) .held < 16 ⌝ }
+    requires { ⌜ length (now listing) ≡ 208 ⌝ }
+    requires { ⌜ SoundEvent (eventOf e (listingAt (at (now listing)))) ⌝ }
+    ensures equals { λ r. ⌜ yearIn (now (year .exit)) ≡ withEvent (yearIn (now (year .entry))) (eventOf e (listingAt (at (now (listing .entry))))) ⌝ }
+    ensures held { λ r. ⌜ Held (now (year .exit)) ⌝ }
+{
+    let n = year_cells::held(year);
+    let apart = e.apart as u64;
+    lay(
+        year,
+        EVENTS + EVENT * n,
+        &[e.area, e.month, e.period, apart],
+    );
+    lay(year, EVENTS + EVENT * n + LISTED, listing);
+    lay(year, STARTED, &[1, n as u64 + 1]);
+}
+
+// One more month closed, and what is billed by then.
+pub fn close(year: &mut Cells, billed: Amounts)
+    requires { ⌜ Held (now year) ⌝ }
+    requires { ⌜ yearIn (now year) .closed < 15 ⌝ }
+    requires { ⌜ SoundAmounts billed ⌝ }
+    ensures equals { λ r. ⌜ yearIn (now (year .exit)) ≡ withClose (yearIn (now (year .entry))) billed ⌝ }
+    ensures held { λ r. ⌜ Held (now (year .exit)) ⌝ }
+{
+    let z = year_cells::closed(year);
+    let compliance = billed.compliance;
+    let test = billed.test;
+    let credit = billed.credit;
+    let lse = billed.lse;
+    lay(year, CLOSED, &[z + 1, 1]);
+    lay(year, BILLED, &compliance);
+    lay(year, BILLED + 16, &test);
+    lay(year, BILLED + 32, &credit);
+    lay(year, BILLED + 48, &lse);
+}

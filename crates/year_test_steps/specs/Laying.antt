@@ -1,0 +1,100 @@
+-- The year in cells into which the rows of a test or a retest were laid: one fact a part, kept or laid anew.
+use Prim.Native.Nat.{ℕ, _+_, _*_, _≤_, _<_}
+use mathlib.Core.Path.{_≡_, refl, _∙_}
+use mathlib.Core.Bool.{Bool, true, false, cond}
+use mathlib.Core.List.{List, [], _∷_, _++_}
+use mathlib.Core.Logic.{_≢_}
+use native.Mathlib.Omega.{arith}
+use native.Mathlib.Decide.{decLt}
+use lib.Dec.{lit<, lit≤}
+use lib.ListN.{length, getD, take, drop, length-append, length-drop}
+use lib.Seq.{getD-append-add, getD-take, getD-drop, length-take-le}
+use Rattle.ids.specs.Ids.{at}
+use Rattle.ids.specs.Tables.{tabulate-same}
+use Rattle.year.specs.Year.{noRetest, noTest, listed}
+use Rattle.year.specs.Steps.{retestBy, withTest, withRetest}
+use Rattle.year.specs.Sound.{SoundTest}
+use Rattle.year_cells.specs.Rows.{from, Laid, laid-on, Same, same-on, same-in, same-before, same-behind}
+use Rattle.year_cells.specs.Layout.{flag, listingAt, cellTerms, cellTests, retestAt, cellRetests, yearIn, Held}
+use Rattle.year_cells.specs.Regions.{row-listed, row-reduction, retest-in, registrations-kept, terms-kept, events-kept, places-kept, tests-kept, billed-kept, clearings-kept, retests-kept}
+use Rattle.merging.specs.Entered.{Entered}
+use Rattle.year_test_steps.specs.Tests.{testOf, untaken-free, Tested, tests-laid}
+
+-- a test is laid by the mark, its head and its deficits, then its entries among those of all tests
+module _ {a b c d f : List ℕ} (l : List ℕ) (place : ℕ) {month : ℕ} (p : place < 24) (n : length l ≡ 208)
+    (start : Laid 1 (1 ∷ []) a b) (head : Laid (3863 + 18 * place) (1 ∷ month ∷ []) b c) (deficits : Laid (3863 + 18 * place + 2) (take 16 (drop 128 l)) c d)
+    (entries : Entered 4295 l d f) where
+  row : Laid (3863 + 18 * place) ((1 ∷ month ∷ []) ++ take 16 (drop 128 l)) b d
+  row = laid-on head deficits
+
+  eighteen : length ((1 ∷ month ∷ []) ++ take 16 (drop 128 l)) ≡ 18
+  eighteen =
+      omega (arith, length-append (1 ∷ month ∷ []) (take 16 (drop 128 l)), length-take-le 16 (drop 128 l) (omega (arith, length-drop 128 l)))
+
+  -- cells between the mark and the place's row, and behind this
+  between : (q w : ℕ) → 2 ≤ q → q + w ≤ 3863 → Same q w a f
+  between q w x y =
+      same-on (same-on (same-behind start q w x) (same-before row q w (omega arith))) (entries .before q w (omega arith))
+
+  far : (q w : ℕ) → 4295 ≤ q → Same q w a d
+  far q w x = same-on (same-behind start q w (omega arith)) (same-behind row q w (omega (arith, eighteen)))
+
+  laid : Tested place month l a f
+  laid =
+      let here = entries .before (3863 + 18 * place) 18 (omega arith) in
+      record {
+        taken = here .cell 0 (lit< tt) ∙ row .inside 0 (omega (arith, eighteen));
+        month = here .cell 1 (lit< tt) ∙ row .inside 1 (omega (arith, eighteen));
+        deficits = λ j m. here .cell (2 + j) (omega arith) ∙ row .inside (2 + j) (omega (arith, eighteen)) ∙ getD-append-add (1 ∷ month ∷ []) (take 16 (drop 128 l)) j 0 ∙ getD-take 16 (drop 128 l) j 0 m ∙ getD-drop 128 l j 0;
+        others = λ k m x. same-on (same-on (same-behind start (3863 + 18 * k) 18 (omega arith)) (apart k m x (decLt k place))) (entries .before (3863 + 18 * k) 18 (omega arith));
+        marks = λ i m. rw (← (far 4295 128 (lit≤ tt) .cell i (omega arith))) (entries .marks i m);
+        reductions = λ i m. rw (← (far 4295 128 (lit≤ tt) .cell (64 + i) (omega arith))) (entries .reductions i m);
+      }
+    where
+      apart : (k : ℕ) → k < 24 → k ≢ place → Dec (k < place) → Same (3863 + 18 * k) 18 b d
+      apart k m x (yes y) = same-before row (3863 + 18 * k) 18 (omega arith)
+      apart k m x (no y) = same-behind row (3863 + 18 * k) 18 (omega (arith, eighteen))
+
+  pub test-laid : Held a → getD (cellTests a) place noTest .taken ≡ false → SoundTest (cellTerms a) place (testOf month (listingAt (at l)))
+      → yearIn f ≡ withTest (yearIn a) place (testOf month (listingAt (at l)))
+  test-laid k x s =
+      let kept = between 2 3861 (lit≤ tt) (lit≤ tt) in
+      let registrations = registrations-kept (same-in 7 448 (lit≤ tt) (lit≤ tt) kept) in
+      let behind = same-on (far 4423 384 (lit≤ tt)) (entries .behind 4423 384 (lit≤ tt)) in
+      cc (
+        same-on (same-on (same-before start 0 1 (lit≤ tt)) (same-before row 0 1 (omega arith))) (entries .before 0 1 (lit≤ tt)) .cell 0 (lit< tt),
+        same-on (same-before row 1 1 (omega arith)) (entries .before 1 1 (lit≤ tt)) .cell 0 (lit< tt),
+        start .inside 0 (lit< tt),
+        kept .cell 0 (lit< tt),
+        kept .cell 1 (lit< tt),
+        terms-kept (same-in 4 467 (lit≤ tt) (lit≤ tt) kept),
+        clearings-kept (same-in 4487 192 (lit≤ tt) (lit≤ tt) behind),
+        events-kept (same-in 471 3392 (lit≤ tt) (lit≤ tt) kept),
+        tests-laid laid p (places-kept a f registrations) s (untaken-free a (k .sound) p x),
+        retests-kept (same-in 4679 128 (lit≤ tt) (lit≤ tt) behind),
+        billed-kept (same-in 4423 64 (lit≤ tt) (lit≤ tt) behind),
+      )
+
+-- a retest by its entries alone
+module _ {c d : List ℕ} (l : List ℕ) (entries : Entered 4679 l c d) where
+  retest : (i : ℕ) → i < 64 → (b : Bool) → flag (at l i) ≡ b → retestAt (from 4679 d) i ≡ cond b (retestBy (listingAt (at l)) i) (getD (cellRetests c) i noRetest)
+  retest i m true e = cc (entries .marks i m, entries .reductions i m, e, row-reduction l m)
+  retest i m false e = rw (retest-in c noRetest m) (cc (entries .marks i m, entries .reductions i m, e))
+
+  pub retest-laid : yearIn d ≡ withRetest (yearIn c) (listingAt (at l))
+  unfolding cellRetests
+  retest-laid =
+      let kept = entries .before 0 4679 (lit≤ tt) in
+      let registrations = registrations-kept (same-in 7 448 (lit≤ tt) (lit≤ tt) kept) in
+      cc (
+        kept .cell 0 (lit< tt),
+        kept .cell 1 (lit< tt),
+        kept .cell 2 (lit< tt),
+        kept .cell 3 (lit< tt),
+        terms-kept (same-in 4 467 (lit≤ tt) (lit≤ tt) kept),
+        clearings-kept (same-in 4487 192 (lit≤ tt) (lit≤ tt) kept),
+        events-kept (same-in 471 3392 (lit≤ tt) (lit≤ tt) kept),
+        tests-kept registrations (same-in 3863 560 (lit≤ tt) (lit≤ tt) kept),
+        tabulate-same 64 {f = retestAt (from 4679 d)} {g = λ i. cond (listed (listingAt (at l)) i) (retestBy (listingAt (at l)) i) (getD (cellRetests c) i noRetest)} (λ i m. rw (row-listed l m) (retest i m (flag (at l i)) refl)),
+        billed-kept (same-in 4423 64 (lit≤ tt) (lit≤ tt) kept),
+      )

@@ -1,0 +1,65 @@
+// What the year's cells hold of the tests and retests: whether and when a place was tested, and each registration's entry.
+ghost use mathlib.Core.Path.{_≡_};
+ghost use Prim.Native.Nat.{_<_};
+ghost use lib.ListN.{getD};
+ghost use Rattle.year.specs.Year.{noTest, retestOf, listed, reduction};
+ghost use Rattle.year_cells.specs.Layout.{yearIn, Held};
+use year::Retest;
+use year_cells::Cells;
+use year_cells::RETESTED;
+use year_cells::TEST;
+use year_cells::TESTED;
+use year_cells::TESTS;
+use year_cells::registration_at;
+
+// Is the test of a place taken?
+pub fn test_taken(year: &Cells, place: usize) -> bool
+    requires { ⌜ place < 24 ⌝ }
+    ensures { λ r. ⌜ r ≡ getD (yearIn (now (year .entry)) .tests) place noTest .taken ⌝ }
+{
+    let p = TESTS + TEST * place;
+    year[p + 0] != 0
+}
+
+// The month of a place's test, 0 where it has none.
+pub fn test_month(year: &Cells, place: usize) -> u64
+    requires { ⌜ place < 24 ⌝ }
+    ensures { λ r. ⌜ r ≡ getD (yearIn (now (year .entry)) .tests) place noTest .month ⌝ }
+{
+    let p = TESTS + TEST * place;
+    year[p + 1]
+}
+
+// Does the test of a place list a registration?
+pub fn tested_in(year: &Cells, place: u64, i: usize) -> bool
+    requires { ⌜ Held (now year) ⌝ }
+    requires { ⌜ i < 64 ⌝ }
+    ensures { λ r. ⌜ r ≡ listed (getD (yearIn (now (year .entry)) .tests) place noTest .listing) i ⌝ }
+{
+    let r = registration_at(year, i);
+    year[TESTED + i] != 0 && 3 * r.zone + r.product == place
+}
+
+// With which reduction, 0 where it does not.
+pub fn first_in(year: &Cells, place: u64, i: usize) -> u64
+    requires { ⌜ Held (now year) ⌝ }
+    requires { ⌜ i < 64 ⌝ }
+    ensures { λ r. ⌜ r ≡ reduction (getD (yearIn (now (year .entry)) .tests) place noTest .listing) i ⌝ }
+{
+    if tested_in(year, place, i) {
+        year[TESTED + (64 + i)]
+    } else {
+        0
+    }
+}
+
+// A registration's retest.
+pub fn retest_at(year: &Cells, i: usize) -> Retest
+    requires { ⌜ i < 64 ⌝ }
+    ensures { λ r. ⌜ r ≡ retestOf (yearIn (now (year .entry))) i ⌝ }
+{
+    Retest {
+        taken: year[RETESTED + i] != 0,
+        reduction: year[RETESTED + (64 + i)],
+    }
+}
