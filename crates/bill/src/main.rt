@@ -26,11 +26,11 @@ fn bill(input: i32, buffer: &mut [u8], out: &mut [u8]) -> bool
         let start = window.start;
         let end = window.end;
         if start == end {
-            return output::finish(out, course.at);
+            return text_stream::finish(out, course.at);
         }
         let answered = bill_step::step(&mut year, course, &buffer[start..end], &mut statement, out);
         course = answered.next;
-        let gathered = output::with_room(out, course.at, text_bill::ROOM);
+        let gathered = text_stream::with_room(out, course.at, text_bill::ROOM);
         if gathered.failed {
             return false;
         }

@@ -5,6 +5,8 @@ ghost use lib.ListN.{length};
 ghost use Rattle.bits.specs.Bits.{FieldFits, FieldRead};
 ghost use Rattle.bits.specs.Table.{total, times, fieldsAt, laid, Fit, InWord};
 
+mod words;
+
 // The position of a bit.
 pub struct Cursor {
     pub at: usize,

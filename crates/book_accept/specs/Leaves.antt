@@ -5,7 +5,7 @@ use mathlib.Core.List.{List, _++_}
 use lib.ListN.{length, drop}
 use Rattle.year.specs.declared.Year.{Year}
 use Rattle.record_heads.specs.Record.{Record, isClose, monthOf}
-use Rattle.month_end.specs.Closing.{closing}
+use Rattle.book_accept.specs.Closing.{closing}
 
 -- what an accepted record leaves in the buffer: a close its statement, with the rest as it was; and the statement's bytes
 unfoldable pub bufferWith : Year → Record → List ℕ → List ℕ

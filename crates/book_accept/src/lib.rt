@@ -9,12 +9,14 @@ ghost use Rattle.year_cells.specs.Layout.{listingAt, yearIn, Held};
 ghost use Rattle.book_recorded.specs.After.{registrationOf, yearBy};
 ghost use Rattle.book_accept.specs.Leaves.{bufferWith, writtenWith};
 ghost use Rattle.book_accept.specs.Suits.{Suits};
-use month_end::close;
+use crate::month_end::close;
 use record_heads::Head;
 use record_heads::RegistrationHead;
 use units::Nominated;
 use year::Registration;
 use year_cells::Cells;
+
+mod month_end;
 
 // What a registration registers.
 fn registration_of(r: RegistrationHead) -> Registration
@@ -46,16 +48,16 @@ pub fn take(year: &mut Cells, head: Head, listing: &[u64], buffer: &mut [u8]) ->
 {
     match head {
         Head::Opening(o) => {
-            setup::open(year, o.leap, o.factor, o.requirement);
+            year_steps::open(year, o.leap, o.factor, o.requirement);
             0
         }
         Head::Registration(r) => {
             let registration = registration_of(r);
-            setup::register(year, r.id as usize, registration);
+            year_steps::register(year, r.id as usize, registration);
             0
         }
         Head::Lse(j) => {
-            setup::oblige(year, j.id as usize, j.obligation);
+            year_steps::oblige(year, j.id as usize, j.obligation);
             0
         }
         Head::Event(e) => {
@@ -68,7 +70,7 @@ pub fn take(year: &mut Cells, head: Head, listing: &[u64], buffer: &mut [u8]) ->
         }
         Head::Close(c) => close(year, c.month, buffer),
         Head::Clearing(c) => {
-            setup::clear(year, c.registration as usize, c.price, c.kw);
+            year_steps::clear(year, c.registration as usize, c.price, c.kw);
             0
         }
         Head::Retest(_) => {

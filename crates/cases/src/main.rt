@@ -44,7 +44,7 @@ fn case(year: &mut Cells, line: &[u8])
         *year = book::new_book();
         return;
     }
-    let space = scan::find(line, 0, b' ');
+    let space = text::find(line, 0, b' ');
     if space == line.len() {
         return;
     }
@@ -80,13 +80,13 @@ struct Lent {
 fn operands(line: &[u8], bytes: &mut [u8], most: usize) -> Lent
     ensures { λ r. ⌜ (r .count ≤ length (now (bytes .entry))) × (r .room ≤ most) ⌝ }
 {
-    let end = scan::find(line, 0, b' ');
-    let count = scan::hex_bytes(&line[0..end], bytes);
+    let end = text::find(line, 0, b' ');
+    let count = text::hex_bytes(&line[0..end], bytes);
     let mut words = [0u64; 2];
-    scan::decimals(line, &mut words);
+    text::decimals(line, &mut words);
     Lent {
         count: count,
-        room: scan::least(words[1] as usize, most),
+        room: text::least(words[1] as usize, most),
     }
 }
 
@@ -109,7 +109,7 @@ fn take(year: &mut Cells, bytes: &[u8], buffer: &mut [u8])
     ensures { λ r. ⌜ Held (now (year .exit)) ⌝ }
 {
     let posted = book::post(year, bytes, buffer);
-    let written = scan::least(posted.written, buffer.len());
+    let written = text::least(posted.written, buffer.len());
     print_call(posted.number, posted.used, &buffer[0..written]);
 }
 
@@ -133,7 +133,7 @@ fn read(bytes: &[u8], row: &mut [u64])
     row[0] = answer.number;
     row[1] = answer.count as u64;
     row[2] = answer.used as u64;
-    print_numbers(row, scan::least(answer.count, room) + 3);
+    print_numbers(row, text::least(answer.count, room) + 3);
 }
 
 // Prints the first so many numbers of a row, in one line.
@@ -148,11 +148,11 @@ fn print_numbers(row: &[u64], count: usize)
 // `write`: for how many bytes there is room, and the numbers.
 fn write_case(line: &[u8]) {
     let mut words = [0u64; 256];
-    let n = scan::decimals(line, &mut words);
+    let n = text::decimals(line, &mut words);
     if n == 0 {
         return;
     }
-    let room = scan::least(words[0] as usize, 4096);
+    let room = text::least(words[0] as usize, 4096);
     let mut bytes = [0u8; 4096];
     write(&words[1..n], &mut bytes[0..room]);
 }
@@ -161,18 +161,18 @@ fn write(numbers: &[u64], bytes: &mut [u8])
     requires { ⌜ length (now bytes) ≤ 4096 ⌝ }
 {
     let answer = record_write::write(numbers, bytes);
-    let used = scan::least(answer.used, bytes.len());
+    let used = text::least(answer.used, bytes.len());
     print_call(answer.number, answer.used, &bytes[0..used]);
 }
 
 // `telemetry`: a pair or a direct reduction, told apart by how many values there are.
 fn telemetry_case(line: &[u8]) {
-    let space = scan::find(line, 0, b' ');
+    let space = text::find(line, 0, b' ');
     if space == line.len() {
         return;
     }
     let start = space + 1;
-    let end = scan::find(line, start, b' ');
+    let end = text::find(line, start, b' ');
     let value = value_of(&line[start..end]);
     if end == line.len() {
         reduce(Sample::Direct(value));
@@ -184,13 +184,13 @@ fn telemetry_case(line: &[u8]) {
 // The value whose bits a word spells.
 fn value_of(word: &[u8]) -> f32 {
     let mut bytes = [0u8; 4];
-    scan::hex_bytes(word, &mut bytes);
+    text::hex_bytes(word, &mut bytes);
     let pattern = Cursor::first().take(&bytes, 32);
     telemetry_eighths::from_pattern(pattern.value as u32)
 }
 
 fn reduce(sample: Sample) {
     let mut kw: u64 = 0;
-    let number = sample_answers::answer(sample, &mut kw);
+    let number = telemetry::answer(sample, &mut kw);
     print_numbers(&[number, kw], 2);
 }

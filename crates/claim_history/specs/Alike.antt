@@ -20,8 +20,8 @@ use Rattle.year.specs.Listing.{withEntry, withSecond}
 use Rattle.record_heads.specs.Record.{Record, withItem, recordOf}
 use Rattle.record_heads.specs.RecordLaws.{same-head, listing-keeps}
 use Rattle.record_listing.specs.Listed.{Permitted, item-as}
-use Rattle.reductions.specs.Reductions.{withReductions}
-use Rattle.reductions.specs.Replaced.{kept-head, kept-field, kept-other, kept-id}
+use Rattle.record_numbers.specs.Reductions.{withReductions}
+use Rattle.record_numbers.specs.Replaced.{kept-head, kept-field, kept-other, kept-id}
 use Rattle.claim_history.specs.Runs.{isOwn}
 use Rattle.claim_history.specs.Same.{SameListing, listing-refl}
 

@@ -9,8 +9,8 @@ use lib.Seq.{drop-at}
 use Rattle.ids.specs.Ids.{at}
 use Rattle.ids.specs.Tables.{is-tabulate}
 use Rattle.record_layouts.specs.Layout.{sizeOf}
-use Rattle.reductions.specs.Reductions.{isReduction, withReductions}
-use Rattle.reductions.specs.Replaced.{writes}
+use Rattle.record_numbers.specs.Reductions.{isReduction, withReductions}
+use Rattle.record_numbers.specs.Replaced.{writes}
 use Rattle.record_layouts.specs.Questions.{numbersOf, rulesOf, consumed}
 use Rattle.record_numbers.specs.Calls.{bytesBy}
 use Rattle.record_numbers.specs.Accepted.{not-failed}

@@ -6,7 +6,7 @@ use mathlib.Core.Path.{_≡_}
 use lib.ListN.{length, drop}
 use lib.Dec.{eqb}
 use lib.IntN.{ℤ, pos, _+ℤ_}
-use Rattle.reductions.specs.Reductions.{withReductions}
+use Rattle.record_numbers.specs.Reductions.{withReductions}
 use Rattle.record_layouts.specs.Questions.{numbersOf, recordNumber, consumed}
 use Rattle.year.specs.declared.Terms.{Terms}
 use Rattle.year.specs.Year.{seller}

@@ -11,7 +11,7 @@ use Rattle.bits.specs.Table.{times}
 use Rattle.bits.specs.Pack.{bitsOf, spell, byteOf, bytesOf, pack, encode}
 use Rattle.record_layouts.specs.Layout.{itemsIn, rulesTo, rulesFor}
 use Rattle.record_layouts.specs.Questions.{rulesBy}
-use Rattle.reductions.specs.Reductions.{reducesIn, isReduction, withReductions}
+use Rattle.record_numbers.specs.Reductions.{reducesIn, isReduction, withReductions}
 use Rattle.record_numbers.specs.Calls.{bytesBy}
 use Rattle.telemetry.specs.declared.Sample.{Sample}
 use Rattle.telemetry.specs.declared.Sample.the-variants.{Pair, Direct}

@@ -6,8 +6,8 @@ use mathlib.Core.Path.{_≡_, refl, sym, ap}
 use lib.ListN.{length}
 use Rattle.ids.specs.Ids.{at}
 use Rattle.ids.specs.Tables.{tabulate-same}
-use Rattle.reductions.specs.Reductions.{isReduction, withReductions}
-use Rattle.reductions.specs.Replaced.{writes}
+use Rattle.record_numbers.specs.Reductions.{isReduction, withReductions}
+use Rattle.record_numbers.specs.Replaced.{writes}
 use Rattle.record_numbers.specs.Calls.{bytesBy, writeNumber}
 use Rattle.year.specs.Year.{newYear}
 use Rattle.claim_history.specs.Runs.{Call}

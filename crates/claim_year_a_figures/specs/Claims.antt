@@ -13,7 +13,7 @@ use Rattle.owed.specs.Facts.{factsOf}
 use Rattle.owed.specs.Owed.{test, lse}
 use Rattle.statement.specs.Statement.{hasRegistration, hasObligation}
 use Rattle.book_recorded.specs.Recorded.{gather, termsIn, recorded}
-use Rattle.reductions.specs.Reductions.{reducesIn, isReduction, withReductions}
+use Rattle.record_numbers.specs.Reductions.{reducesIn, isReduction, withReductions}
 use Rattle.claim_history.specs.Runs.{Call, Answered, isAccepted, isClosing, acceptedIn, Variant}
 use Rattle.claim_history.specs.Taking.{shown, answers, run}
 use Rattle.claim_history.specs.Claim.{AtClose}

@@ -25,10 +25,10 @@ fn dump(input: i32, buffer: &mut [u8], out: &mut [u8]) -> bool
         let start = window.start;
         let end = window.end;
         if start == end {
-            return output::finish(out, at);
+            return text_stream::finish(out, at);
         }
         let printed = text_record::print(position, &buffer[start..end], out, at);
-        let gathered = output::with_room(out, printed.at, text_record::ROOM);
+        let gathered = text_stream::with_room(out, printed.at, text_record::ROOM);
         if gathered.failed {
             return false;
         }

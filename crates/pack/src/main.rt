@@ -15,7 +15,7 @@ fn refuse(position: u64, number: u64) -> bool {
 
 // One line after another, up to the end; answers whether all is read and written.
 // A failed read or write ends it with nothing more written. No contract can name what is read or written:
-// what a line packs to is the contract of `packed_line::pack`.
+// what a line packs to is the contract of `text_record::pack`.
 fn pack(input: i32, buffer: &mut [u8], out: &mut [u8]) -> bool
     requires { ⌜ longestPermitted ≤ length (now out) ⌝ }
 {
@@ -39,14 +39,14 @@ fn pack(input: i32, buffer: &mut [u8], out: &mut [u8]) -> bool
             continue;
         }
         if start == window.end && !cut {
-            return output::finish(out, at);
+            return text_stream::finish(out, at);
         }
-        let packed = packed_line::pack(&buffer[start..end], cut, out, at);
+        let packed = text_record::pack(&buffer[start..end], cut, out, at);
         let number = packed.number;
         if number != 0 && !refuse(position, number) {
             return false;
         }
-        let gathered = output::with_room(out, packed.at, record_numbers::PERMITTED);
+        let gathered = text_stream::with_room(out, packed.at, record_numbers::PERMITTED);
         if gathered.failed {
             return false;
         }

@@ -92,7 +92,7 @@ pub extern "C" fn piermint_reduction(expected: u32, metered: u32, kw: &mut u64) 
 {
     let expected = telemetry_eighths::from_pattern(expected);
     let metered = telemetry_eighths::from_pattern(metered);
-    sample_answers::answer(Sample::Pair(expected, metered), kw)
+    telemetry::answer(Sample::Pair(expected, metered), kw)
 }
 
 // The kW of an entry from a direct reduction, in the same way.
@@ -100,7 +100,7 @@ pub extern "C" fn piermint_reduction(expected: u32, metered: u32, kw: &mut u64) 
 pub extern "C" fn piermint_direct_reduction(reduction: u32, kw: &mut u64) -> u64
     ensures { λ r. ⌜ Answers (Direct (ofBits binary32 reduction)) r (now (kw .exit)) ⌝ }
 {
-    sample_answers::answer(
+    telemetry::answer(
         Sample::Direct(telemetry_eighths::from_pattern(reduction)),
         kw,
     )

@@ -5,6 +5,8 @@ mod selections;
 pub use conditions::meets;
 pub use selections::is_selected;
 
+mod test_entries;
+
 // What may be asked of a registration's terms (specs/Meets.antt): is it known and in an area; known and of a zone and
 // product; a seller's; may its product be called in a month and period?
 pub enum Condition {

@@ -7,9 +7,9 @@ ghost use Rattle.year_cells.specs.Layout.{yearIn, Held};
 ghost use Rattle.question_conditions.specs.Selects.{selects};
 use crate::Selection;
 use crate::conditions::in_group;
-use test_entries::has_failed;
-use test_entries::is_entry;
-use test_entries::is_retested;
+use crate::test_entries::has_failed;
+use crate::test_entries::is_entry;
+use crate::test_entries::is_retested;
 use year_cells::Cells;
 
 // Does an accepted event list the registration?

@@ -11,6 +11,8 @@ ghost use Rattle.year_cells.specs.Layout.{listingAt, yearIn, Held};
 ghost use Rattle.record_heads.specs.Within.{GroupWithin};
 ghost use Rattle.question_conditions.specs.Entries.{inGroup, everyListed};
 ghost use Rattle.question_list.specs.Questions.{monthBegun, mayTest, questions};
+use crate::retestable::may_retest;
+use crate::retestable::place_of;
 use question_conditions::Condition;
 use question_conditions::Selection;
 use question_list::may_test;
@@ -19,9 +21,9 @@ use question_listings::every_listed;
 use question_listings::lists_exactly;
 use record_heads::Head;
 use record_heads::RetestHead;
-use retestable::may_retest;
-use retestable::place_of;
 use year_cells::Cells;
+
+mod retestable;
 
 // Question 10: is every listed registration known, of the zone and product, and the seller's?
 fn lists_own(year: &Cells, t: RetestHead, listing: &[u64]) -> bool

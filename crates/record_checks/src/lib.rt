@@ -15,6 +15,12 @@ use record_layouts::part_at;
 use record_shapes::head_of;
 use record_shapes::list_at;
 
+mod limits;
+mod permitted;
+
+pub use permitted::head_permitted;
+pub use permitted::lists_permitted;
+
 pub fn is_kind(kind: u64) -> bool
     ensures { λ r. ⌜ r ≡ isKind kind ⌝ }
 {

@@ -2,10 +2,10 @@
 ghost use mathlib.Core.Path.{_≡_};
 ghost use Rattle.ids.specs.Ids.{at};
 ghost use Rattle.record_numbers.specs.Calls.{Writes};
-use encoding::put_record;
-use permitted::head_permitted;
-use permitted::lists_permitted;
+use crate::encoding::put_record;
+use record_checks::head_permitted;
 use record_checks::is_kind;
+use record_checks::lists_permitted;
 use record_checks::lists_rise;
 use record_layouts::highs_of_parts;
 use record_layouts::lows_of_parts;
@@ -13,6 +13,8 @@ use record_layouts::widths_of_parts;
 use record_shapes::head_of;
 use record_shapes::shape_of;
 use record_shapes::size_of;
+
+mod encoding;
 
 pub struct WriteAnswer {
     pub number: u64,

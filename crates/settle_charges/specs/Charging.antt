@@ -19,12 +19,12 @@ use Rattle.owed_laws.specs.Sellers.{ofSeller-le}
 use Rattle.owed_laws.specs.Bounds.{cap-le, charge-le}
 use Rattle.owed_laws.specs.Cap.{spent-le}
 use Rattle.owed_laws.specs.Unlisted.{u-unlisted, off-unlisted, daily-none, charge-none}
-use Rattle.sharing.specs.Sharing.{Shares, shares-aside}
+use Rattle.settle_shortfalls.specs.Sharing.{Shares, shares-aside}
 use Rattle.settle_table.specs.Columns.{Columns, columns-aside}
 use Rattle.settle_table.specs.Places.{callsRow, spentRow, complianceRow, lackRow, offURow}
 use Rattle.settle_table.specs.Rows.{Stored, Aside, Row, Renewed, Grown, none, aside-none, aside-then, aside-more, row-aside, row-same, renewed-first, renewed-kept, renewed-next, renewed-more, renewed-none, grown-first, grown-kept, grown-none, grown-more, grown-most}
-use Rattle.pricing.specs.declared.Line.{Line}
-use Rattle.pricing.specs.Pricing.{lineAt, dailyOf}
+use Rattle.settle_charges.specs.declared.prices.Line.{Line}
+use Rattle.settle_charges.specs.Pricing.{lineAt, dailyOf}
 
 -- what an event's charges are made of: the terms, n, and the shares of its entries, off-peak too
 pub record Given (F : Facts) (ev : ℕ) (w : List ℕ) : Type 0 where

@@ -1,2 +1,3 @@
 -- An event's charges entry by entry.
 pub mod Charging
+pub mod Pricing

@@ -11,6 +11,12 @@ ghost use Rattle.settle_charges.specs.Charging.{Given, Billed};
 use settle_table::Work;
 use year_cells::Cells;
 
+mod due_cents;
+mod prices;
+
+pub use prices::lesser;
+pub use prices::line_at;
+
 // Event ev's charges to date at month k, added to what is spent of the caps and to the sellers' compliance; their sum. A registration
 // without a share of a shortfall of its seller's is not charged.
 pub fn charge(year: &Cells, work: &mut Work, ev: usize, k: u64) -> u64
@@ -31,8 +37,8 @@ pub fn charge(year: &Cells, work: &mut Work, ev: usize, k: u64) -> u64
         let u = settle_table::get(work, settle_table::U, i);
         let off = settle_table::get(work, settle_table::OFF_U, i);
         if (u != 0) | (off != 0) {
-            let line = pricing::line_at(work, i);
-            let daily = pricing::daily_of(peak, line);
+            let line = prices::line_at(work, i);
+            let daily = prices::daily_of(peak, line);
             let due = due_cents::cents(line.product, month, k, days, daily);
             settle_table::add_at(work, settle_table::SPENT, i, daily);
             settle_table::add_at(work, settle_table::COMPLIANCE, line.seller, due);

@@ -8,6 +8,9 @@ use year::Amounts;
 use year::Registration;
 use year_cells::Cells;
 
+mod amounts;
+mod events;
+
 // All amounts to date at month k, of a year whose registrations are lent.
 pub fn settle(registrations: &[Registration], year: &Cells, k: u64) -> Amounts
     requires { ⌜ Held (now year) × (now registrations ≡ yearIn (now year) .terms .registrations) × (1 ≤ k) × (k ≤ 15) ⌝ }
@@ -16,10 +19,10 @@ pub fn settle(registrations: &[Registration], year: &Cells, k: u64) -> Amounts
     let mut work = [0u64; 1304];
     let mut i: usize = 0;
     while i < 64 {
-        lending::enter(year, &mut work, i, registrations[i]);
+        settle_rates::enter(year, &mut work, i, registrations[i]);
         i += 1;
     }
-    closing::close(year, &mut work, k)
+    amounts::close(year, &mut work, k)
 }
 
 // All amounts to date at month k: the year's own registrations are lent.

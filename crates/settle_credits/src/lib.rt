@@ -42,11 +42,11 @@ pub fn credit(year: &Cells, work: &mut Work, ev: usize, k: u64, charges: u64) ->
     let mut i: usize = 0;
     while i < 64 {
         if settle_table::get(work, settle_table::LISTED, i) != 0 {
-            let line = pricing::line_at(work, i);
+            let line = settle_charges::line_at(work, i);
             let e = line.e;
             let share = allotment.share(e.0);
             let most = limit(e, line.rate, days);
-            let credit = pricing::lesser(share.value, most);
+            let credit = settle_charges::lesser(share.value, most);
             settle_table::add_at(work, settle_table::CREDIT, line.seller, credit);
             allotment = share.next;
         }

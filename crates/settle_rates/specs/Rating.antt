@@ -15,8 +15,8 @@ use Rattle.settle_facts.specs.Looks.{facts}
 use Rattle.settle_table.specs.Columns.{Columns}
 use Rattle.settle_table.specs.Places.{size, sellerRow, productRow, committedRow, rateRow, capRow, callsRow, placeRow, areaRow, lentRow, worthRow, areaRateRow, freshPlaces}
 use Rattle.settle_table.specs.Rows.{Stored, Aside, Row, Renewed, none, aside-none, aside-more, row-aside, row-same, renewed-first, renewed-kept, renewed-more, renewed-none}
-use Rattle.area_sums.specs.Lent.{lentAt, worthAt, Lending}
-use Rattle.lending.specs.Entering.{ownCap, Entered, Begun}
+use Rattle.settle_rates.specs.Lent.{lentAt, worthAt, Lending}
+use Rattle.settle_rates.specs.Entering.{ownCap, Entered, Begun}
 
 -- the average of what is lent in an area
 abbrev pub averageIn : List ℕ → ℕ → ℕ

@@ -5,11 +5,17 @@ ghost use lib.ListN.{length};
 ghost use Rattle.year_cells.specs.Layout.{Held};
 ghost use Rattle.settle_table.specs.Places.{size, areaRateRow};
 ghost use Rattle.settle_table.specs.Rows.{Aside, Row};
-ghost use Rattle.lending.specs.Entering.{Begun};
+ghost use Rattle.settle_rates.specs.Entering.{Begun};
 ghost use Rattle.settle_rates.specs.Rating.{averageIn, Rating, Rated};
 use settle_table::Work;
 use units::Nominated;
 use year_cells::Cells;
+
+mod area_sums;
+mod own_rates;
+mod terms;
+
+pub use terms::enter;
 
 // Each area's rate: the average of what is lent there.
 fn average(work: &mut Work)

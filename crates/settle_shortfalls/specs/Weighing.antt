@@ -8,7 +8,7 @@ use lib.Dec.{lit≤}
 use lib.ListN.{length}
 use Rattle.ids.specs.Ids.{at}
 use Rattle.year.specs.Year as year
-use Rattle.abreast.specs.Abreast.{Abreast, abreast-first}
+use Rattle.settle_table.specs.Allotments.{Abreast, abreast-first}
 use Rattle.owed.specs.Facts.{Facts}
 use Rattle.owed.specs.Owed as owed
 use Rattle.owed.specs.Owed.{unforced, excess}

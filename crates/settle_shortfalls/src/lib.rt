@@ -14,6 +14,12 @@ use units::Nominated;
 use units::Unforced;
 use year_cells::Cells;
 
+mod off_peak;
+mod shares;
+
+pub use off_peak::measure;
+pub use shares::share;
+
 // An entry of an event: whether it is listed, its seller, what it lacks and what it gives more, and its second reduction.
 pub struct Entry {
     pub listed: bool,
@@ -106,11 +112,11 @@ fn nets(year: &Cells, work: &mut Work, ev: usize)
         let excess = more.less(lack);
         settle_table::put(
             work,
-            settle_table::LACK + abreast::AMOUNT,
+            settle_table::LACK + settle_table::AMOUNT,
             s,
             net.shortfall.0,
         );
-        settle_table::put(work, settle_table::MORE + abreast::AMOUNT, s, excess.0);
+        settle_table::put(work, settle_table::MORE + settle_table::AMOUNT, s, excess.0);
         s += 1;
     }
 }

@@ -6,6 +6,11 @@ ghost use Rattle.ids.specs.Ids.{at, sumTo};
 ghost use Rattle.settle_table.specs.Rows.{Stored, Aside, Row, none};
 ghost use Rattle.settle_table.specs.Places.{size};
 
+mod allotments;
+
+pub use allotments::AMOUNT;
+pub use allotments::share;
+
 // Rows that change together stand together (specs/Places.antt).
 pub type Work = [u64; 1304];
 

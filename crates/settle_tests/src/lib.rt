@@ -8,14 +8,16 @@ ghost use Rattle.owed.specs.Owed.{testShortfall, B, raised, test};
 ghost use Rattle.settle_facts.specs.Looks.{facts};
 ghost use Rattle.settle_table.specs.Places.{testRow};
 ghost use Rattle.settle_table.specs.Rows.{Aside, Row, none};
-ghost use Rattle.tallying.specs.Entries.{takenAt, Ready};
-ghost use Rattle.tallying.specs.Sums.{Summed};
+ghost use Rattle.settle_tests.specs.Entries.{takenAt, Ready};
+ghost use Rattle.settle_tests.specs.Sums.{Summed};
+use crate::sums::Sums;
+use crate::sums::sum_up;
 use settle_table::Work;
-use tallying::Sums;
-use tallying::sum_up;
 use units::Nominated;
 use units::Unforced;
 use year_cells::Cells;
+
+mod sums;
 
 // A seller's deficit in the test at a place, 0 where it is absent.
 fn deficit_of(year: &Cells, place: usize, s: usize) -> Unforced
@@ -49,11 +51,11 @@ fn charge_of(year: &Cells, sums: &Sums, place: usize, s: usize, days: u64) -> u6
     ensures { λ r. ⌜ r ≡ testShortfall (facts (now (year .entry))) place s * raised (B (facts (now (year .entry))) place s) * days / 1000 ⌝ }
 {
     let key = 16 * place + s;
-    let committed = Nominated::sum(sums[tallying::COMMITTED + key]);
-    let reduction = Nominated::sum(sums[tallying::REDUCTION + key]);
+    let committed = Nominated::sum(sums[sums::COMMITTED + key]);
+    let reduction = Nominated::sum(sums[sums::REDUCTION + key]);
     let deficit = deficit_of(year, place, s);
     let shortfall = settle_facts::shortfall(year, committed, reduction, deficit);
-    let rate = rate_of(sums[tallying::WORTH + key], committed);
+    let rate = rate_of(sums[sums::WORTH + key], committed);
     shortfall.0 * rate * days / 1000
 }
 

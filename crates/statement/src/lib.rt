@@ -6,6 +6,10 @@ ghost use Rattle.statement.specs.Statement.{hasRegistration, hasObligati
 ghost use Rattle.statement.specs.Marks.{Marks};
 use year::Terms;
 
+mod issue;
+
+pub use issue::write_statement;
+
 // Which sellers have a registration.
 pub fn present(terms: Terms) -> [bool; 16]
     requires { ⌜ SoundTerms terms ⌝ }

@@ -7,6 +7,10 @@ use telemetry_eighths::counts;
 use telemetry_eighths::less;
 use telemetry_eighths::whole_kw;
 
+mod answers;
+
+pub use answers::answer;
+
 // What a gateway delivers: expected and metered load, or one direct reduction from a control switch.
 pub enum Sample {
     Pair(f32, f32),

@@ -6,6 +6,13 @@ ghost use lib.ListN.{length};
 ghost use Rattle.text.specs.Pasted.{Pasted};
 ghost use Rattle.text.specs.Lines.{callLine, character, decimal, hexOf, hexadecimal, numbersLine, word};
 
+mod scan;
+
+pub use scan::decimals;
+pub use scan::find;
+pub use scan::hex_bytes;
+pub use scan::least;
+
 // A byte.
 pub fn put_byte(out: &mut [u8], at: usize, byte: u8) -> usize
     requires { ⌜ at < length (now out) ⌝ }

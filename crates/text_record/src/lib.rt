@@ -6,6 +6,10 @@ ghost use Rattle.record_layouts.specs.Questions.{recordNumber, consumed};
 ghost use Rattle.text.specs.Pasted.{Pasted};
 ghost use Rattle.text_record.specs.Line.{recordLine, lineRoom};
 
+mod packed_line;
+
+pub use packed_line::pack;
+
 // The bytes that a caller leaves free for the line of one record.
 pub const ROOM: usize = 21 * record_numbers::NUMBERS + 1;
 

@@ -4,8 +4,13 @@ ghost use mathlib.Core.Path.{_≡_};
 ghost use Prim.Native.Nat.{_+_, _-_, _≤_, _<_, min};
 ghost use lib.ListN.{length, take, drop};
 ghost use lib.Seq.{paste};
-ghost use Rattle.scan.specs.Find.{Ends};
+ghost use Rattle.text.specs.Find.{Ends};
 ghost use Rattle.text_stream.specs.Filled.{Filled};
+
+mod output;
+
+pub use output::finish;
+pub use output::with_room;
 
 // The part of the input buffer that is still to be taken. Ended: no more comes; failed: a read failed.
 pub struct Window {
@@ -67,7 +72,7 @@ pub fn next_line(input: i32, buffer: &mut [u8], window: Window) -> Line
     ensures { λ r. ⌜ Ends (take (r .window .end) (now (buffer .exit))) (r .window .start) 10 (r .end) ⌝ }
 {
     let end = window.end;
-    let newline = scan::find(&buffer[0..end], window.start, b'\n');
+    let newline = text::find(&buffer[0..end], window.start, b'\n');
     if newline < end {
         return Line {
             window: window,
@@ -77,7 +82,7 @@ pub fn next_line(input: i32, buffer: &mut [u8], window: Window) -> Line
     let size = buffer.len();
     let more = filled(input, buffer, window, size);
     let stop = more.end;
-    let newline = scan::find(&buffer[0..stop], more.start, b'\n');
+    let newline = text::find(&buffer[0..stop], more.start, b'\n');
     Line {
         window: more,
         end: newline,

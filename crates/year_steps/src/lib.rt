@@ -18,6 +18,13 @@ use year_cells::LISTED;
 use year_cells::STARTED;
 use year_cells::lay;
 
+mod setup;
+
+pub use setup::clear;
+pub use setup::oblige;
+pub use setup::open;
+pub use setup::register;
+
 // One more event; its listing is a row by id: 64 marks, 64 reductions, 16 deficits, 64 second reductions.
 pub fn call(year: &mut Cells, e: EventHead, listing: &[u64])
     requires { ⌜ Held (now year) ⌝ }

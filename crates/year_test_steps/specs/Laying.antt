@@ -17,7 +17,7 @@ use Rattle.year.specs.Sound.{SoundTest}
 use Rattle.year_cells.specs.Rows.{from, Laid, laid-on, Same, same-on, same-in, same-before, same-behind}
 use Rattle.year_cells.specs.Layout.{flag, listingAt, cellTerms, cellTests, retestAt, cellRetests, yearIn, Held}
 use Rattle.year_cells.specs.Regions.{row-listed, row-reduction, retest-in, registrations-kept, terms-kept, events-kept, places-kept, tests-kept, billed-kept, clearings-kept, retests-kept}
-use Rattle.merging.specs.Entered.{Entered}
+use Rattle.year_test_steps.specs.Entered.{Entered}
 use Rattle.year_test_steps.specs.Tests.{testOf, untaken-free, Tested, tests-laid}
 
 -- a test is laid by the mark, its head and its deficits, then its entries among those of all tests

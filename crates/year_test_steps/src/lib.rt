@@ -9,7 +9,7 @@ ghost use Rattle.year.specs.Steps.{withTest, withRetest};
 ghost use Rattle.year.specs.Sound.{SoundListing, SoundTest};
 ghost use Rattle.year_cells.specs.Layout.{listingAt, yearIn, Held};
 ghost use Rattle.year_test_steps.specs.Tests.{testOf};
-use merging::enter;
+use crate::merging::enter;
 use year_cells::Cells;
 use year_cells::RETESTED;
 use year_cells::STARTED;
@@ -18,6 +18,8 @@ use year_cells::TEST_DEFICITS;
 use year_cells::TESTED;
 use year_cells::TESTS;
 use year_cells::lay;
+
+mod merging;
 
 // The test of a place that has none; its listing is a row by id: 64 marks, 64 reductions, 16 deficits, then what no test has.
 pub fn test(year: &mut Cells, place: usize, month: u64, listing: &[u64])

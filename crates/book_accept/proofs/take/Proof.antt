@@ -8,13 +8,13 @@ use Rattle.book_accept.specs.Leaves.{bufferWith, writtenWith}
 use Rattle.book_accept.specs.Suits.{Suits}
 use Rattle.book_accept.proofs.take.Statement.{statement}
 use Rattle.book_accept.proofs.take.Tie as tie
-use Rattle.month_end.proofs.close.Reads as close-reads
+use Rattle.book_accept.proofs.month_end.close.Reads as close-reads
 use Rattle.book_accept.proofs.registration_of.Reads as registration-of-reads
 use Rattle.year_steps.proofs.call.Reads as call-reads
-use Rattle.setup.proofs.clear.Reads as clear-reads
-use Rattle.setup.proofs.oblige.Reads as oblige-reads
-use Rattle.setup.proofs.open.Reads as open-reads
-use Rattle.setup.proofs.register.Reads as register-reads
+use Rattle.year_steps.proofs.clear.Reads as clear-reads
+use Rattle.year_steps.proofs.oblige.Reads as oblige-reads
+use Rattle.year_steps.proofs.open.Reads as open-reads
+use Rattle.year_steps.proofs.register.Reads as register-reads
 use Rattle.year_test_steps.proofs.retest.Reads as retest-reads
 use Rattle.year_test_steps.proofs.test.Reads as test-reads
 

@@ -14,8 +14,8 @@ use Rattle.question_listings.proofs.lists_exactly.Reads as lists-exactly-reads
 use Rattle.question_list.proofs.open_number.Reads as open-number-reads
 use Rattle.question_retest.proofs.in_time.Reads as in-time-reads
 use Rattle.question_retest.proofs.lists_own.Reads as lists-own-reads
-use Rattle.retestable.proofs.may_retest.Reads as may-retest-reads
-use Rattle.retestable.proofs.place_of.Reads as place-of-reads
+use Rattle.question_retest.proofs.retestable.may_retest.Reads as may-retest-reads
+use Rattle.question_retest.proofs.retestable.place_of.Reads as place-of-reads
 
 -- the questions' answers, and that they pass further on
 opens : (c : tie.Else1) → let a = c .before .before .before .args in (q6 (yearIn (a .year .now)) (Retest (a .t)) ≡ true) × (q8 (yearIn (a .year .now)) (Retest (a .t)) ≡ true)

@@ -13,7 +13,7 @@ use Rattle.record_layouts.specs.Questions.{rulesBy, isKind, permitted, idsRise}
 use Rattle.record_layouts.specs.QuestionLaws.{kind-in}
 use Rattle.record_layouts.specs.Parts.{Stated}
 use Rattle.record_numbers.specs.Parsing.{Writable}
-use Rattle.encoding.specs.Encoding.{stops-1, stops-3, stops-5, stops-16, stops-none, denies, grants, short-stops, head-stops, passes, by-kind, stated-by}
+use Rattle.record_write.specs.Encoding.{stops-1, stops-3, stops-5, stops-16, stops-none, denies, grants, short-stops, head-stops, passes, by-kind, stated-by}
 use borrow.Author.Needs.{needs}
 use native.Mathlib.Omega.{arith}
 use Rattle.record_write.proofs.write.Statement.{statement}

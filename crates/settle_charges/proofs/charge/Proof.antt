@@ -10,7 +10,7 @@ use Rattle.owed_laws.specs.Limits.{limits}
 use Rattle.owed_laws.specs.Bounds.{D-le, u-le, off-u-le, daily-le, charge-le}
 use Rattle.settle_table.specs.Places.{complianceRow}
 use Rattle.settle_table.specs.Rows.{renewed-next}
-use Rattle.pricing.specs.Pricing.{dailyOf}
+use Rattle.settle_charges.specs.Pricing.{dailyOf}
 use Rattle.settle_charges.specs.Charging.{Charging, lineOf, line-is, charging-first, charging-none, charging-more, charging-all, spent-most, compliance-most, sum-most, daily-is, charge-is, any-some, none-some}
 use Rattle.settle_charges.proofs.charge.Statement.{statement}
 use Rattle.settle_charges.proofs.charge.Tie as tie

@@ -56,7 +56,7 @@ use Rattle.year.specs.declared.Registration.{Registration}
 use Rattle.year.specs.declared.Amounts.{Amounts}
 use Rattle.year_cells.specs.Layout.{yearIn, Held}
 use Rattle.settle_facts.specs.Looks.{facts}
-use Rattle.lending.specs.Entering.{Begun, begun-first}
+use Rattle.settle_rates.specs.Entering.{Begun, begun-first}
 use Rattle.owed.specs.Owed.{amounts}
 use Rattle.settle_table.specs.Places.{size}
 use Rattle.year.proofs.Registration as T
@@ -64,14 +64,14 @@ use Rattle.year.proofs.Registration.Laws as T′
 use Rattle.year.proofs.Amounts as S
 use Rattle.year.proofs.Amounts.Laws as S′
 use Rattle.settle_closing.proofs.Local.{local, lends-local, local-back}
-use Rattle.lending.proofs.enter as one
-use Rattle.lending.proofs.enter.Symbol as one-def
-use Rattle.lending.proofs.enter.Symbol.{name as #lending·enter}
-use Rattle.lending.proofs.enter.Met as one-thm
-use Rattle.closing.proofs.close as close
-use Rattle.closing.proofs.close.Symbol as close-def
-use Rattle.closing.proofs.close.Symbol.{name as #closing·close}
-use Rattle.closing.proofs.close.Met as close-thm
+use Rattle.settle_rates.proofs.enter as one
+use Rattle.settle_rates.proofs.enter.Symbol as one-def
+use Rattle.settle_rates.proofs.enter.Symbol.{name as #settle_rates·enter}
+use Rattle.settle_rates.proofs.enter.Met as one-thm
+use Rattle.settle_closing.proofs.amounts.close as close
+use Rattle.settle_closing.proofs.amounts.close.Symbol as close-def
+use Rattle.settle_closing.proofs.amounts.close.Symbol.{name as #settle_closing·amounts·close}
+use Rattle.settle_closing.proofs.amounts.close.Met as close-thm
 use Rattle.settle_closing.proofs.settle.Key.{name as #settle_closing·settle}
 use Rattle.settle_closing.proofs.settle as f
 use Rattle.settle_closing.proofs.settle.Statement as stated
@@ -194,7 +194,7 @@ module _ {M : Type 1} (𝓤 : URA M) (H : Heap 𝓤) (A : Atoms 𝓤) (W : Given
     own : (i : ℕ) → getD ys i noRegistration ≡ registration (yearIn c .terms) i
     own i = ap (λ (rs : List Registration). getD rs i noRegistration) (asked .1)
 
-    module _ (𝓣 : Tables 𝓤 H) (known-enter : Triple 𝓤 (𝓣 .C #lending·enter) (Enter 𝓤 H A at-mem run)) (known-close : Triple 𝓤 (𝓣 .C #closing·close) (Close 𝓤 H A at-mem run)) (l₀ l₁ l₂ l₃ l₄ l₅ l₆ l₇ l₈ l₉ l₁₀ l₁₁ l₁₂ : ℕ) where
+    module _ (𝓣 : Tables 𝓤 H) (known-enter : Triple 𝓤 (𝓣 .C #settle_rates·enter) (Enter 𝓤 H A at-mem run)) (known-close : Triple 𝓤 (𝓣 .C #settle_closing·amounts·close) (Close 𝓤 H A at-mem run)) (l₀ l₁ l₂ l₃ l₄ l₅ l₆ l₇ l₈ l₉ l₁₀ l₁₁ l₁₂ : ℕ) where
       abbrev word : Ty
       word = tyInt w64
 
@@ -323,7 +323,7 @@ module _ {M : Type 1} (𝓤 : URA M) (H : Heap 𝓤) (A : Atoms 𝓤) (W : Given
       looped w is begun = use1 W (given (Known (0, w)) (‵ Shared)) (guardI 𝓤 (Known (0, w)) (sem 𝓤 H A Shared) (omega arith, is, begun)) $ first ! $ blocks ! $
           loops ! 𝓣 Past (InvImage·wf (λ (t : State). 64 - t .0) (Nat·lt-wfRel .wf)) Inv turn (0, w)
 
-    walk : (𝓣 : Tables 𝓤 H) → Triple 𝓤 (𝓣 .C #lending·enter) (Enter 𝓤 H A at-mem run) → Triple 𝓤 (𝓣 .C #closing·close) (Close 𝓤 H A at-mem run)
+    walk : (𝓣 : Tables 𝓤 H) → Triple 𝓤 (𝓣 .C #settle_rates·enter) (Enter 𝓤 H A at-mem run) → Triple 𝓤 (𝓣 .C #settle_closing·amounts·close) (Close 𝓤 H A at-mem run)
         → ent 𝓤 (onEntry 𝓤 H A f.signature (κ, (κ′, tt)) (q, (q′, tt)) (x, (y, (k, tt))) at) (WpFn 𝓤 H (𝓣 .C) (𝓣 .Λ) code.function (sliceVal (b, o) n ∷ vptr b′ o′ ∷ vint w64 k ∷ []) Post)
     walk 𝓣 known-enter known-close =
         let zeros : List ℕ = replicate size 0 in
@@ -343,7 +343,7 @@ module _ {M : Type 1} (𝓤 : URA M) (H : Heap 𝓤) (A : Atoms 𝓤) (W : Given
         keep ! (6 ∷ 2 ∷ 21 ∷ 23 ∷ 0 ∷ 3 ∷ 19 ∷ 17 ∷ 15 ∷ 13 ∷ 11 ∷ 9 ∷ 29 ∷ 7 ∷ 27 ∷ 25 ∷ 31 ∷ 32 ∷ 30 ∷ 28 ∷ 26 ∷ 24 ∷ 22 ∷ 20 ∷ 18 ∷ 16 ∷ 14 ∷ 12 ∷ 10 ∷ 8 ∷ []) $
         looped 𝓣 known-enter known-close l₀ l₁ l₂ l₃ l₄ l₅ l₆ l₇ l₈ l₉ l₁₀ l₁₁ l₁₂ zeros (subst (λ (v : Val). Is R zeros (v ∷ [])) told is) (begun-first c)))))))))))))))
 
-module _ {M : Type 1} (𝓤 : URA M) (H : Heap 𝓤) (A : Atoms 𝓤) (W : Given 𝓤 H A) (at-mem : Memory → SProp 𝓤) (run : Routine → Fun 𝓤) (𝓣 : Tables 𝓤 H) (known-enter : Triple 𝓤 (𝓣 .C #lending·enter) (Enter 𝓤 H A at-mem run)) (known-close : Triple 𝓤 (𝓣 .C #closing·close) (Close 𝓤 H A at-mem run)) where
+module _ {M : Type 1} (𝓤 : URA M) (H : Heap 𝓤) (A : Atoms 𝓤) (W : Given 𝓤 H A) (at-mem : Memory → SProp 𝓤) (run : Routine → Fun 𝓤) (𝓣 : Tables 𝓤 H) (known-enter : Triple 𝓤 (𝓣 .C #settle_rates·enter) (Enter 𝓤 H A at-mem run)) (known-close : Triple 𝓤 (𝓣 .C #settle_closing·amounts·close) (Close 𝓤 H A at-mem run)) where
   walks : Walks 𝓤 H A f.ended stayed (WpFn 𝓤 H (𝓣 .C) (𝓣 .Λ) code.function) (f.clauses 𝓤 H A at-mem run)
   walks = walked 𝓤 H A f.ended stayed (f.clauses 𝓤 H A at-mem run) (WpFn 𝓤 H (𝓣 .C) (𝓣 .Λ) code.function) (λ κs. (slice-vals, (ptr-vals, (uint-vals w64, tt))))
       (λ κs. (shr-slice-tells (named 0) (κs .0) T.the-row, (shr-tells (named 1) (κs .1 .0) Y, (uint-tells w64, tt))))
@@ -360,5 +360,5 @@ settle-spec 𝓤 H 𝓜 𝓖 𝓡 =
     entered 𝓤 H (tripleOf 𝓤 H (𝓖 .A) f.signature (f.spec 𝓤 H (𝓖 .A) (𝓜 .mem) (𝓡 .run)))
     (tables 𝓤 H 𝓜 𝓡 code.env .C) (tables 𝓤 H 𝓜 𝓡 code.env .Λ) #settle_closing·settle code.function (code.unfolded 𝓤 H 𝓜 𝓡)
     (meets 𝓤 H (𝓖 .A) (givenOf 𝓤 H 𝓜 𝓖) (𝓜 .mem) (𝓡 .run) (tablesOf 𝓤 H 𝓜 (tables 𝓤 H 𝓜 𝓡 code.env))
-    (cited 𝓤 H (Enter 𝓤 H (𝓖 .A) (𝓜 .mem) (𝓡 .run)) 𝓜 𝓡 code.env #lending·enter one-def.routine code.calls-lending·enter (one-thm.met 𝓤 H 𝓜 𝓖 𝓡))
-    (cited 𝓤 H (Close 𝓤 H (𝓖 .A) (𝓜 .mem) (𝓡 .run)) 𝓜 𝓡 code.env #closing·close close-def.routine code.calls-closing·close (close-thm.met 𝓤 H 𝓜 𝓖 𝓡)))
+    (cited 𝓤 H (Enter 𝓤 H (𝓖 .A) (𝓜 .mem) (𝓡 .run)) 𝓜 𝓡 code.env #settle_rates·enter one-def.routine code.calls-settle-rates·enter (one-thm.met 𝓤 H 𝓜 𝓖 𝓡))
+    (cited 𝓤 H (Close 𝓤 H (𝓖 .A) (𝓜 .mem) (𝓡 .run)) 𝓜 𝓡 code.env #settle_closing·amounts·close close-def.routine code.calls-settle-closing·amounts·close (close-thm.met 𝓤 H 𝓜 𝓖 𝓡)))

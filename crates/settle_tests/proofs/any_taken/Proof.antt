@@ -5,7 +5,7 @@ use mathlib.Core.Bool.{false}
 use native.Mathlib.Omega.{arith}
 use Rattle.ids.specs.Ids.{anyTo}
 use Rattle.ids.specs.Tests.{any-none, any-at}
-use Rattle.tallying.specs.Entries.{takenAt}
+use Rattle.settle_tests.specs.Entries.{takenAt}
 use Rattle.settle_tests.proofs.any_taken.Statement.{statement}
 use Rattle.settle_tests.proofs.any_taken.Tie as tie
 

@@ -9,7 +9,7 @@ use Rattle.owed.specs.Owed as owed
 use Rattle.owed_laws.specs.Limits.{limits}
 use Rattle.owed_laws.specs.Bounds.{shortfall-le, raised-le}
 use Rattle.settle_facts.specs.Looks.{facts}
-use Rattle.tallying.specs.Sums.{committed-most, reduction-most, worth-most, shortfall-is, base-is}
+use Rattle.settle_tests.specs.Sums.{committed-most, reduction-most, worth-most, shortfall-is, base-is}
 use Rattle.settle_tests.proofs.charge_of.Statement.{statement}
 use Rattle.settle_tests.proofs.charge_of.Tie as tie
 use Rattle.year.specs.Year.{deficit}

@@ -8,8 +8,8 @@ use Rattle.owed.specs.Owed.{test}
 use Rattle.settle_facts.specs.Looks.{facts}
 use Rattle.settle_table.specs.Places.{size, testRow}
 use Rattle.settle_table.specs.Rows.{Aside, aside-none, aside-more, Row, row-same, row-first, row-more}
-use Rattle.tallying.specs.Entries.{unless, none-taken}
-use Rattle.tallying.specs.Sums.{Summed}
+use Rattle.settle_tests.specs.Entries.{unless, none-taken}
+use Rattle.settle_tests.specs.Sums.{Summed}
 use Rattle.settle_tests.proofs.charge_tests.Statement.{statement}
 use Rattle.settle_tests.proofs.charge_tests.Tie as tie
 

@@ -3,7 +3,7 @@ use mathlib.Core.Path.{sym, _∙_}
 use native.Mathlib.Omega.{arith}
 use borrow.Author.Needs.{needs}
 use Rattle.owed_laws.specs.Limits.{limits}
-use Rattle.tallying.specs.Entries.{deficit-in}
+use Rattle.settle_tests.specs.Entries.{deficit-in}
 use Rattle.settle_tests.proofs.deficit_of.Statement.{statement}
 use Rattle.settle_tests.proofs.deficit_of.Tie as tie
 

@@ -3,7 +3,7 @@ use borrow.Author.Needs.{needs}
 use mathlib.Core.Path.{_∙_}
 use native.Mathlib.Omega.{arith}
 use Rattle.year_cells.specs.Regions.{stepped}
-use Rattle.year_steps.specs.Laying.{call-laid}
+use Rattle.year_steps.specs.StepsLaid.{call-laid}
 use Rattle.year.specs.Kept.{sound-event}
 use Rattle.year_steps.proofs.call.Statement.{statement}
 use Rattle.year_steps.proofs.call.Tie as tie

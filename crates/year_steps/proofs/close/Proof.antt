@@ -2,7 +2,7 @@
 use borrow.Author.Needs.{needs}
 use mathlib.Core.Path.{_∙_}
 use Rattle.year_cells.specs.Regions.{stepped}
-use Rattle.year_steps.specs.Laying.{close-laid}
+use Rattle.year_steps.specs.StepsLaid.{close-laid}
 use Rattle.year.specs.Kept.{sound-close}
 use Rattle.year_steps.proofs.close.Statement.{statement}
 use Rattle.year_steps.proofs.close.Tie as tie

@@ -5,7 +5,7 @@ use Rattle.year_cells.specs.Regions.{stepped}
 use Rattle.year_test_steps.specs.Laying.{retest-laid}
 use Rattle.year_test_steps.proofs.retest.Statement.{statement}
 use Rattle.year_test_steps.proofs.retest.Tie as tie
-use Rattle.merging.proofs.enter.Reads as enter-reads
+use Rattle.year_test_steps.proofs.merging.enter.Reads as enter-reads
 
 returns : tie.Need-returns
 returns c =

@@ -7,7 +7,7 @@ use Rattle.year_test_steps.specs.Laying.{test-laid}
 use Rattle.year_test_steps.proofs.test.Statement.{statement}
 use Rattle.year_test_steps.proofs.test.Tie as tie
 use Rattle.year_cells.proofs.lay.Reads as lay-reads
-use Rattle.merging.proofs.enter.Reads as enter-reads
+use Rattle.year_test_steps.proofs.merging.enter.Reads as enter-reads
 
 returns : tie.Need-returns
 returns c =

@@ -1,2 +1,0 @@
--- What registrations lend their areas.
-pub mod Lent

@@ -1,0 +1,31 @@
+// A month closed: its statement issued, and the amounts kept.
+ghost use mathlib.Core.Path.{_≡_};
+ghost use mathlib.Core.List.{_++_};
+ghost use Prim.Native.Nat.{_+_, _≤_, _<_};
+ghost use lib.ListN.{length, drop};
+ghost use Rattle.year.specs.Steps.{withClose};
+ghost use Rattle.owed.specs.Facts.{factsOf};
+ghost use Rattle.owed.specs.Owed.{amounts};
+ghost use Rattle.year_cells.specs.Layout.{yearIn, Held};
+ghost use Rattle.book_accept.specs.Closing.{closing};
+use year_cells::Cells;
+
+// Closes the month; its statement goes to the front of the buffer. Answers the statement's bytes.
+pub fn close(year: &mut Cells, month: u64, buffer: &mut [u8]) -> usize
+    requires { ⌜ Held (now year) ⌝ }
+    requires { ⌜ yearIn (now year) .closed < 15 ⌝ }
+    requires { ⌜ month ≡ yearIn (now year) .closed + 1 ⌝ }
+    requires { ⌜ 354 ≤ length (now buffer) ⌝ }
+    ensures equals { λ r. ⌜ yearIn (now (year .exit)) ≡ (let y = yearIn (now (year .entry)) in withClose y (amounts (factsOf y) month)) ⌝ }
+    ensures held { λ r. ⌜ Held (now (year .exit)) ⌝ }
+    ensures leaves { λ r. ⌜ now (buffer .exit) ≡ (let s = closing (yearIn (now (year .entry))) month in s ++ drop (length s) (now (buffer .entry))) ⌝ }
+    ensures writes { λ r. ⌜ r ≡ length (closing (yearIn (now (year .entry))) month) ⌝ }
+{
+    let terms = year_copies::terms_of(year);
+    let registrations = terms.registrations;
+    let owed = settle_closing::amounts_of(registrations, year, month);
+    let billed = year_copies::billed_of(year);
+    let written = statement::write_statement(terms, month, owed, billed, buffer);
+    year_steps::close(year, owed);
+    written
+}

@@ -1,2 +1,0 @@
--- A closing: the working table when it begins and when it is done.
-pub mod Closing

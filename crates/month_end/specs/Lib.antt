@@ -1,2 +1,0 @@
--- The statement of a close.
-pub mod Closing

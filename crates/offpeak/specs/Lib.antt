@@ -1,2 +1,0 @@
--- What is measured off-peak apart.
-pub mod OffPeak

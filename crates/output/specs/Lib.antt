@@ -1,2 +1,0 @@
--- Output that is gathered in a lent buffer.
-pub mod Room

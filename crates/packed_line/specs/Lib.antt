@@ -1,2 +1,0 @@
--- The record of a line.
-pub mod Packs

@@ -1,2 +1,0 @@
--- The passes over the accepted events, one after the other.
-pub mod Passes

@@ -1,2 +1,0 @@
--- What one listed registration is charged.
-pub mod Pricing

@@ -1,3 +1,0 @@
-pub mod Find
-pub mod Digits
-pub mod Words

@@ -1,0 +1,78 @@
+-- A closing: the working table after the events and after the tests, and the amounts in its rows when it is done.
+use Prim.Native.Nat.{ℕ, _+_, _≤_}
+use mathlib.Core.Path.{_≡_, _∙_}
+use mathlib.Core.List.{List}
+use lib.ListN.{length}
+use native.Mathlib.Omega.{arith}
+use Rattle.ids.specs.Ids.{tabulate}
+use Rattle.ids.specs.Tables.{tabulate-same}
+use Rattle.year.specs.declared.Amounts.{Amounts}
+use Rattle.year_cells.specs.Rows.{from}
+use Rattle.allotment.specs.Allot.{share}
+use Rattle.year.specs.Year as year
+use Rattle.owed.specs.Facts.{Facts}
+use Rattle.owed.specs.Owed.{amounts}
+use Rattle.owed.specs.Owed as owed
+use Rattle.settle_facts.specs.Looks.{facts}
+use Rattle.settle_table.specs.Columns.{columns-aside}
+use Rattle.settle_table.specs.Places.{size, callsRow, calledRow, complianceRow, creditRow, testRow, lseRow, passedPlaces}
+use Rattle.settle_table.specs.Rows.{Aside, Row, none, mark, row-aside, row-within}
+use Rattle.settle_rates.specs.Rating.{Rated}
+use Rattle.settle_tests.specs.Entries.{Ready}
+use Rattle.settle_lses.specs.Lses.{net, lses-are}
+
+-- sixteen numbers from p on
+abbrev pub numbers : List ℕ → ℕ → List ℕ
+numbers w p = tabulate 16 (from p w)
+
+module _ (c : List ℕ) (k : ℕ) where
+  abbrev F : Facts
+  F = facts c
+
+  -- after the events, and after the tests
+  pub record Evented (w : List ℕ) : Type 0 where
+    pub ready : Ready c w
+    pub compliance : Row w complianceRow 16 (owed.compliance F k)
+    pub credit : Row w creditRow 16 (owed.credit F k)
+    pub test : Row w testRow 16 none
+    pub lse : Row w lseRow 16 none
+
+  pub record Tested (w : List ℕ) : Type 0 where
+    pub long : length w ≡ size
+    pub compliance : Row w complianceRow 16 (owed.compliance F k)
+    pub credit : Row w creditRow 16 (owed.credit F k)
+    pub test : Row w testRow 16 (owed.test F k)
+    pub lse : Row w lseRow 16 none
+
+  pub evented : {w v : List ℕ} → Rated c w → Aside callsRow passedPlaces w v → Row v calledRow 64 (λ i. mark (owed.called F i)) → Row v complianceRow 16 (owed.compliance F k) → Row v creditRow 16 (owed.credit F k) → Evented v
+  evented h a called x z =
+      record {
+        ready = record { columns = columns-aside (h .columns) a (omega arith) (omega arith); called = called; place = row-aside (h .place) a (λ j l x y. omega arith) };
+        compliance = x;
+        credit = z;
+        test = row-aside (row-within testRow 16 (h .fresh) (omega arith) (omega arith)) a (λ j l x y. omega arith);
+        lse = row-aside (row-within lseRow 16 (h .fresh) (omega arith) (omega arith)) a (λ j l x y. omega arith);
+      }
+
+  pub tested : {w v : List ℕ} → Evented w → Aside testRow 16 w v → Row v testRow 16 (owed.test F k) → Tested v
+  tested h a r =
+      record {
+        long = a .long ∙ h .ready .columns .long;
+        compliance = row-aside (h .compliance) a (λ j l x y. omega arith);
+        credit = row-aside (h .credit) a (λ j l x y. omega arith);
+        test = r;
+        lse = row-aside (h .lse) a (λ j l x y. omega arith);
+      }
+
+  -- the amounts in their rows
+  pub amounts-are : {w v : List ℕ} → Tested w → Aside lseRow 16 w v → Row v lseRow 16 (share 16 (year.obligation (F .terms)) (net w))
+      → _≡_ {A = Amounts} (record { compliance = numbers v complianceRow; test = numbers v testRow; credit = numbers v creditRow; lse = numbers v lseRow }) (amounts F k)
+  unfolding amounts
+  amounts-are {w} {v} h a r =
+      let kept : (p n : ℕ) (f : ℕ → ℕ) → p + n ≤ lseRow → Row w p n f → Row v p n f = λ p n f l q. row-aside q a (λ j m x y. omega arith) in
+      cc (
+        tabulate-same 16 (kept complianceRow 16 _ (omega arith) (h .compliance) .is),
+        tabulate-same 16 (kept testRow 16 _ (omega arith) (h .test) .is),
+        tabulate-same 16 (kept creditRow 16 _ (omega arith) (h .credit) .is),
+        tabulate-same 16 (λ j l. r .is j l ∙ lses-are c k (h .compliance) (h .test) (h .credit) j),
+      )

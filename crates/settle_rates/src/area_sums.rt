@@ -1,0 +1,45 @@
+// What a registration lends its area, added to the area's sums in the working table.
+ghost use mathlib.Core.Bool.{cond};
+ghost use mathlib.Core.Path.{_≡_};
+ghost use Prim.Native.Nat.{_+_, _<_};
+ghost use lib.Dec.{ltb};
+ghost use lib.ListN.{length};
+ghost use Rattle.year.specs.Year.{registration};
+ghost use Rattle.year_cells.specs.Layout.{yearIn, Held};
+ghost use Rattle.owed.specs.Owed.{own};
+ghost use Rattle.settle_facts.specs.Looks.{facts};
+ghost use Rattle.settle_table.specs.Places.{size, lentRow};
+ghost use Rattle.settle_table.specs.Rows.{Aside};
+ghost use Rattle.settle_rates.specs.Lent.{Lending};
+use settle_table::Work;
+use units::Nominated;
+use year::Registration;
+use year_cells::Cells;
+
+// What a registration lends: all that it committed, at a rate of 0 nothing.
+fn lent_by(committed: Nominated, own: u64) -> Nominated
+    ensures { λ r. ⌜ r .0 ≡ cond (ltb 0 own) (committed .0) 0 ⌝ }
+{
+    if own == 0 {
+        return Nominated(0);
+    }
+    committed
+}
+
+// What a registration lends goes to its area's sums. Gives its own rate.
+pub fn lend(year: &Cells, work: &mut Work, i: usize, r: Registration) -> u64
+    requires { ⌜ Held (now year) ⌝ }
+    requires { ⌜ (i < 64) × (r ≡ registration (yearIn (now year) .terms) i) ⌝ }
+    requires { ⌜ (length (now work) ≡ size) × Lending (facts (now year)) i (now work) ⌝ }
+    ensures own { λ r. ⌜ r ≡ own (facts (now (year .entry))) i ⌝ }
+    ensures lending { λ _. ⌜ Lending (facts (now (year .entry))) (i + 1) (now (work .exit)) ⌝ }
+    ensures aside { λ _. ⌜ Aside lentRow 16 (now (work .entry)) (now (work .exit)) ⌝ }
+{
+    let own = crate::own_rates::own_rate(year, i, r);
+    let lent = lent_by(r.committed, own);
+    let worth = lent.0 * own;
+    let area = r.area as usize;
+    settle_table::add_at(work, settle_table::LENT, area, lent.0);
+    settle_table::add_at(work, settle_table::WORTH, area, worth);
+    own
+}

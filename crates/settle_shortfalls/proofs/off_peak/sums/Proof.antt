@@ -1,0 +1,66 @@
+-- `settle_shortfalls::off_peak::sums` meets its contract. The loop's invariant: the entries before i are added up. Assumes nothing.
+use Prim.Native.Nat.{_+_, _-_}
+use mathlib.Core.Path.{ap, sym, _∙_}
+use mathlib.Core.Logic.{⊎-elim}
+use native.Mathlib.Omega.{arith}
+use Rattle.settle_facts.specs.Looks.{facts}
+use Rattle.owed_laws.specs.Limits.{limits}
+use Rattle.settle_table.specs.Places.{offMoreRow}
+use Rattle.settle_shortfalls.specs.Sums.{lack-room, more-room}
+use Rattle.settle_shortfalls.specs.declared.off_peak.Entry.{Entry}
+use Rattle.settle_shortfalls.specs.OffPeak.{Weighing, weighing-first, weighing-none, weighing-more, weighing-all, second-small}
+use Rattle.settle_shortfalls.proofs.off_peak.sums.Statement.{statement}
+use Rattle.settle_shortfalls.proofs.off_peak.sums.Tie as tie
+
+abbrev Inv-loop : tie.InvT-loop
+Inv-loop year work₀ ev i₀ work i = Weighing (facts year) ev i work₀ work
+
+abbrev μ-loop : tie.MeasureT-loop
+μ-loop year work₀ ev i₀ work i = 64 - i
+
+add-at-requires : tie.Need-add-at-requires Inv-loop μ-loop
+add-at-requires c κs =
+    let l = c .before .before .before .before .before .loop in
+    let s = c .before .before .before .before .before .before in
+    let L = limits (s .pre .0 .sound) in
+    let b = L .seller (l .i) in
+    rw (c .before .before .entry-at .ensures) (omega (arith, b, l .inv .entries .columns .long), omega (arith, L .committed (l .i), lack-room (l .inv .sums) L (l .inv .upto) _ b))
+
+add-at-requires-2 : tie.Need-add-at-requires-2 Inv-loop μ-loop
+add-at-requires-2 c κs =
+    let l = c .before .before .before .before .before .before .before .loop in
+    let s = c .before .before .before .before .before .before .before .before in
+    let L = limits (s .pre .0 .sound) in
+    let b = L .seller (l .i) in
+    let e = c .before .before .before .before .entry-at .ensures in
+    let d = rw e at (c .before .add-at .ensures) in
+    let kept = d .others (offMoreRow + facts (s .args .year .now) .seller (l .i)) (λ z. omega (arith, b)) in
+    rw e (omega (arith, b, d .long, l .inv .entries .columns .long), omega (arith, second-small L (s .args .ev) (l .i), kept, more-room (l .inv .sums) L (l .inv .upto) _ b (L .offPeak (s .args .ev))))
+
+loop-again : tie.Need-loop-again Inv-loop μ-loop
+loop-again c =
+    let l = c .before .before .before .before .loop in
+    let e = c .before .entry-at .ensures in
+    let measured = sym (ap (λ (x : Entry). x .measured) e) in
+    ⊎-elim
+    (λ a. rw (a .5) (weighing-more (l .inv) (omega arith) (measured ∙ a .0 .taken) (limits (c .before .before .before .before .before .pre .0 .sound) .seller (l .i)) (rw e at (a .2 .ensures)) (rw e at (a .4 .ensures))))
+    (λ a. rw (a .1) (weighing-none (l .inv) (omega arith) (measured ∙ a .0 .left)))
+    (c .if1 .came)
+
+returns : tie.Need-returns Inv-loop μ-loop
+returns c = let v = c .before .loop .inv in (weighing-all v (omega (arith, v .upto)), v .aside)
+
+pub sums-spec : {M : Type 1} → statement M
+sums-spec =
+    tie.close
+    (tie.spec
+    Inv-loop
+    μ-loop
+    (λ c. weighing-first (c .args .ev) (c .pre .1 .1 .0) (c .pre .1 .1 .1))
+    (λ c κs. (c .before .before .before .pre .0, ((c .before .before .before .pre .1 .0, omega arith), c .before .before .loop .inv .entries)))
+    add-at-requires
+    add-at-requires-2
+    (λ c. omega arith)
+    (λ c. omega arith)
+    loop-again
+    returns)

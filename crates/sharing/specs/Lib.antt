@@ -1,2 +1,0 @@
--- Pass 3: u and e entry by entry.
-pub mod Sharing

@@ -1,0 +1,48 @@
+// A listing's entries put into a table of entries by registration.
+ghost use mathlib.Core.Path.{_≡_};
+ghost use Prim.Native.Nat.{_+_, _≤_, _<_};
+ghost use lib.ListN.{length};
+ghost use Rattle.year_test_steps.specs.Entered.{mergedAt, merged, Entered};
+use year_cells::Cells;
+use year_cells::lay;
+
+// An entry of a table with a listing's: where it lists, its own.
+fn merged_at(year: &Cells, place: usize, listing: &[u64], part: usize, i: usize) -> u64
+    requires { ⌜ place + i < 4807 ⌝ }
+    requires { ⌜ i < length (now listing) ⌝ }
+    requires { ⌜ part + i < length (now listing) ⌝ }
+    ensures { λ r. ⌜ r ≡ mergedAt (now (year .entry)) place (now (listing .entry)) part i ⌝ }
+{
+    if listing[i] != 0 {
+        return listing[part + i];
+    }
+    year[place + i]
+}
+
+// All of them.
+fn merge(year: &Cells, place: usize, listing: &[u64], part: usize) -> [u64; 64]
+    requires { ⌜ place + 64 ≤ 4807 ⌝ }
+    requires { ⌜ part + 64 ≤ length (now listing) ⌝ }
+    ensures { λ r. ⌜ r ≡ merged (now (year .entry)) place (now (listing .entry)) part ⌝ }
+{
+    let mut entries = [0u64; 64];
+    let mut i: usize = 0;
+    while i < 64 {
+        entries[i] = merged_at(year, place, listing, part, i);
+        i += 1;
+    }
+    entries
+}
+
+// A listing's entries go into a table: 64 marks, then 64 reductions.
+pub fn enter(year: &mut Cells, table: usize, listing: &[u64])
+    requires { ⌜ length (now year) ≡ 4807 ⌝ }
+    requires { ⌜ table + 128 ≤ 4807 ⌝ }
+    requires { ⌜ length (now listing) ≡ 208 ⌝ }
+    ensures { λ r. ⌜ Entered table (now (listing .entry)) (now (year .entry)) (now (year .exit)) ⌝ }
+{
+    let marks = merge(year, table, listing, 0);
+    let reductions = merge(year, table + 64, listing, 64);
+    lay(year, table, &marks);
+    lay(year, table + 64, &reductions);
+}
