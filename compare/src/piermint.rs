@@ -175,3 +175,14 @@ bill_by!(piermint_bill);
 
 #[cfg(feature = "before")]
 pub(crate) use bill_by;
+
+#[cfg(test)]
+mod tests {
+    /// tests/piermint.c holds the header to the library.
+    #[test]
+    fn cells_are_as_many_as_the_header_says() {
+        let line = format!("#define PIERMINT_CELLS {}", super::CELLS);
+        let header = include_str!("../piermint.h");
+        assert!(header.lines().any(|defined| defined == line), "{line}");
+    }
+}

@@ -1,9 +1,7 @@
 /*
  * Calls the static library on document 01's Year A, on its edges, on samples of telemetry, and on
- * retests:
- *
- *     cc -std=c99 -Icompare compare/tests/piermint.c target/staticlib/libpiermint.a -o target/piermint
- *     target/piermint examples/year-a.bin
+ * retests, and holds the header's constants to it: one that is too small fails, and so does one that
+ * is too large. tests/library compiles and runs it.
  */
 #include "piermint.h"
 
@@ -12,6 +10,7 @@
 
 #define ROOM (PIERMINT_CLOSES * PIERMINT_STATEMENT)
 #define MARK 0xA5
+#define MARKS UINT64_C(0xA5A5A5A5A5A5A5A5)
 
 static int failures = 0;
 
@@ -32,6 +31,25 @@ static uint64_t field(const uint8_t *bytes, size_t *bit, int width)
     return value;
 }
 
+/* A new book is written to PIERMINT_CELLS cells, each of them, and to none beside them. */
+static void makes_its_cells(void)
+{
+    enum { BESIDE = 8192 }; /* enough for a constant that is far too small */
+    static uint64_t cells[BESIDE + PIERMINT_CELLS + BESIDE];
+    size_t kept = 0, spoilt = 0;
+
+    memset(cells, MARK, sizeof cells);
+    piermint_new(cells + BESIDE);
+    for (size_t i = 0; i < sizeof cells / sizeof cells[0]; i++) {
+        if (i >= BESIDE && i < BESIDE + PIERMINT_CELLS)
+            kept += cells[i] == MARKS;
+        else
+            spoilt += cells[i] != MARKS;
+    }
+    expect(kept == 0, "PIERMINT_CELLS is too large: a new book leaves a cell as it was");
+    expect(spoilt == 0, "PIERMINT_CELLS is too small: a new book writes a cell beside its own");
+}
+
 /* The opening of Year A: 14 A3 95 18 00 is kind 1, not leap, factors 9,500 and 10,800. */
 static void reads_and_writes(void)
 {
@@ -45,7 +63,7 @@ static void reads_and_writes(void)
     expect(piermint_read(opening, sizeof opening, numbers, PIERMINT_NUMBERS, &count, &used) == 0, "the opening is read");
     expect(count == 4 && used == 5, "it has four numbers and five bytes");
     expect(memcmp(numbers, expected, sizeof expected) == 0, "its numbers");
-    expect(numbers[4] == UINT64_C(0xA5A5A5A5A5A5A5A5), "past them nothing is read");
+    expect(numbers[4] == MARKS, "past them nothing is read");
 
     memset(bytes, MARK, sizeof bytes);
     expect(piermint_write(numbers, count, bytes, sizeof bytes, &used) == 0, "it is written");
@@ -161,7 +179,7 @@ static void bills(uint8_t *year, size_t length)
     expect(piermint_bill(year, length, numbers, 16, statements, ROOM, &used, &written) == 8, "eight records");
     expect(used == length && written == 46, "all is used, and a statement of 46 bytes written");
     expect(memcmp(numbers, expected, sizeof expected) == 0, "their numbers");
-    expect(numbers[8] == UINT64_C(0xA5A5A5A5A5A5A5A5), "past them no number");
+    expect(numbers[8] == MARKS, "past them no number");
     expect(statements[46] == MARK && statements[ROOM - 1] == MARK, "past the statement nothing");
     says_close_1(statements);
 
@@ -209,6 +227,24 @@ static void takes_each(const uint8_t *year, size_t length)
     says_close_1(buffer);
     expect(piermint_post(cells, year + at, length - at, buffer, sizeof buffer, &used, &written) == 15, "close 1 again: 15");
     expect(used == 1 && written == 0, "writes no statement");
+}
+
+/* Year A's first six records, then PIERMINT_CLOSES closes, and one that finds the book closed. */
+static void closes_each_month(const uint8_t *year, size_t length)
+{
+    static uint64_t cells[PIERMINT_CELLS];
+    uint8_t buffer[PIERMINT_STATEMENT], close = 0x60;
+    size_t at = 0, used = 99, written = 99;
+
+    piermint_new(cells);
+    for (int i = 0; i < 6; i++, at += used)
+        expect(piermint_post(cells, year + at, length - at, buffer, sizeof buffer, &used, &written) == 0, "six records");
+    for (int month = 1; month <= PIERMINT_CLOSES; month++) {
+        close++;
+        expect(piermint_post(cells, &close, 1, buffer, sizeof buffer, &used, &written) == 0, "PIERMINT_CLOSES closes are taken");
+        expect(written == 46 && buffer[0] >> 4 == month, "each with its month's statement");
+    }
+    expect(piermint_post(cells, &close, 1, buffer, sizeof buffer, &used, &written) == 6, "after PIERMINT_CLOSES closes: 6");
 }
 
 /*
@@ -263,12 +299,16 @@ int main(int argc, char **argv)
     size_t length = fread(year, 1, sizeof year - 1, file);
     fclose(file);
 
+    makes_its_cells();
+    if (failures != 0)
+        return 1; /* what follows lends so many cells */
     reads_and_writes();
     takes_two_reductions();
     answers_samples();
     writes_samples(year);
     bills(year, length);
     takes_each(year, length);
+    closes_each_month(year, length);
     bills_a_retest();
     printf("%s\n", failures == 0 ? "the static library answers as the documents say" : "the static library differs");
     return failures != 0;
