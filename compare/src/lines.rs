@@ -13,15 +13,18 @@ const UNTOUCHED: u8 = 0xA5;
 /// `HEX ROOM` of each record, all into one new book, to `number consumed statement`.
 pub fn take(lines: &str) -> String {
     let mut book = Book::new();
-    answer_each(lines, |line| {
-        let (bytes, room) = bytes_and_room(line);
-        let mut buffer = vec![UNTOUCHED; room];
-        let taken = book.take(&bytes, &mut buffer);
-        let (statement, rest) = buffer.split_at(taken.written);
-        assert!(rest.iter().all(|byte| *byte == UNTOUCHED));
-        let statement = to_hex(statement);
-        format!("{} {} {statement}", taken.number, taken.consumed)
-    })
+    answer_each(lines, |line| take_into(&mut book, line))
+}
+
+/// `HEX ROOM` of a record into this book, to `number consumed statement`.
+pub fn take_into(book: &mut Book, line: &str) -> String {
+    let (bytes, room) = bytes_and_room(line);
+    let mut buffer = vec![UNTOUCHED; room];
+    let taken = book.take(&bytes, &mut buffer);
+    let (statement, rest) = buffer.split_at(taken.written);
+    assert!(rest.iter().all(|byte| *byte == UNTOUCHED));
+    let statement = to_hex(statement);
+    format!("{} {} {statement}", taken.number, taken.consumed)
 }
 
 /// `HEX ROOM` to `number count used numbers..`.
