@@ -67,11 +67,11 @@ share-same {n} {i} {w} {v} a h l =
 -- if the amount is at most all weights, and together they are never more than the amount.
 pub record Allotted (n : ℕ) (w : ℕ → ℕ) (a : ℕ) (shares : ℕ → ℕ) : Type 0 where
   pub all : 0 < sumTo n w → sumTo n shares ≡ a
-  pub most : a ≤ sumTo n w → (i : ℕ) → shares i ≤ w i
+  pub at-most : a ≤ sumTo n w → (i : ℕ) → shares i ≤ w i
   pub within : sumTo n shares ≤ a
 
 pub allotted : (n : ℕ) (w : ℕ → ℕ) (a : ℕ) → Allotted n w a (share n w a)
-allotted n w a = record { all = shares-all n w a; most = λ h i. share-le n w a i h; within = shares-le n w a }
+allotted n w a = record { all = shares-all n w a; at-most = λ h i. share-le n w a i h; within = shares-le n w a }
 
 -- nor does a share exceed the amount
 pub one-share : {n a i : ℕ} {w shares : ℕ → ℕ} → Allotted n w a shares → i < n → shares i ≤ a

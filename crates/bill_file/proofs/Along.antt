@@ -13,7 +13,7 @@ use Rattle.record_file.specs.Walk.{ends, recordsTo}
 use Rattle.record_file.specs.WalkLaws.{records-none, records-first}
 use Rattle.book_recorded.specs.Recorded.{gather}
 use Rattle.claim_history.specs.Runs.{Call, statements}
-use Rattle.claim_history.specs.Taking.{numberOf, step, answered, answers}
+use Rattle.claim_history.specs.Taking.{callNumber, step, answered, answers}
 use Rattle.claim_history.specs.Files.{callsOf, numbers, joined}
 use Rattle.claim_history.specs.FileLaws.{ends-post, joined-first}
 use Rattle.bill_file.specs.Billed.{Bill, statement, behind, consumedBy, billed, Leaves}
@@ -62,7 +62,7 @@ module _ {whole : Bill} {numbers₀ statements₀ numbers statements : List ℕ}
       record { counts = n .0; uses = omega (arith, a .uses); writes = s .0; answers = n .1; leaves = s .1 }
 
 -- a bill by its first record, if there is one
-billed-first : (y : Year) (c : Call) (cs : List Call) → billed y (c ∷ cs) ≡ before (numberOf y c) (consumed (c .bytes)) (statement y c) (billed (step y c) cs)
+billed-first : (y : Year) (c : Call) (cs : List Call) → billed y (c ∷ cs) ≡ before (callNumber y c) (consumed (c .bytes)) (statement y c) (billed (step y c) cs)
 unfolding answered gather consumedBy statement
 billed-first y c cs = rw (joined-first y c cs)
 
@@ -85,7 +85,7 @@ module _ (n : ℕ) (y : Year) (bytes buffer : List ℕ) where
       let later = cond (ends (recordNumber bytes)) [] (recordsTo n (drop (consumed bytes) bytes)) in
       ap (λ (rs : List (List ℕ)). billed y (callsOf behind y rs buffer)) (records-first n bytes l)
       ∙ billed-first y call (callsOf behind (step y call) later (behind y call))
-      ∙ ap (λ (b : Bill). before (numberOf y call) (consumed bytes) (statement y call) b)
+      ∙ ap (λ (b : Bill). before (callNumber y call) (consumed bytes) (statement y call) b)
       (unless (ends (recordNumber bytes)) (step y call) (recordsTo n (drop (consumed bytes) bytes)) (behind y call)
       ∙ ap (λ (b : Bool). cond b nothing (from n (step y call) (drop (consumed bytes) bytes) (behind y call))) (sym (ends-post y bytes (length buffer))))
 

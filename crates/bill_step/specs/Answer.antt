@@ -7,7 +7,7 @@ use Rattle.year.specs.declared.Year.{Year}
 use Rattle.year.specs.Year.{newYear}
 use Rattle.record_file.specs.Walk.{recordsIn}
 use Rattle.claim_history.specs.Runs.{Call}
-use Rattle.claim_history.specs.Taking.{numberOf, buffered, step, answers}
+use Rattle.claim_history.specs.Taking.{callNumber, buffered, step, answers}
 use Rattle.claim_history.specs.Claim.{Demand3}
 use Rattle.claim_history.specs.Files.{callsOf}
 use Rattle.claim_history.specs.Proof.{demand3}
@@ -16,7 +16,7 @@ use Rattle.bill_step.specs.declared.Course.{Course}
 
 -- of the call at a position that gets the year y: a refusal's line, an accepted close's statement, of any other record nothing
 unfoldable pub answerText : ℕ → Year → Call → List ℕ
-answerText position y c = answerLines position (kindOf (c .bytes)) (numberOf y c) (buffered y c)
+answerText position y c = answerLines position (kindOf (c .bytes)) (callNumber y c) (buffered y c)
 
 -- of calls, the first at a position
 unfoldable pub textOf : ℕ → Year → List Call → List ℕ

@@ -14,7 +14,7 @@ use Rattle.record_file.specs.Walk.{ends, recordsIn}
 use Rattle.record_file.specs.WalkLaws.{records-in}
 use Rattle.record_file.specs.Window.{Alike, cut-alike, same-kind, same-consumed}
 use Rattle.claim_history.specs.Runs.{Call}
-use Rattle.claim_history.specs.Taking.{numberOf, buffered, step}
+use Rattle.claim_history.specs.Taking.{callNumber, buffered, step}
 use Rattle.claim_history.specs.Files.{callsOf}
 use Rattle.claim_history.specs.FileLaws.{same-post, same-year, same-buffer, ends-post}
 use Rattle.text_bill.specs.Text.{answerLines}
@@ -73,11 +73,11 @@ module _ (position : ℕ) (y : Year) (rest buffer : List ℕ) (n : ℕ) (enough 
   unfolding buffered
   same-buffered = same-buffer alike y buffer
 
-  same-end : ends (numberOf y call) ≡ ends (recordNumber rest)
+  same-end : ends (callNumber y call) ≡ ends (recordNumber rest)
   same-end = ap ends (same-post alike y (length buffer)) ∙ ends-post y rest (length buffer)
 
   pub text-first : 0 < length rest
       → textOf position y (callsOf buffered y (recordsIn rest) buffer)
       ≡ answerText position y call
-      ++ cond (ends (numberOf y call)) [] (textOf (position + 1) (step y call) (callsOf buffered (step y call) (recordsIn (drop (consumed (take n rest)) rest)) (buffered y call)))
+      ++ cond (ends (callNumber y call)) [] (textOf (position + 1) (step y call) (callsOf buffered (step y call) (recordsIn (drop (consumed (take n rest)) rest)) (buffered y call)))
   text-first l = rw (same-answer, same-end, same-step, same-buffered, same-consumed alike) (whole-first position y full l)

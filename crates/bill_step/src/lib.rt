@@ -3,7 +3,7 @@ use book::Posted;
 use year_cells::Cells;
 ghost use mathlib.Core.Path.{_≡_};
 ghost use Prim.Native.Nat.{_+_};
-ghost use Rattle.year_cells.specs.Layout.{yearIn, Held};
+ghost use Rattle.year_cells.specs.Layout.{yearIn, ValidCells};
 ghost use Rattle.book_outcome.specs.Outcome.{Posts};
 ghost use Rattle.text.specs.Pasted.{Pasted};
 ghost use Rattle.bill_step.specs.Answer.{answerText, Ready};
@@ -28,12 +28,12 @@ pub fn step(
     statement: &mut [u8],
     out: &mut [u8],
 ) -> Answered
-    requires { ⌜ Held (now year) ⌝ }
+    requires { ⌜ ValidCells (now year) ⌝ }
     requires { ⌜ Ready course (now bytes) (now statement) (now out) ⌝ }
     ensures posts { λ r. ⌜ Posts (yearIn (now (year .entry))) (now (bytes .entry)) (now (statement .entry)) (r .posted .number) (r .posted .used) (r .posted .written) (yearIn (now (year .exit))) (now (statement .exit)) ⌝ }
     ensures prints { λ r. ⌜ Pasted (now (out .entry)) (now (out .exit)) (course .at) (answerText (course .position) (yearIn (now (year .entry))) (record { bytes = now (bytes .entry); buffer = now (statement .entry) })) (r .next .at) ⌝ }
     ensures counts { λ r. ⌜ r .next .position ≡ course .position + 1 ⌝ }
-    ensures held { λ r. ⌜ Held (now (year .exit)) ⌝ }
+    ensures valid { λ r. ⌜ ValidCells (now (year .exit)) ⌝ }
 {
     let position = course.position;
     let kind = bytes[0] >> 4;

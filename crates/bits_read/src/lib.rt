@@ -39,7 +39,7 @@ impl Cursor {
     }
 
     // The field of width bits here.
-    pub fn take(self, bytes: &[u8], width: usize) -> Field
+    pub fn read_field(self, bytes: &[u8], width: usize) -> Field
         requires { ⌜ FieldFits (now bytes) (self .at) width ⌝ }
         ensures { λ r. ⌜ FieldRead (now (bytes .entry)) (self .at) width (r .value) (r .next .at) ⌝ }
     {
@@ -57,7 +57,7 @@ impl Cursor {
     }
 
     // The fields of these widths from here on, so many bits, which lie in one word of eight bytes, into out from a place on; the cursor behind them. It goes through the word, whose bits it counts from the first on, up to their end.
-    pub fn take_all(
+    pub fn read_fields(
         self,
         bytes: &[u8],
         widths: &[u8],
@@ -89,7 +89,7 @@ impl Cursor {
     }
 
     // The fields of n items from here on, each with fields of these widths, so many bits, into out from a place on; the cursor behind them.
-    pub fn take_items(
+    pub fn read_items(
         self,
         bytes: &[u8],
         widths: &[u8],
@@ -109,7 +109,7 @@ impl Cursor {
         let mut at = to;
         let mut k = 0;
         while k < n {
-            c = c.take_all(bytes, widths, bits, out, at);
+            c = c.read_fields(bytes, widths, bits, out, at);
             at += widths.len();
             k += 1;
         }

@@ -1,9 +1,9 @@
 // Taking a record: the questions, then what an accepted one does.
 ghost use mathlib.Core.Path.{_≡_};
 ghost use Rattle.year.specs.Year.{newYear};
-ghost use Rattle.year_cells.specs.Layout.{yearIn, Held};
+ghost use Rattle.year_cells.specs.Layout.{yearIn, ValidCells};
 ghost use Rattle.book_outcome.specs.Outcome.{Posts};
-use book_accept::take;
+use book_accept::accept;
 use question_number::number_of;
 use year_cells::Cells;
 
@@ -18,17 +18,17 @@ pub struct Posted {
 // A new book has no year.
 pub fn new_book() -> Cells
     ensures equals { λ r. ⌜ yearIn r ≡ newYear ⌝ }
-    ensures held { λ r. ⌜ Held r ⌝ }
+    ensures valid { λ r. ⌜ ValidCells r ⌝ }
 {
     year_cells::new_year()
 }
 
 // Takes a record. The buffer is for a close's statement: 354 bytes are enough.
 pub fn post(year: &mut Cells, bytes: &[u8], buffer: &mut [u8]) -> Posted
-    requires { ⌜ Held (now year) ⌝ }
+    requires { ⌜ ValidCells (now year) ⌝ }
     ensures posts { λ r. ⌜ Posts (yearIn (now (year .entry))) (now (bytes .entry)) (now (buffer .entry)) (r .number) (r .used) (r .written) (yearIn (now (year .exit))) (now (buffer .exit)) ⌝ }
     ensures refused { λ r. ⌜ ((r .number ≡ 0 → ⊥) → now (year .exit) ≡ now (year .entry)) ⌝ }
-    ensures held { λ r. ⌜ Held (now (year .exit)) ⌝ }
+    ensures valid { λ r. ⌜ ValidCells (now (year .exit)) ⌝ }
 {
     let mut values = [0u64; record_numbers::NUMBERS];
     let parsed = record_parse::parse(bytes, &mut values);
@@ -51,7 +51,7 @@ pub fn post(year: &mut Cells, bytes: &[u8], buffer: &mut [u8]) -> Posted
             written: 0,
         };
     }
-    let written = take(year, head, &listing, buffer);
+    let written = accept(year, head, &listing, buffer);
     Posted {
         number: 0,
         used: used,

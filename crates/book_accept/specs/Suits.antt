@@ -5,22 +5,22 @@ use mathlib.Core.Path.{_≡_}
 use lib.ListN.{getD}
 use Rattle.year.specs.declared.Listing.{Listing}
 use Rattle.year.specs.declared.Year.{Year}
-use Rattle.year.specs.Year.{clearingsOf, noTest, testPlace}
+use Rattle.year.specs.Year.{clearingsOf, noTest, testGroup}
 use Rattle.year.specs.Sound.{SoundRegistration, SoundListing, SoundEvent, SoundTest, Factors}
 use Rattle.record_heads.specs.declared.Head.{Head}
 use Rattle.record_heads.specs.declared.Head.the-variants.{Opening, Registration, Lse, Event, Test, Close, Clearing, Retest}
 use Rattle.record_heads.specs.Within.{ClearingWithin}
 use Rattle.record_heads.specs.Events.{eventOf}
-use Rattle.book_recorded.specs.After.{registrationOf, testOf}
+use Rattle.book_recorded.specs.After.{registrationOf, recordedTest}
 
 -- what an accepted record makes is sound in the year
 unfoldable pub Suits : Year → Listing → Head → Type 0
 Suits y l (Opening o) = Factors (o .leap) (o .factor) (o .requirement)
 Suits y l (Registration r) = (y .started ≡ false) × (r .id < 64) × SoundRegistration (registrationOf r)
 Suits y l (Lse j) = (j .id < 16) × (j .obligation ≤ 1000000)
-Suits y l (Event e) = (y .held < 16) × SoundEvent (eventOf e l)
+Suits y l (Event e) = (y .accepted < 16) × SoundEvent (eventOf e l)
 Suits y l (Test t) =
-    (testPlace (t .zone) (t .product) < 24) × (getD (y .tests) (testPlace (t .zone) (t .product)) noTest .taken ≡ false) × SoundTest (y .terms) (testPlace (t .zone) (t .product)) (testOf t l)
+    (testGroup (t .zone) (t .product) < 24) × (getD (y .tests) (testGroup (t .zone) (t .product)) noTest .taken ≡ false) × SoundTest (y .terms) (testGroup (t .zone) (t .product)) (recordedTest t l)
 Suits y l (Close c) = (y .closed < 15) × (c .month ≡ y .closed + 1)
 Suits y l (Clearing c) = ClearingWithin c × (clearingsOf y (c .registration) .count < 4)
 Suits y l (Retest t) = (y .started ≡ true) × SoundListing l

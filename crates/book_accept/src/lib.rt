@@ -5,11 +5,11 @@ ghost use Prim.Native.Nat.{_≤_};
 ghost use lib.ListN.{length};
 ghost use Rattle.ids.specs.Ids.{at};
 ghost use Rattle.question_list.specs.Questions.{q16};
-ghost use Rattle.year_cells.specs.Layout.{listingAt, yearIn, Held};
+ghost use Rattle.year_cells.specs.Layout.{listingAt, yearIn, ValidCells};
 ghost use Rattle.book_recorded.specs.After.{registrationOf, yearBy};
 ghost use Rattle.book_accept.specs.Leaves.{bufferWith, writtenWith};
 ghost use Rattle.book_accept.specs.Suits.{Suits};
-use crate::month_end::close;
+use crate::month_end::close_month;
 use record_heads::Head;
 use record_heads::RegistrationHead;
 use units::Nominated;
@@ -36,45 +36,45 @@ fn registration_of(r: RegistrationHead) -> Registration
 }
 
 // Changes the year by an accepted record; a close leaves its statement in the buffer. Answers the statement's bytes.
-pub fn take(year: &mut Cells, head: Head, listing: &[u64], buffer: &mut [u8]) -> usize
-    requires { ⌜ Held (now year) ⌝ }
+pub fn accept(year: &mut Cells, head: Head, listing: &[u64], buffer: &mut [u8]) -> usize
+    requires { ⌜ ValidCells (now year) ⌝ }
     requires { ⌜ length (now listing) ≡ 208 ⌝ }
     requires { ⌜ Suits (yearIn (now year)) (listingAt (at (now listing))) head ⌝ }
     requires { ⌜ q16 (length (now buffer)) head ≡ true ⌝ }
     ensures equals { λ r. ⌜ yearIn (now (year .exit)) ≡ yearBy (yearIn (now (year .entry))) (listingAt (at (now (listing .entry)))) head ⌝ }
-    ensures held { λ r. ⌜ Held (now (year .exit)) ⌝ }
+    ensures valid { λ r. ⌜ ValidCells (now (year .exit)) ⌝ }
     ensures leaves { λ r. ⌜ now (buffer .exit) ≡ bufferWith (yearIn (now (year .entry))) (record { head = head; listing = listingAt (at (now (listing .entry))) }) (now (buffer .entry)) ⌝ }
     ensures writes { λ r. ⌜ r ≡ writtenWith (yearIn (now (year .entry))) (record { head = head; listing = listingAt (at (now (listing .entry))) }) ⌝ }
 {
     match head {
         Head::Opening(o) => {
-            year_steps::open(year, o.leap, o.factor, o.requirement);
+            year_steps::add_opening(year, o.leap, o.factor, o.requirement);
             0
         }
         Head::Registration(r) => {
             let registration = registration_of(r);
-            year_steps::register(year, r.id as usize, registration);
+            year_steps::add_registration(year, r.id as usize, registration);
             0
         }
         Head::Lse(j) => {
-            year_steps::oblige(year, j.id as usize, j.obligation);
+            year_steps::add_lse(year, j.id as usize, j.obligation);
             0
         }
         Head::Event(e) => {
-            year_steps::call(year, e, listing);
+            year_steps::add_event(year, e, listing);
             0
         }
         Head::Test(t) => {
-            year_test_steps::test(year, (3 * t.zone + t.product) as usize, t.month, listing);
+            year_test_steps::add_test(year, (3 * t.zone + t.product) as usize, t.month, listing);
             0
         }
-        Head::Close(c) => close(year, c.month, buffer),
+        Head::Close(c) => close_month(year, c.month, buffer),
         Head::Clearing(c) => {
-            year_steps::clear(year, c.registration as usize, c.price, c.kw);
+            year_steps::add_clearing(year, c.registration as usize, c.price, c.kw);
             0
         }
         Head::Retest(_) => {
-            year_test_steps::retest(year, listing);
+            year_test_steps::add_retest(year, listing);
             0
         }
     }

@@ -6,18 +6,18 @@ ghost use lib.ListN.{length, drop};
 ghost use Rattle.year.specs.Steps.{withClose};
 ghost use Rattle.owed.specs.Facts.{factsOf};
 ghost use Rattle.owed.specs.Owed.{amounts};
-ghost use Rattle.year_cells.specs.Layout.{yearIn, Held};
+ghost use Rattle.year_cells.specs.Layout.{yearIn, ValidCells};
 ghost use Rattle.book_accept.specs.Closing.{closing};
 use year_cells::Cells;
 
 // Closes the month; its statement goes to the front of the buffer. Answers the statement's bytes.
-pub fn close(year: &mut Cells, month: u64, buffer: &mut [u8]) -> usize
-    requires { ⌜ Held (now year) ⌝ }
+pub fn close_month(year: &mut Cells, month: u64, buffer: &mut [u8]) -> usize
+    requires { ⌜ ValidCells (now year) ⌝ }
     requires { ⌜ yearIn (now year) .closed < 15 ⌝ }
     requires { ⌜ month ≡ yearIn (now year) .closed + 1 ⌝ }
     requires { ⌜ 354 ≤ length (now buffer) ⌝ }
     ensures equals { λ r. ⌜ yearIn (now (year .exit)) ≡ (let y = yearIn (now (year .entry)) in withClose y (amounts (factsOf y) month)) ⌝ }
-    ensures held { λ r. ⌜ Held (now (year .exit)) ⌝ }
+    ensures valid { λ r. ⌜ ValidCells (now (year .exit)) ⌝ }
     ensures leaves { λ r. ⌜ now (buffer .exit) ≡ (let s = closing (yearIn (now (year .entry))) month in s ++ drop (length s) (now (buffer .entry))) ⌝ }
     ensures writes { λ r. ⌜ r ≡ length (closing (yearIn (now (year .entry))) month) ⌝ }
 {
@@ -26,6 +26,6 @@ pub fn close(year: &mut Cells, month: u64, buffer: &mut [u8]) -> usize
     let owed = settle_closing::amounts_of(registrations, year, month);
     let billed = year_copies::billed_of(year);
     let written = statement::write_statement(terms, month, owed, billed, buffer);
-    year_steps::close(year, owed);
+    year_steps::add_close(year, owed);
     written
 }

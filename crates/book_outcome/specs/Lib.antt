@@ -2,5 +2,5 @@
 pub mod Outcome
 pub mod Numbers
 pub mod Made
-pub mod Kept
+pub mod StaysSound
 pub mod Posting

@@ -8,7 +8,7 @@ use lib.Dec.{eqb}
 use lib.ListN.{length}
 use borrow.Author.Tests.{eqb-true}
 use Rattle.ids.specs.Ids.{at}
-use Rattle.record_layouts.specs.Layout.{most}
+use Rattle.record_layouts.specs.Layout.{mostNumbers}
 use Rattle.record_layouts.specs.Questions.{kindOf, rulesOf, numbersOf, rulesBy, row}
 use Rattle.record_layouts.specs.QuestionLaws.{at-row, length-row, rules-same, rules-by, permitted-row}
 use Rattle.record_numbers.specs.Accepted.{Accepted, kind-number, numbers-few}
@@ -26,7 +26,7 @@ module _ (bytes : List ℕ) (a : Accepted bytes) where
   abbrev vs : List ℕ
   vs = row (numbersOf bytes)
 
-  pub values-long : length vs ≡ most
+  pub values-long : length vs ≡ mostNumbers
   values-long = length-row (numbersOf bytes) (numbers-few bytes a)
 
   kind-is : (k : ℕ) → at vs 0 ≡ k → kindOf bytes ≡ k
@@ -47,7 +47,7 @@ module _ (bytes : List ℕ) (a : Accepted bytes) where
       (λ _. either Within (eqb k 7) (λ e.
       let c = records.clearing bytes a (kind-is 7 (eqb-true k 7 e)) in
       record { registration = c .registration; price = c .price; some = c .kw .0; kw = c .kw .1 })
-      (λ _. either Within (eqb k 8) (λ e. records.apart-month bytes a (kind-is 8 (eqb-true k 8 e)))
+      (λ _. either Within (eqb k 8) (λ e. records.dual-month bytes a (kind-is 8 (eqb-true k 8 e)))
       (λ _. either Within (eqb k 9) (λ e. let t = records.retest bytes a (kind-is 9 (eqb-true k 9 e)) in record { zone = t .zone; product = omega (arith, t .product) })
       (λ _. omega arith)))))))))
 

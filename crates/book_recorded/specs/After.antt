@@ -4,7 +4,7 @@ use Rattle.year.specs.declared.Registration.{Registration}
 use Rattle.year.specs.declared.Listing.{Listing}
 use Rattle.year.specs.declared.Test.{Test}
 use Rattle.year.specs.declared.Year.{Year}
-use Rattle.year.specs.Year.{testPlace}
+use Rattle.year.specs.Year.{testGroup}
 use Rattle.year.specs.Listing.{single}
 use Rattle.year.specs.Steps.{withOpening, withRegistration, withLse, withClearing, withEvent, withTest, withRetest, withClose}
 use Rattle.owed.specs.Facts.{factsOf}
@@ -21,15 +21,15 @@ abbrev pub registrationOf : RegistrationHead → Registration
 registrationOf r =
     record { known = true; seller = r .seller; area = r .area; zone = r .zone; product = r .product; committed = record { 0 = r .committed }; rate = r .rate }
 
-abbrev pub testOf : TestHead → Listing → Test
-testOf t l = record { taken = true; month = t .month; listing = single l }
+abbrev pub recordedTest : TestHead → Listing → Test
+recordedTest t l = record { taken = true; month = t .month; listing = single l }
 
 unfoldable pub yearBy : Year → Listing → Head → Year
 yearBy y l (head.Opening o) = withOpening y (o .leap) (o .factor) (o .requirement)
 yearBy y l (head.Registration r) = withRegistration y (r .id) (registrationOf r)
 yearBy y l (head.Lse j) = withLse y (j .id) (j .obligation)
 yearBy y l (head.Event e) = withEvent y (eventOf e l)
-yearBy y l (head.Test t) = withTest y (testPlace (t .zone) (t .product)) (testOf t l)
+yearBy y l (head.Test t) = withTest y (testGroup (t .zone) (t .product)) (recordedTest t l)
 yearBy y l (head.Close c) = withClose y (amounts (factsOf y) (c .month))
 yearBy y l (head.Clearing c) = withClearing y (c .registration) (c .price) (c .kw)
 yearBy y l (head.Retest t) = withRetest y l

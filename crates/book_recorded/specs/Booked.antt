@@ -49,8 +49,8 @@ booked rs =
       closed = y .closed;
       terms = y .terms;
       clearings = y .clearings;
-      events = y .events ++ replicate (16 - y .held) noEvent;
-      held = y .held;
+      events = y .events ++ replicate (16 - y .accepted) noEvent;
+      accepted = y .accepted;
       tests = y .tests;
       retests = y .retests;
       billed = lastOr noAmounts (billedIn [] rs);
@@ -76,7 +76,7 @@ summed-more cs true c = cc (length-more cs c, sum-more (λ c. c .price * c .kw) 
 summed-more cs false c = rw (append-nil cs)
 
 module _ (rs : List Record) (l : Listing) where
-  pub booked-more : (h : Head) → ((e : EventHead) → h ≡ head.Event e → booked rs .held < 16)
+  pub booked-more : (h : Head) → ((e : EventHead) → h ≡ head.Event e → booked rs .accepted < 16)
       → yearBy (booked rs) l h ≡ booked (rs ++ record { head = h; listing = l } ∷ [])
   unfolding yearBy booked recorded termsIn clearingsIn eventsIn testsIn retestsIn
   booked-more (head.Opening o) room = simp (gather-more, billed-more, append-nil, some-more, last-more)

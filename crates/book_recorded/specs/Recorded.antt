@@ -12,16 +12,16 @@ use Rattle.year.specs.declared.Test.{Test}
 use Rattle.year.specs.declared.Retest.{Retest}
 use Rattle.year.specs.declared.Terms.{Terms}
 use Rattle.year.specs.declared.Year.{Year}
-use Rattle.year.specs.Year.{noRegistration, noTest, noRetest, noAmounts, testPlace, listed}
+use Rattle.year.specs.Year.{noRegistration, noTest, noRetest, noAmounts, testGroup, listed}
 use Rattle.year.specs.Steps.{retestBy}
-use Rattle.owed.specs.Facts.{registrations, lses, places}
+use Rattle.owed.specs.Facts.{registrations, lses, testGroups}
 use Rattle.record_heads.specs.declared.OpeningHead.{OpeningHead}
 use Rattle.record_heads.specs.declared.CloseHead.{CloseHead}
 use Rattle.record_heads.specs.declared.ClearingHead.{ClearingHead}
 use Rattle.record_heads.specs.declared.Head.{Head}
 use Rattle.record_heads.specs.Record.{Record, forOpening, forRegistration, forLse, forEvent, forTest, forClose, forClearing, forRetest}
 use Rattle.record_heads.specs.Events.{eventOf}
-use Rattle.book_recorded.specs.After.{registrationOf, testOf}
+use Rattle.book_recorded.specs.After.{registrationOf, recordedTest}
 
 -- what f takes out of each element, in order
 unfoldable pub gather : {A B : Type 0} → (A → List B) → List A → List B
@@ -66,7 +66,7 @@ abbrev pub event : Record → List Event
 event r = forEvent (λ e. eventOf e (r .listing) ∷ []) none (r .head)
 
 abbrev pub testFor : ℕ → Record → List Test
-testFor p r = forTest (λ t. alone (eqb (testPlace (t .zone) (t .product)) p) (testOf t (r .listing))) none (r .head)
+testFor p r = forTest (λ t. alone (eqb (testGroup (t .zone) (t .product)) p) (recordedTest t (r .listing))) none (r .head)
 
 abbrev pub retestFor : ℕ → Record → List Retest
 retestFor i r = forRetest (λ t. alone (listed (r .listing) i) (retestBy (r .listing) i)) none (r .head)
@@ -101,7 +101,7 @@ module _ (rs : List Record) where
 
   -- by place
   unfoldable pub testsIn : List Test
-  testsIn = tabulate places (λ p. lastOr noTest (gather (testFor p) rs))
+  testsIn = tabulate testGroups (λ p. lastOr noTest (gather (testFor p) rs))
 
   -- by registration
   unfoldable pub retestsIn : List Retest
@@ -117,7 +117,7 @@ module _ (rs : List Record) where
         terms = termsIn;
         clearings = clearingsIn;
         events = eventsIn;
-        held = length eventsIn;
+        accepted = length eventsIn;
         tests = testsIn;
         retests = retestsIn;
         billed = noAmounts;

@@ -7,7 +7,7 @@ use telemetry::Sample;
 use year_cells::Cells;
 ghost use Prim.Native.Nat.{_≤_};
 ghost use lib.ListN.{length};
-ghost use Rattle.year_cells.specs.Layout.{Held};
+ghost use Rattle.year_cells.specs.Layout.{ValidCells};
 
 fn main() {
     let mut buffer = io::large_buffer();
@@ -33,8 +33,8 @@ fn cases(input: i32, buffer: &mut [u8]) {
 
 // The call that a line names, by its first letter, and where that is a t by the name's length too.
 fn case(year: &mut Cells, line: &[u8])
-    requires { ⌜ Held (now year) ⌝ }
-    ensures { λ r. ⌜ Held (now (year .exit)) ⌝ }
+    requires { ⌜ ValidCells (now year) ⌝ }
+    ensures { λ r. ⌜ ValidCells (now (year .exit)) ⌝ }
 {
     if line.len() == 0 {
         return;
@@ -92,8 +92,8 @@ fn operands(line: &[u8], bytes: &mut [u8], most: usize) -> Lent
 
 // `take`: the bytes, and the length of the lent buffer.
 fn take_case(year: &mut Cells, line: &[u8])
-    requires { ⌜ Held (now year) ⌝ }
-    ensures { λ r. ⌜ Held (now (year .exit)) ⌝ }
+    requires { ⌜ ValidCells (now year) ⌝ }
+    ensures { λ r. ⌜ ValidCells (now (year .exit)) ⌝ }
 {
     let mut bytes = [0u8; 4096];
     let mut buffer = [0u8; 4096];
@@ -104,9 +104,9 @@ fn take_case(year: &mut Cells, line: &[u8])
 }
 
 fn take(year: &mut Cells, bytes: &[u8], buffer: &mut [u8])
-    requires { ⌜ Held (now year) ⌝ }
+    requires { ⌜ ValidCells (now year) ⌝ }
     requires { ⌜ length (now buffer) ≤ 4096 ⌝ }
-    ensures { λ r. ⌜ Held (now (year .exit)) ⌝ }
+    ensures { λ r. ⌜ ValidCells (now (year .exit)) ⌝ }
 {
     let posted = book::post(year, bytes, buffer);
     let written = text::least(posted.written, buffer.len());
@@ -185,7 +185,7 @@ fn telemetry_case(line: &[u8]) {
 fn value_of(word: &[u8]) -> f32 {
     let mut bytes = [0u8; 4];
     text::hex_bytes(word, &mut bytes);
-    let pattern = Cursor::first().take(&bytes, 32);
+    let pattern = Cursor::first().read_field(&bytes, 32);
     telemetry_eighths::from_pattern(pattern.value as u32)
 }
 

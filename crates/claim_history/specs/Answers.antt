@@ -14,7 +14,7 @@ use Rattle.question_list.specs.Questions.{monthBegun, q6, q7, q8, q9, q10, q17,
 use Rattle.book_outcome.specs.Outcome.{recordIn, postNumber}
 use Rattle.claim_history.specs.Runs.{Call, Answered, acceptedIn}
 use Rattle.claim_history.specs.Taking.{shown, step, answered, answers, run}
-use Rattle.claim_history.specs.Along.{run-years}
+use Rattle.claim_history.specs.YearFollowsRecords.{run-years}
 
 pub answers-each : (y : Year) (H : List Call) → map (λ x. x .call) (answers y H) ≡ H
 unfolding answered

@@ -20,10 +20,10 @@ use Rattle.book_recorded.specs.Booked.{booked, facts-booked}
 use Rattle.claim_history.specs.Runs.{Call, acceptedIn, statements, soFar}
 use Rattle.claim_history.specs.Taking.{closes, shown, answers, run}
 use Rattle.claim_history.specs.Claim.{AtClose}
-use Rattle.claim_history.specs.Along.{run-append, answers-more, run-years}
+use Rattle.claim_history.specs.YearFollowsRecords.{run-append, answers-more, run-years}
 use Rattle.claim_history.specs.Columns.{Column, pays, tests, gets, receives, party, party-below, owes, amounts-at, lineIn}
 use Rattle.claim_history.specs.Billed.{Billed, none-at}
-use Rattle.claim_history.specs.Kept.{Kept, kept-new, kept-run, kept-step}
+use Rattle.claim_history.specs.StepInvariants.{StepInvariants, kept-new, kept-run, kept-step}
 use Rattle.claim_history.specs.Closes.{close-step, close-month, close-buffer}
 use Rattle.claim_history.specs.Telescope.{telescopes}
 use Rattle.claim_history.specs.Balanced.{balanced}
@@ -38,7 +38,7 @@ module _ (cs : List Call) (c : Call) (e : closes (run newYear cs) c ≡ true) wh
   abbrev month : ℕ
   month = monthOf (recordIn (c .bytes) .head)
 
-  kept : Kept there
+  kept : StepInvariants there
   kept = kept-run kept-new cs
 
   after : run newYear (cs ++ c ∷ []) ≡ withClose there (amounts (factsOf there) month)
@@ -77,7 +77,7 @@ module _ (cs : List Call) (c : Call) (e : closes (run newYear cs) c ≡ true) wh
         tests = rw (← facts-are, ← terms-are) (so-far tests);
         credits = rw (← facts-are, ← terms-are) (so-far gets);
         lses = rw (← facts-are, ← terms-are) (so-far receives);
-        limited =
+        yearlyLimit =
             rw (← facts-are, ← terms-are)
             (λ s p. (compliance (factsOf there) month s, so-far pays s p, yearly-limit (limits (kept .sound)) month s));
       }

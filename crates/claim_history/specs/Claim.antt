@@ -40,7 +40,7 @@ module _ (before : List Answered) (x : Answered) where
     pub credits : (s : ℕ) → hasRegistration terms s ≡ true → sum (λ x. creditIn x s) ≡ pos (credit facts month s)
     pub lses : (j : ℕ) → hasObligation terms j ≡ true → sum (λ x. lseIn x j) ≡ pos (lse facts month j)
     -- yearly limit: compliance so far, times 1,000, is at most revenue to date
-    pub limited :
+    pub yearlyLimit :
         (s : ℕ) → hasRegistration terms s ≡ true
         → (n : ℕ) × (sum (λ x. complianceIn x s) ≡ pos n) × (n * 1000 ≤ revenue facts month s)
 

@@ -27,15 +27,15 @@ use Rattle.book_accept.specs.Leaves.{bufferWith, writtenWith}
 use Rattle.book_outcome.specs.Outcome.{recordIn, bufferAfter, writtenAfter}
 use Rattle.claim_history.specs.Runs.{Call, isAccepted, isClosing}
 use Rattle.claim_history.specs.Taking.{accepts, closes, buffered, step}
-use Rattle.claim_history.specs.Along.{step-by}
+use Rattle.claim_history.specs.YearFollowsRecords.{step-by}
 use Rattle.claim_history.specs.Admitted.{accepted-admitted}
 use Rattle.claim_history.specs.Columns.{Column, party, column, lineIn}
 use Rattle.claim_history.specs.ReadColumns.{reads}
-use Rattle.claim_history.specs.Kept.{never}
-use Rattle.claim_history.specs.Does.{Does, terms, event, test, close, retest, does}
+use Rattle.claim_history.specs.StepInvariants.{never}
+use Rattle.claim_history.specs.StepCases.{StepCases, terms, event, test, close, retest, does}
 
 -- a close is what passes for one
-is-close : {h : Head} → Does h → isClose h ≡ true → (c : CloseHead) × (h ≡ Close c)
+is-close : {h : Head} → StepCases h → isClose h ≡ true → (c : CloseHead) × (h ≡ Close c)
 is-close (terms x) e = never (x .other) e
 is-close (event v q) e = never refl (rw q at e)
 is-close (test t q) e = never refl (rw q at e)
@@ -43,7 +43,7 @@ is-close (close c q) e = (c, q)
 is-close (retest t q) e = never refl (rw q at e)
 
 -- anything else leaves what is billed and the count of closes
-other-by : {h : Head} → Does h → isClose h ≡ false → (y : Year) (l : Listing) → (yearBy y l h .billed ≡ y .billed) × (yearBy y l h .closed ≡ y .closed)
+other-by : {h : Head} → StepCases h → isClose h ≡ false → (y : Year) (l : Listing) → (yearBy y l h .billed ≡ y .billed) × (yearBy y l h .closed ≡ y .closed)
 unfolding yearBy
 other-by (terms x) e y l = rw (x .is y l) (refl, refl)
 other-by (event v q) e y l = rw q (refl, refl)

@@ -20,38 +20,38 @@ use Rattle.book_recorded.specs.After.{yearBy, yearWith}
 use Rattle.book_recorded.specs.Recorded.{gather, alone, termsIn, recorded}
 use Rattle.book_recorded.specs.Booked.{booked, booked-new}
 use Rattle.question_list.specs.Questions.{monthBegun}
-use Rattle.question_list.specs.Admitted.{Admitted, event-held}
+use Rattle.question_list.specs.Admitted.{Admitted, event-room}
 use Rattle.question_list.specs.Blind.{records-blind}
 use Rattle.book_outcome.specs.Outcome.{recordIn}
 use Rattle.book_outcome.specs.Numbers.{same-post}
 use Rattle.claim_history.specs.Runs.{Call, Answered, isAccepted, isClosing, acceptances, Variant, done, next}
 use Rattle.claim_history.specs.Taking.{buffered, shown, step, answered, answers, accepts, closes}
 use Rattle.claim_history.specs.Claim.{chargeLine, chargeLines}
-use Rattle.claim_history.specs.Along.{step-by, step-booked}
+use Rattle.claim_history.specs.YearFollowsRecords.{step-by, step-booked}
 use Rattle.claim_history.specs.Admitted.{accepted-admitted}
-use Rattle.claim_history.specs.Does.{Does, terms, event, test, close, retest, does}
+use Rattle.claim_history.specs.StepCases.{StepCases, terms, event, test, close, retest, does}
 use Rattle.claim_history.specs.Columns.{Column, pays, tests, column, lineIn}
-use Rattle.claim_history.specs.Kept.{Kept, kept-new, kept-step}
+use Rattle.claim_history.specs.StepInvariants.{StepInvariants, kept-new, kept-step}
 use Rattle.claim_history.specs.Closes.{close-line}
 use Rattle.claim_history.specs.Same.{SameListing, same-single, Same, same-new, same-terms, same-event, same-test, same-retests, same-retest, same-close}
 use Rattle.claim_history.specs.Blind.{years-blind}
 use Rattle.claim_history.specs.OwnRetests.{isOwnRetest, own-retest}
 use Rattle.claim_history.specs.Paired.{Paired, paired}
-use Rattle.claim_history.specs.TwoRuns.{Abreast, none, both, two-runs}
+use Rattle.claim_history.specs.TwoRuns.{PairedCalls, none, both, two-runs}
 
 -- the relation: two years that are the same for all sellers but s, along two runs
 record Related (s : ℕ) (y z : Year) : Type 0 where
   same : Same s y z
-  left : Kept y
-  right : Kept z
+  left : StepInvariants y
+  right : StepInvariants z
 
 module _ {s : ℕ} {y z : Year} (h : Related s y z) where
   -- accepted records that are alike
-  same-record : {l m : Listing} {room : ℕ} {k : Head} → Does k → Admitted monthBegun y (record { head = k; listing = l }) room → SameListing (y .terms) s l m → Same s (yearBy y l k) (yearBy z m k)
+  same-record : {l m : Listing} {room : ℕ} {k : Head} → StepCases k → Admitted monthBegun y (record { head = k; listing = l }) room → SameListing (y .terms) s l m → Same s (yearBy y l k) (yearBy z m k)
   unfolding yearBy
   same-record {l} {m} (terms x) = λ a q.
       rw (x .is y l, x .is z m, ← (h .same .terms), ← (h .same .clearings), ← (h .same .opened)) (same-terms (h .same) (h .left .sound) (h .right .sound) (x .fresh (h .left .begun) a) _ _ _)
-  same-record (event e n) = rw n (λ a q. same-event (h .same) (h .left .sound) (h .right .sound) (event-held a) (record { month = refl; period = refl; apart = refl; listing = q }))
+  same-record (event e n) = rw n (λ a q. same-event (h .same) (h .left .sound) (h .right .sound) (event-room a) (record { month = refl; period = refl; dual = refl; listing = q }))
   same-record (test t n) = rw n (λ a q. same-test (h .same) (h .left .sound) (h .right .sound) _ (record { taken = refl; month = refl; listing = same-single (y .terms) s q }))
   same-record (close c n) = rw n (λ a q. same-close (h .same) (c .month))
   same-record (retest t n) = rw n (λ a q. same-retest (h .same) q)
@@ -129,16 +129,16 @@ module _ (s : ℕ) where
   P y z c d = Paired s y c d
 
   -- G's calls are paired with H's
-  abreast : {rs : List Record} {xs : List Answered} {G : List Call} → Variant s rs xs G → (H : List Call) (y z : Year) → y ≡ booked rs → xs ≡ answers y H
-      → Abreast shown shown step step (Related s) P y z H G
+  all-paired : {rs : List Record} {xs : List Answered} {G : List Call} → Variant s rs xs G → (H : List Call) (y z : Year) → y ≡ booked rs → xs ≡ answers y H
+      → PairedCalls shown shown step step (Related s) P y z H G
   unfolding answered
-  abreast done [] y z b e = none
-  abreast done (c ∷ cs) y z b e = absurd (let n : _≡_ {A = ℕ} 0 1 = cc in omega arith)
-  abreast (next v w) [] y z b e = absurd (let n : _≡_ {A = ℕ} 0 1 = cc in omega arith)
-  abreast (next {rs = rs} {x = x} {d = d} {xs = xs} v w) (c ∷ cs) y z b e =
+  all-paired done [] y z b e = none
+  all-paired done (c ∷ cs) y z b e = absurd (let n : _≡_ {A = ℕ} 0 1 = cc in omega arith)
+  all-paired (next v w) [] y z b e = absurd (let n : _≡_ {A = ℕ} 0 1 = cc in omega arith)
+  all-paired (next {rs = rs} {x = x} {d = d} {xs = xs} v w) (c ∷ cs) y z b e =
       let first : x ≡ shown y c = cc in
       let rest : xs ≡ answers (step y c) cs = cc in
-      both (paired (booked-terms rs b) (rw first at v)) (abreast w cs (step y c) (step z d) (rw (first, b) (step-booked rs c)) rest)
+      both (paired (booked-terms rs b) (rw first at v)) (all-paired w cs (step y c) (step z d) (rw (first, b) (step-booked rs c)) rest)
 
   module _ (H : List Call) {G : List Call} (v : Variant s [] (answers newYear H) G) where
     related : Related s newYear newYear
@@ -147,7 +147,7 @@ module _ (s : ℕ) where
     alike : {X : Type 0} (f : Answered → List X) → ((y z : Year) (c d : Call) → Related s y z → Paired s y c d → f (shown y c) ≡ f (shown z d))
         → gather f (answers newYear H) ≡ gather f (answers newYear G)
     alike f same =
-        two-runs shown shown step step (Related s) P (λ y z c d h p. related-step h p) f f same related (abreast v H newYear newYear (sym booked-new) refl)
+        two-runs shown shown step step (Related s) P (λ y z c d h p. related-step h p) f f same related (all-paired v H newYear newYear (sym booked-new) refl)
 
     pub accepted-alike : acceptances s (answers newYear G) ≡ acceptances s (answers newYear H)
     accepted-alike =

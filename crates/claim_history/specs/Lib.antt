@@ -3,13 +3,13 @@ pub mod Runs
 pub mod Claim
 pub mod Taking
 pub mod Admitted
-pub mod Along
-pub mod Does
+pub mod YearFollowsRecords
+pub mod StepCases
 pub mod Columns
 pub mod ReadColumns
 pub mod Blank
 pub mod Billed
-pub mod Kept
+pub mod StepInvariants
 pub mod Closes
 pub mod Telescope
 pub mod Balanced
@@ -23,6 +23,6 @@ pub mod Paired
 pub mod TwoRuns
 pub mod Independence
 pub mod Proof
-pub mod Itself
+pub mod NotEmpty
 pub mod Files
 pub mod FileLaws

@@ -26,7 +26,7 @@ use Rattle.question_list.specs.Admitted.{retest-own}
 use Rattle.book_outcome.specs.Outcome.{recordIn}
 use Rattle.claim_history.specs.Runs.{Call}
 use Rattle.claim_history.specs.Taking.{step, accepts}
-use Rattle.claim_history.specs.Along.{step-by}
+use Rattle.claim_history.specs.YearFollowsRecords.{step-by}
 use Rattle.claim_history.specs.Admitted.{accepted-admitted}
 use Rattle.claim_history.specs.Same.{SameRetests}
 

@@ -24,7 +24,7 @@ use Rattle.year.specs.Steps.{withTerms, withEvent, withTest, withRetests, retes
 use Rattle.year.specs.Sound.{Sound}
 use Rattle.year.specs.Year as year
 use Rattle.owed.specs.Facts.{factsOf}
-use Rattle.owed.specs.Owed.{own, ofArea, areaRate, rate, called, compliance, test, amounts}
+use Rattle.owed.specs.Owed.{own, ofArea, areaRate, rate, dispatched, compliance, test, amounts}
 use Rattle.owed_laws.specs.Independent as independent
 
 -- what two records list is the same but for the reductions of seller s's registrations
@@ -38,7 +38,7 @@ module _ (T : Terms) (s : ℕ) where
   pub record SameEvent (a b : Event) : Type 0 where
     pub month : a .month ≡ b .month
     pub period : a .period ≡ b .period
-    pub apart : a .apart ≡ b .apart
+    pub dual : a .dual ≡ b .dual
     pub listing : SameListing (a .listing) (b .listing)
 
   pub record SameTest (a b : Test) : Type 0 where
@@ -66,10 +66,10 @@ pub record Same (s : ℕ) (y z : Year) : Type 0 where
   pub opened : y .opened ≡ z .opened
   pub started : y .started ≡ z .started
   pub closed : y .closed ≡ z .closed
-  pub held : y .held ≡ z .held
+  pub accepted : y .accepted ≡ z .accepted
   pub terms : y .terms ≡ z .terms
   pub clearings : y .clearings ≡ z .clearings
-  pub events : (ev : ℕ) → ev < y .held → SameEvent (y .terms) s (getD (y .events) ev noEvent) (getD (z .events) ev noEvent)
+  pub events : (ev : ℕ) → ev < y .accepted → SameEvent (y .terms) s (getD (y .events) ev noEvent) (getD (z .events) ev noEvent)
   pub tests : (p : ℕ) → SameTest (y .terms) s (getD (y .tests) p noTest) (getD (z .tests) p noTest)
   pub retests : SameRetests (y .terms) s (y .retests) (z .retests)
   pub pays : (r : ℕ) → (r ≡ s → ⊥) → at (y .billed .compliance) r ≡ at (z .billed .compliance) r
@@ -77,7 +77,7 @@ pub record Same (s : ℕ) (y z : Year) : Type 0 where
 
 pub same-new : (s : ℕ) → Same s newYear newYear
 same-new s =
-    record { opened = refl; started = refl; closed = refl; held = refl; terms = refl; clearings = refl; events = λ ev l. absurd (not-suc-le-zero l); tests = λ p. test-refl (newYear .terms) s (getD (newYear .tests) p noTest); retests = λ i n. refl; pays = λ r n. refl; fails = λ r n. refl }
+    record { opened = refl; started = refl; closed = refl; accepted = refl; terms = refl; clearings = refl; events = λ ev l. absurd (not-suc-le-zero l); tests = λ p. test-refl (newYear .terms) s (getD (newYear .tests) p noTest); retests = λ i n. refl; pays = λ r n. refl; fails = λ r n. refl }
 
 -- two tables at one place
 pub table-at : {A : Type 0} (n : ℕ) (d : A) (f g : ℕ → A) (i : ℕ) → f i ≡ g i → getD (tabulate n f) i d ≡ getD (tabulate n g) i d
@@ -87,7 +87,7 @@ table-at n d f g i e = elim (decLt i n) [
 ]
 
 module _ {s : ℕ} {y z : Year} (h : Same s y z) where
-  listed-same : (ev : ℕ) → ev < y .held → (i : ℕ) → year.listed (factsOf y .event ev .listing) i ≡ year.listed (factsOf z .event ev .listing) i
+  listed-same : (ev : ℕ) → ev < y .accepted → (i : ℕ) → year.listed (factsOf y .event ev .listing) i ≡ year.listed (factsOf z .event ev .listing) i
   unfolding listed
   listed-same ev l i = rw (h .events ev l .listing .listed)
 
@@ -100,10 +100,10 @@ module _ {s : ℕ} {y z : Year} (h : Same s y z) where
         factor = rw (h .terms);
         requirement = rw (h .terms);
         seller = λ i. rw (h .terms);
-        events = h .held;
+        events = h .accepted;
         month = λ ev l. h .events ev l .month;
         period = λ ev l. h .events ev l .period;
-        apart = λ ev l. h .events ev l .apart;
+        dual = λ ev l. h .events ev l .dual;
         deficit = λ ev l. rw (h .events ev l .listing .deficits);
         testDeficit = λ p. rw (h .tests p .listing .deficits);
         product = λ i own. rw (h .terms);
@@ -119,11 +119,11 @@ module _ {s : ℕ} {y z : Year} (h : Same s y z) where
       }
 
   -- every registration is called in both or in neither
-  pub same-called : (i : ℕ) → called (factsOf y) i ≡ called (factsOf z) i
-  unfolding called
-  same-called i =
-      any-same (y .held) {q = λ ev. year.listed (factsOf z .event ev .listing) i} (λ ev l. listed-same ev l i)
-      ∙ ap (λ n. anyTo n (λ ev. year.listed (factsOf z .event ev .listing) i)) (h .held)
+  pub same-dispatched : (i : ℕ) → dispatched (factsOf y) i ≡ dispatched (factsOf z) i
+  unfolding dispatched
+  same-dispatched i =
+      any-same (y .accepted) {q = λ ev. year.listed (factsOf z .event ev .listing) i} (λ ev l. listed-same ev l i)
+      ∙ ap (λ n. anyTo n (λ ev. year.listed (factsOf z .event ev .listing) i)) (h .accepted)
 
   -- before the first event, test or close
   pub same-terms : Sound y → Sound z → y .started ≡ false → (o : Bool) (T : Terms) (cs : List Clearings) → Same s (withTerms y o T cs) (withTerms z o T cs)
@@ -134,7 +134,7 @@ module _ {s : ℕ} {y z : Year} (h : Same s y z) where
         opened = refl;
         started = h .started;
         closed = h .closed;
-        held = h .held;
+        accepted = h .accepted;
         terms = refl;
         clearings = refl;
         events = λ ev l. absurd (omega (arith, f .0));
@@ -144,35 +144,35 @@ module _ {s : ℕ} {y z : Year} (h : Same s y z) where
         fails = h .fails;
       }
 
-  pub same-event : Sound y → Sound z → y .held < 16 → {e g : Event} → SameEvent (y .terms) s e g → Same s (withEvent y e) (withEvent z g)
+  pub same-event : Sound y → Sound z → y .accepted < 16 → {e g : Event} → SameEvent (y .terms) s e g → Same s (withEvent y e) (withEvent z g)
   same-event S U l {e} {g} q =
       record {
         opened = h .opened;
         started = refl;
         closed = h .closed;
-        held = ap (λ n. n + 1) (h .held);
+        accepted = ap (λ n. n + 1) (h .accepted);
         terms = h .terms;
         clearings = h .clearings;
         events =
-            rw (← (h .held))
-            (related-next (SameEvent (y .terms) s) noEvent (y .events) (z .events) (y .held) (omega (arith, S .events .long)) (omega (arith, U .events .long)) q (h .events));
+            rw (← (h .accepted))
+            (related-next (SameEvent (y .terms) s) noEvent (y .events) (z .events) (y .accepted) (omega (arith, S .events .long)) (omega (arith, U .events .long)) q (h .events));
         tests = h .tests;
         retests = h .retests;
         pays = h .pays;
         fails = h .fails;
       }
 
-  pub same-test : Sound y → Sound z → (place : ℕ) {t u : Test} → SameTest (y .terms) s t u → Same s (withTest y place t) (withTest z place u)
-  same-test S U place q =
+  pub same-test : Sound y → Sound z → (group : ℕ) {t u : Test} → SameTest (y .terms) s t u → Same s (withTest y group t) (withTest z group u)
+  same-test S U group q =
       record {
         opened = h .opened;
         started = refl;
         closed = h .closed;
-        held = h .held;
+        accepted = h .accepted;
         terms = h .terms;
         clearings = h .clearings;
         events = h .events;
-        tests = related-set (SameTest (y .terms) s) noTest (y .tests) (z .tests) place (S .places ∙ sym (U .places)) q (h .tests);
+        tests = related-set (SameTest (y .terms) s) noTest (y .tests) (z .tests) group (S .testGroups ∙ sym (U .testGroups)) q (h .tests);
         retests = h .retests;
         pays = h .pays;
         fails = h .fails;
@@ -184,7 +184,7 @@ module _ {s : ℕ} {y z : Year} (h : Same s y z) where
         opened = h .opened;
         started = h .started;
         closed = h .closed;
-        held = h .held;
+        accepted = h .accepted;
         terms = h .terms;
         clearings = h .clearings;
         events = h .events;
@@ -208,7 +208,7 @@ module _ {s : ℕ} {y z : Year} (h : Same s y z) where
         opened = h .opened;
         started = refl;
         closed = ap (λ n. n + 1) (h .closed);
-        held = h .held;
+        accepted = h .accepted;
         terms = h .terms;
         clearings = h .clearings;
         events = h .events;

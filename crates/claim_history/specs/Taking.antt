@@ -8,8 +8,8 @@ use Rattle.book_outcome.specs.Outcome.{postNumber, yearAfter, bufferAfter}
 use Rattle.claim_history.specs.Runs.{Call, Answered, isAccepted, isClosing}
 
 -- a call that gets the year y, as `post` promises it: its number, what the buffer holds afterwards, and the year after it
-abbrev pub numberOf : Year → Call → ℕ
-numberOf y c = postNumber y (c .bytes) (length (c .buffer))
+abbrev pub callNumber : Year → Call → ℕ
+callNumber y c = postNumber y (c .bytes) (length (c .buffer))
 
 unfoldable pub buffered : Year → Call → List ℕ
 buffered y c = bufferAfter y (c .bytes) (c .buffer)
@@ -18,7 +18,7 @@ unfoldable pub step : Year → Call → Year
 step y c = yearAfter y (c .bytes) (length (c .buffer))
 
 abbrev pub shown : Year → Call → Answered
-shown y c = record { call = c; number = numberOf y c; after = buffered y c }
+shown y c = record { call = c; number = callNumber y c; after = buffered y c }
 
 -- calls one after another, as they are shown and hand on the year
 unfoldable pub answered : (Year → Call → Answered) → (Year → Call → Year) → Year → List Call → List Answered

@@ -10,18 +10,18 @@ use Rattle.book_recorded.specs.Recorded.{gather, alone}
 use Rattle.claim_history.specs.Runs.{Call, statements, soFar}
 use Rattle.claim_history.specs.Taking.{closes, buffered, step, answered, answers, run}
 use Rattle.claim_history.specs.Columns.{Column, party, column, lineIn}
-use Rattle.claim_history.specs.Kept.{Kept, kept-step, frozen}
+use Rattle.claim_history.specs.StepInvariants.{StepInvariants, kept-step, frozen}
 use Rattle.claim_history.specs.Closes.{close-step, close-line, other-same}
 
 -- one statement says by how much what is billed moves
-says : (c : Column) (i : ℕ) {y : Year} → Kept y → (d : Call) → closes y d ≡ true → party c (y .terms) i ≡ true
+says : (c : Column) (i : ℕ) {y : Year} → StepInvariants y → (d : Call) → closes y d ≡ true → party c (y .terms) i ≡ true
     → lineIn c (buffered y d) i ≡ pos (at (column c (step y d .billed)) i) -ℤ pos (at (column c (y .billed)) i)
 says c i {y} h d e p = rw (close-step y d e) (close-line y d (h .sound) e c i ∙ rw p)
 
 moves-by : (x s new old : ℤ) → x ≡ new -ℤ old → x +ℤ s +ℤ old ≡ s +ℤ new
 moves-by x s new old e = rw (e, +ℤ-comm (new -ℤ old) s, +ℤ-assoc s (new -ℤ old) old, -ℤ-+ℤ-cancel new old)
 
-pub telescopes : (c : Column) (i : ℕ) {y : Year} → Kept y → (cs : List Call) → party c (run y cs .terms) i ≡ true
+pub telescopes : (c : Column) (i : ℕ) {y : Year} → StepInvariants y → (cs : List Call) → party c (run y cs .terms) i ≡ true
     → soFar (λ x. lineIn c x i) (statements (answers y cs)) +ℤ pos (at (column c (y .billed)) i) ≡ pos (at (column c (run y cs .billed)) i)
 unfolding run answered gather soFar
 telescopes c i {y} h [] p = +ℤ-idl (pos (at (column c (y .billed)) i))

@@ -19,9 +19,9 @@ use Rattle.question_list.specs.Questions.{monthBegun, inTime, q11, questions}
 use Rattle.book_outcome.specs.Outcome.{recordIn, numberUnder, postNumber, yearAfter, bufferAfter}
 use Rattle.book_outcome.specs.Numbers.{same-number}
 use Rattle.claim_history.specs.Runs.{Call, recordFrom}
-use Rattle.claim_history.specs.Taking.{numberOf, buffered, shown, step, answered, answers}
-use Rattle.claim_history.specs.Along.{step-booked}
-use Rattle.claim_history.specs.TwoRuns.{Abreast, none, both, two-runs}
+use Rattle.claim_history.specs.Taking.{callNumber, buffered, shown, step, answered, answers}
+use Rattle.claim_history.specs.YearFollowsRecords.{step-booked}
+use Rattle.claim_history.specs.TwoRuns.{PairedCalls, none, both, two-runs}
 use Rattle.claim_late.specs.Late.{isLate, comesLate, noneLate, shownUnder, stepUnder, answersUnder, AsBefore}
 
 -- of a record that is no late event the two rules ask the same
@@ -39,7 +39,7 @@ module _ (y : Year) (l : Listing) where
 
 -- so a call that brings no late event has the same number, leaves the same buffer and hands on the same year
 module _ (y : Year) (c : Call) (n : comesLate (y .closed) c ≡ false) where
-  same-answer : numberUnder inTime y (c .bytes) (length (c .buffer)) ≡ numberOf y c
+  same-answer : numberUnder inTime y (c .bytes) (length (c .buffer)) ≡ callNumber y c
   unfolding postNumber questions
   same-answer =
       let r = recordIn (c .bytes) in
@@ -65,18 +65,18 @@ months-closed : (rs : List Record) → booked rs .closed ≡ length (gather clos
 unfolding booked recorded
 months-closed rs = refl
 
-abreast : (H : List Call) (rs : List Record) (y z : Year) → y ≡ z → z ≡ booked rs → noneLate rs (answers z H) ≡ true
-    → Abreast (shownUnder inTime) shown (stepUnder inTime) step R P y z H H
+all-paired : (H : List Call) (rs : List Record) (y z : Year) → y ≡ z → z ≡ booked rs → noneLate rs (answers z H) ≡ true
+    → PairedCalls (shownUnder inTime) shown (stepUnder inTime) step R P y z H H
 unfolding answered noneLate
-abreast [] rs y z e b n = none
-abreast (c ∷ cs) rs y z e b n =
+all-paired [] rs y z e b n = none
+all-paired (c ∷ cs) rs y z e b n =
     let parts = and-parts (not (comesLate (length (gather close rs)) c)) (noneLate (rs ++ recordFrom (shown z c)) (answers (step z c) cs)) n in
     let free : comesLate (z .closed) c ≡ false = rw (b, months-closed rs) (not-true _ (parts .0)) in
-    both (refl, free) (abreast cs (rs ++ recordFrom (shown z c)) (stepUnder inTime y c) (step z c) (rw e (same-step z c free)) (rw b (step-booked rs c)) (parts .1))
+    both (refl, free) (all-paired cs (rs ++ recordFrom (shown z c)) (stepUnder inTime y c) (step z c) (rw e (same-step z c free)) (rw b (step-booked rs c)) (parts .1))
 
 pub as-before : (H : List Call) → AsBefore H
 as-before H n =
     let alike =
     two-runs (shownUnder inTime) shown (stepUnder inTime) step R P (λ y z c d r p. rw (r, p .0) (same-step z d (p .1))) (λ x. x ∷ []) (λ x. x ∷ [])
-    (λ y z c d r p. rw (r, p .0) (ap (λ x. x ∷ []) (same-shown z d (p .1)))) refl (abreast H [] newYear newYear refl (sym booked-new) n) in
+    (λ y z c d r p. rw (r, p .0) (ap (λ x. x ∷ []) (same-shown z d (p .1)))) refl (all-paired H [] newYear newYear refl (sym booked-new) n) in
     sym (gather-each (answersUnder inTime newYear H)) ∙ alike ∙ gather-each (answers newYear H)

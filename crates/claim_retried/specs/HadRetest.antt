@@ -17,10 +17,10 @@ use Rattle.book_recorded.specs.Booked.{facts-booked}
 use Rattle.book_outcome.specs.Outcome.{recordIn}
 use Rattle.claim_history.specs.Runs.{Call, recordFrom, acceptedIn}
 use Rattle.claim_history.specs.Taking.{shown, step, answered, answers, run, accepts}
-use Rattle.claim_history.specs.Along.{step-by, run-years}
+use Rattle.claim_history.specs.YearFollowsRecords.{step-by, run-years}
 use Rattle.claim_history.specs.Admitted.{accepted-admitted}
-use Rattle.claim_history.specs.Does.{does}
-use Rattle.claim_history.specs.Kept.{Kept, never, kept-new, accepted-sound, kept-step}
+use Rattle.claim_history.specs.StepCases.{does}
+use Rattle.claim_history.specs.StepInvariants.{StepInvariants, never, kept-new, accepted-sound, kept-step}
 use Rattle.claim_retried.specs.Retried.{isRetestAt, InTest, none-had, blank, had-by}
 
 -- is a retest of seller s's in the zone and product of place p among these
@@ -29,7 +29,7 @@ anyRetest p s rs = ltb 0 (length (gather (λ r. alone (isRetestAt p s (r .head))
 
 -- of a year after these records
 record Had (y : Year) (rs : List Record) : Type 0 where
-  kept : Kept y
+  kept : StepInvariants y
   tested : InTest y
   had : (p s : ℕ) → hadRetest (factsOf y) p s ≡ anyRetest p s rs
 

@@ -18,13 +18,13 @@ use Rattle.ids.specs.Sets.{getD-replicate-same}
 use Rattle.year.specs.declared.Listing.{Listing}
 use Rattle.year.specs.declared.Retest.{Retest}
 use Rattle.year.specs.declared.Year.{Year}
-use Rattle.year.specs.Year.{noRetest, noTest, retestOf, listed, zone, product, size, testPlace}
+use Rattle.year.specs.Year.{noRetest, noTest, retestOf, listed, zone, product, size, testGroup}
 use Rattle.year.specs.Steps.{withTerms, retestBy}
 use Rattle.year.specs.Sound.{Sound}
 use Rattle.year.specs.Limits.{each-anywhere, size-is}
 use Rattle.year.specs.Year as year
 use Rattle.owed.specs.Facts.{Facts, factsOf, registrations}
-use Rattle.owed.specs.Retests.{belowQuarter, entryOf, failed, testedKw, failedKw, hadRetest}
+use Rattle.owed.specs.Retests.{belowQuarter, testEntry, failed, testedKw, failedKw, hadRetest}
 use Rattle.record_heads.specs.declared.Head.{Head}
 use Rattle.record_heads.specs.declared.Head.the-variants as head
 use Rattle.record_heads.specs.declared.TestHead.{TestHead}
@@ -32,15 +32,15 @@ use Rattle.record_heads.specs.declared.RetestHead.{RetestHead}
 use Rattle.record_heads.specs.Record.{forRetest}
 use Rattle.record_heads.specs.RecordLaws.{retest-or-not}
 use Rattle.question_conditions.specs.Entries.{listsExactly}
-use Rattle.book_recorded.specs.After.{testOf, yearBy}
+use Rattle.book_recorded.specs.After.{recordedTest, yearBy}
 use Rattle.question_list.specs.Questions.{monthBegun, q20, q21}
 use Rattle.question_list.specs.Admitted.{Admitted, test-free, retest-started}
-use Rattle.claim_history.specs.Kept.{Kept, never}
-use Rattle.claim_history.specs.Does.{Does, terms, event, test, close, retest}
+use Rattle.claim_history.specs.StepInvariants.{StepInvariants, never}
+use Rattle.claim_history.specs.StepCases.{StepCases, terms, event, test, close, retest}
 
 -- is a retest seller s's in the zone and product of place p, and is a record such a retest
 abbrev isAt : ℕ → ℕ → RetestHead → Bool
-isAt p s t = eqb (testPlace (t .zone) (t .product)) p && eqb (t .seller) s
+isAt p s t = eqb (testGroup (t .zone) (t .product)) p && eqb (t .seller) s
 
 abbrev pub isRetestAt : ℕ → ℕ → Head → Bool
 isRetestAt p s = forRetest (isAt p s) (λ h. false)
@@ -62,17 +62,17 @@ beq-true false true e = never refl e
 
 -- a registration's place; each retested one is in the test of its place
 abbrev placed : Year → ℕ → ℕ
-placed y i = testPlace (zone (y .terms) i) (product (y .terms) i)
+placed y i = testGroup (zone (y .terms) i) (product (y .terms) i)
 
 abbrev pub InTest : Year → Type 0
 InTest y = (i : ℕ) → i < 64 → retestOf y i .taken ≡ true → year.listed (factsOf y .test (placed y i) .listing) i ≡ true
 
 -- a test lists registrations of its place alone
-own-place : {y : Year} → Sound y → (p i : ℕ) → i < 64 → year.listed (factsOf y .test p .listing) i ≡ true → placed y i ≡ p
+own-group : {y : Year} → Sound y → (p i : ℕ) → i < 64 → year.listed (factsOf y .test p .listing) i ≡ true → placed y i ≡ p
 unfolding listed
-own-place {y} S p i l e = elim (decLt p 24) [
+own-group {y} S p i l e = elim (decLt p 24) [
   | yes b ↦ S .tests p b .own i l e
-  | no b ↦ never (getD-replicate-same 64 i false) (rw (List·getD-eq-default (y .tests) noTest {n = p} (omega (arith, S .places))) at e)
+  | no b ↦ never (getD-replicate-same 64 i false) (rw (List·getD-eq-default (y .tests) noTest {n = p} (omega (arith, S .testGroups))) at e)
 ]
 
 -- one that is not taken lists none
@@ -80,7 +80,7 @@ not-listed : {y : Year} → Sound y → (p i : ℕ) → i < 64 → getD (y .test
 unfolding listed
 not-listed {y} S p i l e = elim (decLt p 24) [
   | yes b ↦ S .tests p b .untaken e i l
-  | no b ↦ rw (List·getD-eq-default (y .tests) noTest {n = p} (omega (arith, S .places))) (getD-replicate-same 64 i false)
+  | no b ↦ rw (List·getD-eq-default (y .tests) noTest {n = p} (omega (arith, S .testGroups))) (getD-replicate-same 64 i false)
 ]
 
 -- where none is retested, nobody has had a retest
@@ -89,12 +89,12 @@ unfolding hadRetest
 none-had y none p s = go (anyTo registrations had) refl
   where
     had : ℕ → Bool
-    had i = entryOf (factsOf y) p s i && retestOf y i .taken
+    had i = testEntry (factsOf y) p s i && retestOf y i .taken
 
     go : (b : Bool) → anyTo registrations had ≡ b → b ≡ false
     go true e =
         let r = any-some registrations had e in
-        never (none (r .0)) (and-parts (entryOf (factsOf y) p s (r .0)) (retestOf y (r .0) .taken) (r .2) .1)
+        never (none (r .0)) (and-parts (testEntry (factsOf y) p s (r .0)) (retestOf y (r .0) .taken) (r .2) .1)
     go false e = refl
 
 -- before the first event, test or close there is no retest
@@ -102,33 +102,33 @@ pub blank : {y : Year} → Sound y → y .started ≡ false → (i : ℕ) → re
 blank S e i =
     rw (S .fresh e .3) (each-anywhere (λ (x : Retest). x .taken ≡ false) {d = noRetest} refl (each-replicate (λ (x : Retest). x .taken ≡ false) noRetest 64 {v = noRetest} refl) i)
 
-module _ {y : Year} (k : Kept y) (b : InTest y) {l : Listing} {room : ℕ} where
+module _ {y : Year} (k : StepInvariants y) (b : InTest y) {l : Listing} {room : ℕ} where
   -- a test comes where none of its registrations is retested
   module _ {t : TestHead} (a : Admitted monthBegun y (record { head = head.Test t; listing = l }) room) (S : Sound (yearBy y l (head.Test t))) where
     abbrev q : ℕ
-    q = testPlace (t .zone) (t .product)
+    q = testGroup (t .zone) (t .product)
 
     same-tested : (p i : ℕ) → i < 64 → retestOf y i .taken ≡ true → year.listed (factsOf y .test p .listing) i ≡ year.listed (factsOf (yearBy y l (head.Test t)) .test p .listing) i
     unfolding yearBy
     same-tested p i m e = elim (ℕ-discrete p q) [
       | yes h ↦ same-bool _ _
           (λ o. never (not-listed (k .sound) q i m (test-free a)) (rw h at o))
-          (λ n. rw (own-place S p i m n) at (b i m e))
-      | no n ↦ rw (getD-set-other (y .tests) q p (testOf t l) noTest n)
+          (λ n. rw (own-group S p i m n) at (b i m e))
+      | no n ↦ rw (getD-set-other (y .tests) q p (recordedTest t l) noTest n)
     ]
 
     test-had : (p s : ℕ) → hadRetest (factsOf y) p s ≡ hadRetest (factsOf (yearBy y l (head.Test t))) p s
-    unfolding hadRetest entryOf yearBy
+    unfolding hadRetest testEntry yearBy
     test-had p s = any-same registrations (λ i m. go i m (retestOf y i .taken) refl)
       where
-        go : (i : ℕ) → i < 64 → (d : Bool) → retestOf y i .taken ≡ d → (entryOf (factsOf y) p s i && d) ≡ (entryOf (factsOf (yearBy y l (head.Test t))) p s i && d)
+        go : (i : ℕ) → i < 64 → (d : Bool) → retestOf y i .taken ≡ d → (testEntry (factsOf y) p s i && d) ≡ (testEntry (factsOf (yearBy y l (head.Test t))) p s i && d)
         go i m true e = rw (same-tested p i m e)
-        go i m false e = and-false (entryOf (factsOf y) p s i) ∙ sym (and-false (entryOf (factsOf (yearBy y l (head.Test t))) p s i))
+        go i m false e = and-false (testEntry (factsOf y) p s i) ∙ sym (and-false (testEntry (factsOf (yearBy y l (head.Test t))) p s i))
 
   -- a retest lists exactly the entries that failed, of which there are some
   module _ {t : RetestHead} (a : Admitted monthBegun y (record { head = head.Retest t; listing = l }) room) where
     abbrev r : ℕ
-    r = testPlace (t .zone) (t .product)
+    r = testGroup (t .zone) (t .product)
 
     abbrev z : Year
     z = yearBy y l (head.Retest t)
@@ -141,9 +141,9 @@ module _ {y : Year} (k : Kept y) (b : InTest y) {l : Listing} {room : ℕ} where
 
     -- so a registration that it lists is in that test, and the seller's
     listed-entry : (i : ℕ) → i < 64 → listed l i ≡ true → (year.listed (factsOf y .test r .listing) i ≡ true) × (factsOf y .seller i ≡ t .seller)
-    unfolding failed entryOf
+    unfolding failed testEntry
     listed-entry i m e =
-        let entry = and-parts (entryOf (factsOf y) r (t .seller) i) (ltb (year.reduction (factsOf y .test r .listing) i) (year.committed (factsOf y .terms) i)) (sym (lists-failed i m) ∙ e) .0 in
+        let entry = and-parts (testEntry (factsOf y) r (t .seller) i) (ltb (year.reduction (factsOf y .test r .listing) i) (year.committed (factsOf y .terms) i)) (sym (lists-failed i m) ∙ e) .0 in
         let parts = and-parts (year.listed (factsOf y .test r .listing) i) (eqb (factsOf y .seller i) (t .seller)) entry in
         (parts .0, eqb-true (factsOf y .seller i) (t .seller) (parts .1))
 
@@ -187,51 +187,51 @@ module _ {y : Year} (k : Kept y) (b : InTest y) {l : Listing} {room : ℕ} where
     retest-in-test i m e = go (listed l i) refl (sym (taken-is i m) ∙ e)
       where
         go : (d : Bool) → listed l i ≡ d → (d || retestOf y i .taken) ≡ true → year.listed (factsOf y .test (placed y i) .listing) i ≡ true
-        go true o f = let in-test = listed-entry i m o .0 in rw (own-place (k .sound) r i m in-test) in-test
+        go true o f = let in-test = listed-entry i m o .0 in rw (own-group (k .sound) r i m in-test) in-test
         go false o f = b i m f
 
     retest-had : (p s : ℕ) → hadRetest (factsOf z) p s ≡ (hadRetest (factsOf y) p s || (eqb r p && eqb (t .seller) s))
-    unfolding hadRetest entryOf yearBy
+    unfolding hadRetest testEntry yearBy
     retest-had p s =
         same-bool _ _
         (λ e.
-        let f = any-some 64 (λ i. entryOf (factsOf y) p s i && retestOf z i .taken) e in
+        let f = any-some 64 (λ i. testEntry (factsOf y) p s i && retestOf z i .taken) e in
         let i = f .0 in
-        let parts = and-parts (entryOf (factsOf y) p s i) (retestOf z i .taken) (f .2) in
+        let parts = and-parts (testEntry (factsOf y) p s i) (retestOf z i .taken) (f .2) in
         there i (f .1) (parts .0) (listed l i) refl (sym (taken-is i (f .1)) ∙ parts .1))
         (λ e. or-elim (hadRetest (factsOf y) p s) (eqb r p && eqb (t .seller) s) e had again)
       where
-        there : (i : ℕ) → i < 64 → entryOf (factsOf y) p s i ≡ true → (d : Bool) → listed l i ≡ d → (d || retestOf y i .taken) ≡ true
+        there : (i : ℕ) → i < 64 → testEntry (factsOf y) p s i ≡ true → (d : Bool) → listed l i ≡ d → (d || retestOf y i .taken) ≡ true
             → (hadRetest (factsOf y) p s || (eqb r p && eqb (t .seller) s)) ≡ true
         there i m entry true o g =
             let mine = listed-entry i m o in
             let parts = and-parts (year.listed (factsOf y .test p .listing) i) (eqb (factsOf y .seller i) s) entry in
-            let place : r ≡ p = sym (own-place (k .sound) r i m (mine .0)) ∙ own-place (k .sound) p i m (parts .0) in
+            let group : r ≡ p = sym (own-group (k .sound) r i m (mine .0)) ∙ own-group (k .sound) p i m (parts .0) in
             let seller : t .seller ≡ s = sym (mine .1) ∙ eqb-true (factsOf y .seller i) s (parts .1) in
-            rw (eq-eqb r p place, eq-eqb (t .seller) s seller) (or-true (hadRetest (factsOf y) p s))
+            rw (eq-eqb r p group, eq-eqb (t .seller) s seller) (or-true (hadRetest (factsOf y) p s))
         there i m entry false o g =
-            rw (any-at 64 (λ j. entryOf (factsOf y) p s j && retestOf y j .taken) i m (rw (entry, g)))
+            rw (any-at 64 (λ j. testEntry (factsOf y) p s j && retestOf y j .taken) i m (rw (entry, g)))
 
-        had : hadRetest (factsOf y) p s ≡ true → anyTo 64 (λ i. entryOf (factsOf y) p s i && retestOf z i .taken) ≡ true
+        had : hadRetest (factsOf y) p s ≡ true → anyTo 64 (λ i. testEntry (factsOf y) p s i && retestOf z i .taken) ≡ true
         had e =
-            let f = any-some 64 (λ i. entryOf (factsOf y) p s i && retestOf y i .taken) e in
-            let parts = and-parts (entryOf (factsOf y) p s (f .0)) (retestOf y (f .0) .taken) (f .2) in
-            any-at 64 (λ i. entryOf (factsOf y) p s i && retestOf z i .taken) (f .0) (f .1) (rw (parts .0, taken-is (f .0) (f .1), parts .1) (or-true (listed l (f .0))))
+            let f = any-some 64 (λ i. testEntry (factsOf y) p s i && retestOf y i .taken) e in
+            let parts = and-parts (testEntry (factsOf y) p s (f .0)) (retestOf y (f .0) .taken) (f .2) in
+            any-at 64 (λ i. testEntry (factsOf y) p s i && retestOf z i .taken) (f .0) (f .1) (rw (parts .0, taken-is (f .0) (f .1), parts .1) (or-true (listed l (f .0))))
 
-        again : (eqb r p && eqb (t .seller) s) ≡ true → anyTo 64 (λ i. entryOf (factsOf y) p s i && retestOf z i .taken) ≡ true
+        again : (eqb r p && eqb (t .seller) s) ≡ true → anyTo 64 (λ i. testEntry (factsOf y) p s i && retestOf z i .taken) ≡ true
         again e =
             let f = some-listed in
             let mine = listed-entry (f .0) (f .1) (f .2) in
             let parts = and-parts (eqb r p) (eqb (t .seller) s) e in
-            let place = eqb-true r p (parts .0) in
+            let group = eqb-true r p (parts .0) in
             let seller = eqb-true (t .seller) s (parts .1) in
-            any-at 64 (λ i. entryOf (factsOf y) p s i && retestOf z i .taken) (f .0) (f .1)
-            (rw (taken-is (f .0) (f .1), f .2, ← place, mine .0, eq-eqb (factsOf y .seller (f .0)) s (mine .1 ∙ seller)))
+            any-at 64 (λ i. testEntry (factsOf y) p s i && retestOf z i .taken) (f .0) (f .1)
+            (rw (taken-is (f .0) (f .1), f .2, ← group, mine .0, eq-eqb (factsOf y .seller (f .0)) s (mine .1 ∙ seller)))
 
   -- what an accepted record makes of it
-  pub had-by : {h : Head} → Does h → Admitted monthBegun y (record { head = h; listing = l }) room → Sound (yearBy y l h)
+  pub had-by : {h : Head} → StepCases h → Admitted monthBegun y (record { head = h; listing = l }) room → Sound (yearBy y l h)
       → InTest (yearBy y l h) × ((p s : ℕ) → hadRetest (factsOf (yearBy y l h)) p s ≡ (hadRetest (factsOf y) p s || isRetestAt p s h))
-  unfolding yearBy hadRetest entryOf
+  unfolding yearBy hadRetest testEntry
   had-by {h} (terms x) = λ a S.
       let begun = x .fresh (k .begun) a in
       let none = blank (k .sound) begun in

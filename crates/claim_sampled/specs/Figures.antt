@@ -16,7 +16,7 @@ use Rattle.record_numbers.specs.Calls.{bytesBy}
 use Rattle.telemetry.specs.declared.Sample.{Sample}
 use Rattle.telemetry.specs.declared.Sample.the-variants.{Pair, Direct}
 use Rattle.telemetry_eighths.specs.Eighths.{counts, eighthsOf}
-use Rattle.telemetry.specs.Reduction.{limited, reductionOf}
+use Rattle.telemetry.specs.Reduction.{withinLimit, reductionOf}
 use Rattle.claim_sampled.specs.Sampled.{made}
 
 -- that of number 7, the first entry's, and that of number 9, the second's
@@ -24,5 +24,5 @@ abbrev samples : ℕ → Sample
 samples j = cond (eqb j 7) (Pair (ofBits binary32 0x447a_2000) (ofBits binary32 0x43c8_3000)) (Direct (ofBits binary32 0x4503_4e00))
 
 figures : bytesBy (made samples (5 ∷ 1 ∷ 0 ∷ 1 ∷ 0 ∷ 2 ∷ 0 ∷ 0 ∷ 1 ∷ 0 ∷ [])) ≡ (0x52 ∷ 0x08 ∷ 0x01 ∷ 0x00 ∷ 0x02 ∷ 0x58 ∷ 0x04 ∷ 0x10 ∷ 0x68 ∷ [])
-unfolding bytesBy withReductions isReduction reducesIn anyTo tabulate bitAt number times itemsIn rulesTo rulesFor rulesBy bitsOf spell byteOf bytesOf pack encode reductionOf limited counts eighthsOf ofBits
+unfolding bytesBy withReductions isReduction reducesIn anyTo tabulate bitAt number times itemsIn rulesTo rulesFor rulesBy bitsOf spell byteOf bytesOf pack encode reductionOf withinLimit counts eighthsOf ofBits
 figures = refl

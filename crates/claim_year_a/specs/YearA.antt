@@ -12,14 +12,14 @@ use Rattle.bits.specs.Bits.{bitAt, number}
 use Rattle.bits.specs.Table.{times}
 use Rattle.bits.specs.Pack.{bitsOf, spell, byteOf, bytesOf, pack, encode}
 use Rattle.record_layouts.specs.Layout.{itemsIn, rulesTo, rulesFor}
-use Rattle.record_layouts.specs.Questions.{recordQuestions, firstFailed, kindOf, headOf, rulesOf, numbersOf, isKind, isWhole, permits, permitted, isFilled, rises, idsRise, recordNumber, consumed}
+use Rattle.record_layouts.specs.Questions.{recordQuestions, firstFailed, kindOf, headNumbers, rulesOf, numbersOf, isKind, isWhole, permits, permitted, isFilled, rises, idsRise, recordNumber, consumed}
 use Rattle.year.specs.Year.{newYear, listed, reduction, second, deficit, known, seller, area, zone, product, committed, fieldRate, obligation}
 use Rattle.owed.specs.Facts.{Facts, factsOf}
-use Rattle.owed.specs.Owed.{beforeCap, raised, unforced, own, ofArea, areaRate, rate, ofSeller, shareOf, called, calls, shortfallOver, u, measured, offU, asked, cap, daily, spent, charge, excess, e, creditShare, creditLimit, creditOf, result, B, testOf, compliance, test, credit, charges, credits, lse, amounts}
-use Rattle.owed.specs.Retests.{belowQuarter, entryOf, failed, testedKw, failedKw, hadRetest}
+use Rattle.owed.specs.Owed.{beforeCap, raised, unforced, own, ofArea, areaRate, rate, ofSeller, shareOf, dispatched, dispatchCount, shortfallOver, u, measured, offU, asked, cap, daily, spent, charge, excess, e, creditShare, creditLimit, creditOf, result, B, testCharge, compliance, test, credit, charges, credits, lse, amounts}
+use Rattle.owed.specs.Retests.{belowQuarter, testEntry, failed, testedKw, failedKw, hadRetest}
 use Rattle.statement.specs.Statement.{difference, hasRegistration, hasObligation, sellerColumns, lineFields, linesTo, statementFields, statementOf}
 use Rattle.statement.specs.Value42.{value42}
-use Rattle.record_heads.specs.Record.{headOf as namedHead, withItem, withItems, listingTo, listingIn}
+use Rattle.record_heads.specs.Record.{headOf, withItem, withItems, listingTo, listingIn}
 use Rattle.question_list.specs.Questions.{monthBegun, q6, q7, q8, q9, q10, q17, q11, q20, q21, q12, q13, q14, q15, q16, questions}
 use Rattle.question_conditions.specs.Entries.{inArea, inGroup, everyListed, deficitsListed, listsExactly}
 use Rattle.book_recorded.specs.After.{yearBy}
@@ -96,7 +96,7 @@ withEvents = parties ++ ((0x61 ∷ 0x62 ∷ 0x63 ∷ 0x64 ∷ []) ++ (juneEvent 
 
 -- what the bill program prints of a file. What computes it is named here, once for all figures.
 unfoldable pub bill : List ℕ → List ℕ
-unfolding sumTo anyTo allTo tabulate convert days due callable testable share bitAt number bitsOf spell byteOf bytesOf pack encode itemsIn times rulesTo rulesFor recordQuestions firstFailed kindOf headOf rulesOf numbersOf isKind isWhole permits permitted isFilled rises idsRise listed reduction second deficit known seller area zone product committed fieldRate obligation beforeCap raised unforced own ofArea areaRate rate ofSeller shareOf called calls shortfallOver u cap measured offU asked daily spent charge excess e creditShare creditLimit creditOf result belowQuarter entryOf failed testedKw failedKw hadRetest B testOf compliance test credit charges credits lse amounts difference hasRegistration hasObligation sellerColumns lineFields linesTo statementFields statementOf value42 namedHead withItem withItems listingTo listingIn inArea inGroup everyListed deficitsListed listsExactly monthBegun q6 q7 q8 q9 q10 q17 q11 q20 q21 q12 q13 q14 q15 q16 questions postNumber yearBy bufferWith yearAfter bufferAfter digitsTo decimal cents refusalLine linesFrom monthLine partyLine statementLines answerLines bytes recordNumber consumed recordsTo isAccepted isClosing buffered step run answered gather lastOr sumOver summed termsIn clearingsIn eventsIn testsIn retestsIn recorded callsOf answerText textOf
+unfolding sumTo anyTo allTo tabulate convert days due callable testable share bitAt number bitsOf spell byteOf bytesOf pack encode itemsIn times rulesTo rulesFor recordQuestions firstFailed kindOf headNumbers rulesOf numbersOf isKind isWhole permits permitted isFilled rises idsRise listed reduction second deficit known seller area zone product committed fieldRate obligation beforeCap raised unforced own ofArea areaRate rate ofSeller shareOf dispatched dispatchCount shortfallOver u cap measured offU asked daily spent charge excess e creditShare creditLimit creditOf result belowQuarter testEntry failed testedKw failedKw hadRetest B testCharge compliance test credit charges credits lse amounts difference hasRegistration hasObligation sellerColumns lineFields linesTo statementFields statementOf value42 headOf withItem withItems listingTo listingIn inArea inGroup everyListed deficitsListed listsExactly monthBegun q6 q7 q8 q9 q10 q17 q11 q20 q21 q12 q13 q14 q15 q16 questions postNumber yearBy bufferWith yearAfter bufferAfter digitsTo decimal cents refusalLine linesFrom monthLine partyLine statementLines answerLines bytes recordNumber consumed recordsTo isAccepted isClosing buffered step run answered gather lastOr sumOver summed termsIn clearingsIn eventsIn testsIn retestsIn recorded callsOf answerText textOf
 bill file = billText file blank
 
 -- what the rules read of the records that are accepted of a file

@@ -17,8 +17,8 @@ use Rattle.record_numbers.specs.Reductions.{reducesIn, isReduction, withReducti
 use Rattle.claim_history.specs.Runs.{Call, Answered, isAccepted, isClosing, acceptedIn, Variant}
 use Rattle.claim_history.specs.Taking.{shown, answers, run}
 use Rattle.claim_history.specs.Claim.{AtClose}
-use Rattle.claim_history.specs.Along.{answers-more}
-use Rattle.claim_history.specs.Itself.{chosen, variant-one}
+use Rattle.claim_history.specs.YearFollowsRecords.{answers-more}
+use Rattle.claim_history.specs.NotEmpty.{chosen, variant-one}
 use Rattle.claim_history.specs.Proof.{demand3}
 use Rattle.bill_step.specs.Answer.{calls as callsIn}
 use Rattle.claim_year_a.specs.YearA.{blank, parties, juneTest, bill}

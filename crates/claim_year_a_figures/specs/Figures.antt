@@ -74,15 +74,15 @@ retest-figures = refl
 -- Registration 2, Annual, of seller 0 and in the area of both, commits 2,000 kW at 15,000. A June event with two reductions (C-17) lists 0 with 600 and 1,500, 1 with 2,100 and 0, 2 with 2,000 and 1,000; seller 0 has a
 -- deficit of 100. First 400 kW convert to 410, less 100 is 310: × 10,000 / 2 is 1,550,000 a day, at close 5 237,150 to date and at close 13 565,750. Off-peak 1,000 kW of registration 2 convert to 1,026, less 100
 -- is 926: × 15,000 / 52 is 267,115 a day, at close 13 97,496. Seller 1 is credited 300,000 a day, 45,900 and 109,500; LSE 0 has three quarters of 191,250, then of 553,746.
-abbrev withApart : List ℕ
-withApart =
+abbrev withDual : List ℕ
+withDual =
     parties
     ++ ((0x20 ∷ 0x80 ∷ 0x98 ∷ 0x0F ∷ 0xA0 ∷ 0x3A ∷ 0x98 ∷ [])
     ++ (0x82 ∷ 0x21 ∷ 0x06 ∷ 0x00 ∷ 0x00 ∷ 0xC8 ∷ 0x00 ∷ 0x09 ∷ 0x60 ∷ 0x0B ∷ 0xB8 ∷ 0x08 ∷ 0x20 ∷ 0xD0 ∷ 0x00 ∷ 0x00 ∷ 0x10 ∷ 0x1F ∷ 0x40 ∷ 0x07 ∷ 0xD0 ∷ []))
 
-apart-figures : (numbers (answers newYear (callsIn withApart blank)) ≡ 0 ∷ 0 ∷ 0 ∷ 0 ∷ 0 ∷ 0 ∷ 0 ∷ [])
-    × (compliance (owedBy withApart) 5 0 ≡ 237150) × (compliance (owedBy withApart) 13 0 ≡ 663246)
-    × (credit (owedBy withApart) 5 1 ≡ 45900) × (credit (owedBy withApart) 13 1 ≡ 109500)
-    × (lse (owedBy withApart) 5 0 ≡ 143437) × (lse (owedBy withApart) 13 0 ≡ 415309) × (lse (owedBy withApart) 13 1 ≡ 138437)
+dual-figures : (numbers (answers newYear (callsIn withDual blank)) ≡ 0 ∷ 0 ∷ 0 ∷ 0 ∷ 0 ∷ 0 ∷ 0 ∷ [])
+    × (compliance (owedBy withDual) 5 0 ≡ 237150) × (compliance (owedBy withDual) 13 0 ≡ 663246)
+    × (credit (owedBy withDual) 5 1 ≡ 45900) × (credit (owedBy withDual) 13 1 ≡ 109500)
+    × (lse (owedBy withDual) 5 0 ≡ 143437) × (lse (owedBy withDual) 13 0 ≡ 415309) × (lse (owedBy withDual) 13 1 ≡ 138437)
 unfolding bill
-apart-figures = (refl, refl, refl, refl, refl, refl, refl, refl)
+dual-figures = (refl, refl, refl, refl, refl, refl, refl, refl)

@@ -6,26 +6,26 @@ use Rattle.ids.specs.Ids.{sumTo, countTo}
 use Rattle.allotment.specs.Divisions.{divisions}
 use Rattle.year.specs.Year.{listed, obligation}
 use Rattle.owed.specs.Facts.{Facts, registrations, lses}
-use Rattle.owed.specs.Owed.{ofSeller, lack, more, measured, offLack, e}
+use Rattle.owed.specs.Owed.{ofSeller, short, over, measured, offShort, e}
 
 module _ (F : Facts) where
   -- of seller s's amount by weights: its entries are the parties
-  abbrev pub entryOf : (ℕ → Bool) → ℕ → ℕ → Bool
-  entryOf listed s i = eqb (F .seller i) s && listed i
+  abbrev pub sellerEntry : (ℕ → Bool) → ℕ → ℕ → Bool
+  sellerEntry listed s i = eqb (F .seller i) s && listed i
 
   unfoldable pub divisionsOf : (ℕ → Bool) → (ℕ → ℕ) → ℕ → ℕ
-  divisionsOf listed weight s = divisions (countTo registrations (entryOf listed s)) (ofSeller F s weight)
+  divisionsOf listed weight s = divisions (countTo registrations (sellerEntry listed s)) (ofSeller F s weight)
 
   -- of u and e of seller s's entries in event ev
   abbrev pub uDivisions : ℕ → ℕ → ℕ
-  uDivisions ev = divisionsOf (listed (F .event ev .listing)) (lack F ev)
+  uDivisions ev = divisionsOf (listed (F .event ev .listing)) (short F ev)
 
   abbrev pub eDivisions : ℕ → ℕ → ℕ
-  eDivisions ev = divisionsOf (listed (F .event ev .listing)) (more F ev)
+  eDivisions ev = divisionsOf (listed (F .event ev .listing)) (over F ev)
 
   -- and of the off-peak u of those that are measured apart
   abbrev pub offDivisions : ℕ → ℕ → ℕ
-  offDivisions ev = divisionsOf (measured F ev) (offLack F ev)
+  offDivisions ev = divisionsOf (measured F ev) (offShort F ev)
 
   -- of event ev's credits: its entries are the parties
   unfoldable pub creditDivisions : ℕ → ℕ

@@ -24,7 +24,7 @@ pub record Facts : Type 0 where
 
 -- the facts of a year
 abbrev pub factsOf : Year → Facts
-factsOf y = record { terms = y .terms; seller = seller (y .terms); clearings = clearingsOf y; events = y .held; event = eventAt y; test = testAt y; retest = retestOf y }
+factsOf y = record { terms = y .terms; seller = seller (y .terms); clearings = clearingsOf y; events = y .accepted; event = eventAt y; test = testAt y; retest = retestOf y }
 
 -- as many ids of registrations and LSEs there are, and places of tests
 abbrev pub registrations : ℕ
@@ -33,5 +33,5 @@ registrations = 64
 abbrev pub lses : ℕ
 lses = 16
 
-abbrev pub places : ℕ
-places = 24
+abbrev pub testGroups : ℕ
+testGroups = 24

@@ -18,8 +18,8 @@ use Rattle.year.specs.declared.Retest.{Retest}
 use Rattle.year.specs.Year.{noRegistration, noClearings, noEvent, noTest, noRetest, listed, reduction, second, deficit, known, area, product, committed, fieldRate, obligation}
 use Rattle.owed.specs.Facts.{Facts}
 use Rattle.owed.specs.Divisions.{uDivisions, offDivisions, eDivisions, divisionsOf, creditDivisions, lseDivisions}
-use Rattle.owed.specs.Owed.{beforeCap, raised, unforced, own, ofArea, areaRate, rate, ofSeller, shareOf, called, calls, shortfallOver, u, measured, offU, asked, cap, daily, spent, revenue, charge, excess, e, creditLimit, result, testShortfall, B, testOf}
-use Rattle.owed.specs.Retests.{belowQuarter, entryOf, failed, testedKw, failedKw, hadRetest}
+use Rattle.owed.specs.Owed.{beforeCap, raised, unforced, own, ofArea, areaRate, rate, ofSeller, shareOf, dispatched, dispatchCount, shortfallOver, u, measured, offU, asked, cap, daily, spent, revenue, charge, excess, e, creditLimit, result, testShortfall, B, testCharge}
+use Rattle.owed.specs.Retests.{belowQuarter, testEntry, failed, testedKw, failedKw, hadRetest}
 
 -- facts with Year A's factors, by what is listed of each
 abbrev factsBy : List Registration → List ℕ → List Clearings → List Event → List Test → List Retest → Facts
@@ -35,16 +35,16 @@ factsBy registrations obligations clearings events tests retests =
     }
 
 -- a registration by seller, area, product, committed kW and rate, in its place known or not
-abbrev place : Bool → ℕ → ℕ → ℕ → ℕ → ℕ → Registration
-place known seller area product committed rate =
+abbrev entered : Bool → ℕ → ℕ → ℕ → ℕ → ℕ → Registration
+entered known seller area product committed rate =
     record { known = known; seller = seller; area = area; zone = 0; product = product; committed = record { 0 = committed }; rate = rate }
 
 abbrev registered : ℕ → ℕ → ℕ → ℕ → ℕ → Registration
-registered = place true
+registered = entered true
 
 -- what a June event of area 1, and a June test, list
 abbrev event : Listing → ℕ → Bool → Event
-event l period apart = record { area = 1; month = 1; period = period; apart = apart; listing = l }
+event l period dual = record { area = 1; month = 1; period = period; dual = dual; listing = l }
 
 abbrev tested : Listing → Test
 tested l = record { taken = true; month = 1; listing = l }
@@ -58,7 +58,7 @@ plain listed reductions = record { listed = listed; reductions = reductions; sec
 abbrev cleared : ℕ → ℕ → ℕ → ℕ → ℕ → List ℕ → List Bool → ℕ → Facts
 cleared count value kw product seller periods listed v =
     factsBy
-    (registered 0 1 product 1000 10000 ∷ registered seller 1 limited 2000 15000 ∷ registered 2 1 limited 400 0 ∷ registered 3 2 limited 500 0 ∷ place false 0 1 limited 700 20000 ∷ [])
+    (registered 0 1 product 1000 10000 ∷ registered seller 1 limited 2000 15000 ∷ registered 2 1 limited 400 0 ∷ registered 3 2 limited 500 0 ∷ entered false 0 1 limited 700 20000 ∷ [])
     (3000 ∷ 1000 ∷ [])
     (record { count = count; value = value; kw = kw } ∷ [])
     (map (λ period. event (plain listed (v ∷ 2100 ∷ v ∷ [])) period false) periods)
@@ -84,7 +84,7 @@ figures : (unforced A 400 ≡ 410)
     × (beforeCap offPeak 0 410 10000 ≡ 78846)
     × (u twin 0 0 ≡ 1026) × (u twin 1 0 ≡ 1026) × (cap twin 0 ≡ 10260000) × (spent twin 2 0 ≡ 10260000) × (spent twin 3 0 ≡ 10260000)
     × (due limited 1 ≡ 5) × (due limited 4 ≡ 7) × (due annual 12 ≡ 15)
-unfolding sumTo convert due share beforeCap unforced own ofArea areaRate rate ofSeller shareOf calls shortfallOver u cap measured offU asked daily spent listed reduction second deficit known area product committed fieldRate obligation
+unfolding sumTo convert due share beforeCap unforced own ofArea areaRate rate ofSeller shareOf dispatchCount shortfallOver u cap measured offU asked daily spent listed reduction second deficit known area product committed fieldRate obligation
 figures =
     (refl, refl, refl, refl, refl, refl, refl, refl, refl, refl, refl, refl, refl, refl, refl, refl, refl, refl, refl, refl, refl)
 
@@ -101,18 +101,18 @@ raised-figures = (refl, refl)
 
 -- both registrations are seller 0's, and an event lists the second: B is the first's rate, 10,000. Over all entries of the test it would be 13,333.
 base-figure : B (yearA limited 0 (1 ∷ []) (false ∷ true ∷ []) 600) 0 0 ≡ 10000
-unfolding sumTo anyTo own ofArea areaRate rate ofSeller called B listed reduction second deficit known area product committed fieldRate obligation
+unfolding sumTo anyTo own ofArea areaRate rate ofSeller dispatched B listed reduction second deficit known area product committed fieldRate obligation
 base-figure = refl
 
 -- three on-peak events: n is 3 for the first of them too, and 1,366,666 × 183 / 1,000 is 250,099 from its due month on. Rounded to cents before, it would be 249,978.
 days-figure : (charge (yearA limited 1 (1 ∷ 1 ∷ 1 ∷ []) (true ∷ true ∷ []) 600) 6 0 0 ≡ 250099)
     × (charge (yearA limited 1 (1 ∷ 1 ∷ 1 ∷ []) (true ∷ true ∷ []) 600) 4 0 0 ≡ 0)
-unfolding sumTo convert days due share beforeCap unforced own ofArea areaRate rate ofSeller shareOf calls shortfallOver u cap measured offU asked daily spent charge listed reduction second deficit known area product committed fieldRate obligation
+unfolding sumTo convert days due share beforeCap unforced own ofArea areaRate rate ofSeller shareOf dispatchCount shortfallOver u cap measured offU asked daily spent charge listed reduction second deficit known area product committed fieldRate obligation
 days-figure = (refl, refl)
 
 -- A's event at close 6, past its due month, whether it came before close 5 or after: 2,050,000 × 183 / 1,000 to date
 late-figure : charge A 6 0 0 ≡ 375150
-unfolding sumTo convert days due share beforeCap unforced own ofArea areaRate rate ofSeller shareOf calls shortfallOver u cap measured offU asked daily spent charge listed reduction second deficit known area product committed fieldRate obligation
+unfolding sumTo convert days due share beforeCap unforced own ofArea areaRate rate ofSeller shareOf dispatchCount shortfallOver u cap measured offU asked daily spent charge listed reduction second deficit known area product committed fieldRate obligation
 late-figure = refl
 
 -- A with both registrations seller 0's, which is short: registration 1 has no excess, though it gives 100 more
@@ -134,7 +134,7 @@ clearing-figures : (rate (clearedA 2 (1 * 100 + 3 * 201) (1 + 3)) 0 ≡ 175) × 
     × (daily (clearedA 2 703 4) 0 0 0 ≡ 35875) × (cap (clearedA 2 703 4) 0 ≡ 179550) × (revenue (clearedA 2 703 4) 1 0 ≡ 5386500)
     × (B (cleared 2 703 4 limited 1 [] [] 600) 0 0 ≡ 175)
     × (creditLimit (cleared 2 703 4 limited 1 (1 ∷ []) (true ∷ true ∷ []) 1200) 1 0 0 ≡ 210)
-unfolding sumTo anyTo convert days share beforeCap unforced own ofArea areaRate rate ofSeller shareOf called calls shortfallOver u cap measured offU asked daily spent revenue excess e creditLimit B listed reduction second deficit known area product committed fieldRate obligation
+unfolding sumTo anyTo convert days share beforeCap unforced own ofArea areaRate rate ofSeller shareOf dispatched dispatchCount shortfallOver u cap measured offU asked daily spent revenue excess e creditLimit B listed reduction second deficit known area product committed fieldRate obligation
 clearing-figures = (refl, refl, refl, refl, refl, refl, refl, refl)
 
 -- 1,000 kW at 10,000 and 2,000 kW at 15,000 lend 40,000,000 / 3,000 to the third, rounded down; with its own 400 kW in the divisor it would be
@@ -146,7 +146,7 @@ borrowed-figures : (rate A 2 ≡ 13333) × (rate A 3 ≡ 0) × (rate A 4 ≡ 0) 
     × (daily (yearA limited 1 (1 ∷ []) (false ∷ false ∷ true ∷ []) 0) 0 0 2 ≡ 2733265) × (cap A 2 ≡ 5466530) × (revenue A 1 2 ≡ 163995900)
     × (B (yearA limited 1 [] [] 600) 0 2 ≡ 13333)
     × (creditLimit (yearA limited 1 (1 ∷ []) (false ∷ false ∷ true ∷ []) 600) 1 0 2 ≡ 15999)
-unfolding sumTo anyTo convert days share beforeCap unforced own ofArea areaRate rate ofSeller shareOf called calls shortfallOver u cap measured offU asked daily spent revenue excess e creditLimit B listed reduction second deficit known area product committed fieldRate obligation
+unfolding sumTo anyTo convert days share beforeCap unforced own ofArea areaRate rate ofSeller shareOf dispatched dispatchCount shortfallOver u cap measured offU asked daily spent revenue excess e creditLimit B listed reduction second deficit known area product committed fieldRate obligation
 borrowed-figures = (refl, refl, refl, refl, refl, refl, refl, refl, refl, refl)
 
 -- Three parties divide three times, and never where their weights are all 0; no party never does. In A seller 0's entry lacks 400 kW and seller 1's gives
@@ -184,16 +184,16 @@ failed-figures : (testedKw (retried 400 false 0 []) 0 0 ≡ 4001) × (failedKw (
     × (testedKw (retried 400 false 0 []) 0 2 ≡ 0) × (testedKw (retried 400 false 0 []) 1 0 ≡ 0)
     × (hadRetest (retried 400 false 0 []) 0 0 ≡ false) × (hadRetest (retried 400 true 0 []) 0 0 ≡ true) × (hadRetest (retried 400 true 0 []) 0 1 ≡ false)
     × (hadRetest (retried 400 true 0 []) 1 0 ≡ false)
-unfolding sumTo anyTo entryOf failed testedKw failedKw hadRetest listed reduction second deficit known area product committed fieldRate obligation
+unfolding sumTo anyTo testEntry failed testedKw failedKw hadRetest listed reduction second deficit known area product committed fieldRate obligation
 failed-figures = (refl, refl, refl, refl, refl, refl, refl, refl, refl, refl, refl, refl, refl)
 
 -- First, 3,501 of 4,001 kW are given: 500 kW convert to 513, at 12,000 and for 30 days 184,680 cents. Retested with 900 nothing is short; with 1,000 neither, though more
 -- is given; with 0, worse, 900 kW convert to 923: 332,280 cents. Once an event lists registration 0 neither result counts. Seller 1 stays short of 400 kW, 410 less its deficit of 100.
 retest-figures : (result (retried 400 false 900 []) 0 0 ≡ 400) × (result (retried 400 true 900 []) 0 0 ≡ 900) × (result (retried 400 true 0 []) 0 0 ≡ 0)
-    × (testOf (retried 400 false 900 []) 1 0 0 ≡ 184680) × (testOf (retried 400 true 900 []) 1 0 0 ≡ 0) × (testOf (retried 400 true 1000 []) 1 0 0 ≡ 0)
-    × (testOf (retried 400 true 0 []) 1 0 0 ≡ 332280) × (testOf (retried 400 true 0 (true ∷ [])) 1 0 0 ≡ 0)
+    × (testCharge (retried 400 false 900 []) 1 0 0 ≡ 184680) × (testCharge (retried 400 true 900 []) 1 0 0 ≡ 0) × (testCharge (retried 400 true 1000 []) 1 0 0 ≡ 0)
+    × (testCharge (retried 400 true 0 []) 1 0 0 ≡ 332280) × (testCharge (retried 400 true 0 (true ∷ [])) 1 0 0 ≡ 0)
     × (testShortfall (retried 400 true 0 []) 0 1 ≡ 310)
-unfolding sumTo anyTo convert days raised unforced own ofArea areaRate rate ofSeller called shortfallOver result B testOf listed reduction second deficit known area product committed fieldRate obligation
+unfolding sumTo anyTo convert days raised unforced own ofArea areaRate rate ofSeller dispatched shortfallOver result B testCharge listed reduction second deficit known area product committed fieldRate obligation
 retest-figures = (refl, refl, refl, refl, refl, refl, refl, refl, refl)
 
 -- Events of these periods, some with off-peak measured apart, list seller 0's Limited registration of 1,000 kW at 10,000 and its Annual one of 2,000 at 15,000, seller 1's Annual one of 500 at 20,000,
@@ -212,25 +212,25 @@ measuredApart periods v =
 -- One such event, with 300 kW of seller 1's. First: seller 0's net of 400 kW converts to 410, less 100 is 310, all of its Limited entry; 205 and 10 are sellers 1's and 3's. Off-peak: seller 0's Annual entry lacks 1,000 kW, 1,026 less
 -- 100 is 926, and 513 and 3,078 are sellers 1's and 3's; Limited entries have nothing. Before the cap: 310 × 10,000 / 2; 926 × 15,000 / 52; the higher of 205 × 20,000 / 2 and 513 × 20,000 / 52; nothing; the higher of
 -- 10 × 10,000 / 2 and 3,078 × 10,000 / 52. To date × 153 and × 365 / 1,000. Seller 2 gives 100 kW more than it committed, by its first figure.
-abbrev apartOnce : Facts
-apartOnce = measuredApart ((3, true) ∷ []) 300
+abbrev dualOnce : Facts
+dualOnce = measuredApart ((3, true) ∷ []) 300
 
-apart-figures : (u apartOnce 0 0 ≡ 310) × (offU apartOnce 0 0 ≡ 0) × (offU apartOnce 0 1 ≡ 926) × (offU apartOnce 0 2 ≡ 513) × (offU apartOnce 0 3 ≡ 0) × (offU apartOnce 0 4 ≡ 3078)
-    × (asked apartOnce 0 0 ≡ 1550000) × (asked apartOnce 0 1 ≡ 267115) × (asked apartOnce 0 2 ≡ 2050000) × (asked apartOnce 0 3 ≡ 0) × (asked apartOnce 0 4 ≡ 591923)
-    × (charge apartOnce 5 0 0 ≡ 237150) × (charge apartOnce 13 0 1 ≡ 97496) × (e apartOnce 0 3 ≡ 100)
-    × (uDivisions apartOnce 0 0 ≡ 2) × (offDivisions apartOnce 0 0 ≡ 1) × (offDivisions apartOnce 0 2 ≡ 0)
-unfolding sumTo convert days due share beforeCap unforced own ofArea areaRate rate ofSeller shareOf calls shortfallOver u measured offU asked cap daily spent charge excess e divisions divisionsOf listed reduction second deficit known area product committed fieldRate obligation
-apart-figures = (refl, refl, refl, refl, refl, refl, refl, refl, refl, refl, refl, refl, refl, refl, refl, refl, refl)
+dual-figures : (u dualOnce 0 0 ≡ 310) × (offU dualOnce 0 0 ≡ 0) × (offU dualOnce 0 1 ≡ 926) × (offU dualOnce 0 2 ≡ 513) × (offU dualOnce 0 3 ≡ 0) × (offU dualOnce 0 4 ≡ 3078)
+    × (asked dualOnce 0 0 ≡ 1550000) × (asked dualOnce 0 1 ≡ 267115) × (asked dualOnce 0 2 ≡ 2050000) × (asked dualOnce 0 3 ≡ 0) × (asked dualOnce 0 4 ≡ 591923)
+    × (charge dualOnce 5 0 0 ≡ 237150) × (charge dualOnce 13 0 1 ≡ 97496) × (e dualOnce 0 3 ≡ 100)
+    × (uDivisions dualOnce 0 0 ≡ 2) × (offDivisions dualOnce 0 0 ≡ 1) × (offDivisions dualOnce 0 2 ≡ 0)
+unfolding sumTo convert days due share beforeCap unforced own ofArea areaRate rate ofSeller shareOf dispatchCount shortfallOver u measured offU asked cap daily spent charge excess e divisions divisionsOf listed reduction second deficit known area product committed fieldRate obligation
+dual-figures = (refl, refl, refl, refl, refl, refl, refl, refl, refl, refl, refl, refl, refl, refl, refl, refl, refl)
 
 -- Two such events and one of period 3 with a single figure: n is 3, 310 × 10,000 / 3; off-peak is still divided by 52; in the third nothing is measured apart.
-abbrev apartTwice : Facts
-apartTwice = measuredApart ((3, true) ∷ (3, true) ∷ (3, false) ∷ []) 300
+abbrev dualTwice : Facts
+dualTwice = measuredApart ((3, true) ∷ (3, true) ∷ (3, false) ∷ []) 300
 
 -- An off-peak event, then two such ones, in which seller 1 gives nothing: 513 × 20,000 / 52 is 197,307, then 5,130,000 each, of which the cap of 10,260,000 leaves the last 4,932,693.
-abbrev apartCapped : Facts
-apartCapped = measuredApart ((offPeak, false) ∷ (3, true) ∷ (3, true) ∷ []) 0
+abbrev dualCapped : Facts
+dualCapped = measuredApart ((offPeak, false) ∷ (3, true) ∷ (3, true) ∷ []) 0
 
-counted-figures : (asked apartTwice 0 0 ≡ 1033333) × (asked apartTwice 0 1 ≡ 267115) × (asked apartTwice 2 1 ≡ 0) × (asked apartTwice 2 4 ≡ 33333)
-    × (spent apartCapped 1 2 ≡ 197307) × (spent apartCapped 2 2 ≡ 5327307) × (spent apartCapped 3 2 ≡ 10260000)
-unfolding sumTo convert share beforeCap unforced own ofArea areaRate rate ofSeller shareOf calls shortfallOver u measured offU asked cap daily spent listed reduction second deficit known area product committed fieldRate obligation
+counted-figures : (asked dualTwice 0 0 ≡ 1033333) × (asked dualTwice 0 1 ≡ 267115) × (asked dualTwice 2 1 ≡ 0) × (asked dualTwice 2 4 ≡ 33333)
+    × (spent dualCapped 1 2 ≡ 197307) × (spent dualCapped 2 2 ≡ 5327307) × (spent dualCapped 3 2 ≡ 10260000)
+unfolding sumTo convert share beforeCap unforced own ofArea areaRate rate ofSeller shareOf dispatchCount shortfallOver u measured offU asked cap daily spent listed reduction second deficit known area product committed fieldRate obligation
 counted-figures = (refl, refl, refl, refl, refl, refl, refl)

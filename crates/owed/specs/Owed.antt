@@ -12,7 +12,7 @@ use Rattle.year.specs.declared.Listing.{Listing}
 use Rattle.year.specs.declared.Terms.{Terms}
 use Rattle.year.specs.declared.Amounts.{Amounts}
 use Rattle.year.specs.Year.{listed, reduction, second, deficit, known, area, product, committed, fieldRate, obligation, sellers}
-use Rattle.owed.specs.Facts.{Facts, registrations, lses, places}
+use Rattle.owed.specs.Facts.{Facts, registrations, lses, testGroups}
 
 -- a period of the daily charge's first rule
 abbrev pub oneOrThree : ℕ → Bool
@@ -50,14 +50,14 @@ module _ (F : Facts) where
   own = only (known T) (λ i. cond (ltb 0 (F .clearings i .count)) (F .clearings i .value / F .clearings i .kw) (fieldRate T i))
 
   -- an area's rate: the average of the own rates above 0 of its registrations, by committed kW, rounded down
-  abbrev pub lends : ℕ → Bool
-  lends i = ltb 0 (own i)
+  abbrev pub hasOwnRate : ℕ → Bool
+  hasOwnRate i = ltb 0 (own i)
 
   unfoldable pub ofArea : ℕ → (ℕ → ℕ) → ℕ
   ofArea a f = sumTo registrations (keyed (area T) f a)
 
   unfoldable pub areaRate : ℕ → ℕ
-  areaRate a = ofArea a (only lends (λ i. committed T i * own i)) / ofArea a (only lends (committed T))
+  areaRate a = ofArea a (only hasOwnRate (λ i. committed T i * own i)) / ofArea a (only hasOwnRate (committed T))
 
   -- the rate in force: its own; where that is 0, a known registration has its area's
   unfoldable pub rate : ℕ → ℕ
@@ -72,11 +72,11 @@ module _ (F : Facts) where
   shareOf weight amount i = share registrations (keyed (F .seller) weight (F .seller i)) (amount (F .seller i)) i
 
   -- is registration i listed by an event, and by how many of period 1 or 3 (n)
-  unfoldable pub called : ℕ → Bool
-  called i = anyTo (F .events) (λ ev. listed (inEvent ev) i)
+  unfoldable pub dispatched : ℕ → Bool
+  dispatched i = anyTo (F .events) (λ ev. listed (inEvent ev) i)
 
-  unfoldable pub calls : ℕ → ℕ
-  calls i = countTo (F .events) (λ ev. listed (inEvent ev) i && oneOrThree (F .event ev .period))
+  unfoldable pub dispatchCount : ℕ → ℕ
+  dispatchCount i = countTo (F .events) (λ ev. listed (inEvent ev) i && oneOrThree (F .event ev .period))
 
   -- compliance, step 1: a seller's unforced shortfall, of the entries that are picked, with their reductions and the sellers' deficits
   unfoldable pub shortfallOver : (ℕ → Bool) → (ℕ → ℕ) → (ℕ → ℕ) → ℕ → ℕ
@@ -86,40 +86,40 @@ module _ (F : Facts) where
   shortfall ev = shortfallOver (listed (inEvent ev)) (reduction (inEvent ev)) (deficit (inEvent ev))
 
   -- what an entry lacks, max(0, c − v), and what it gives more, max(0, v − c)
-  abbrev pub lackOver : (ℕ → Bool) → (ℕ → ℕ) → ℕ → ℕ
-  lackOver picked reduction = only picked (λ i. committed T i - reduction i)
+  abbrev pub shortOf : (ℕ → Bool) → (ℕ → ℕ) → ℕ → ℕ
+  shortOf picked reduction = only picked (λ i. committed T i - reduction i)
 
-  abbrev pub moreOver : (ℕ → Bool) → (ℕ → ℕ) → ℕ → ℕ
-  moreOver picked reduction = only picked (λ i. reduction i - committed T i)
+  abbrev pub overOf : (ℕ → Bool) → (ℕ → ℕ) → ℕ → ℕ
+  overOf picked reduction = only picked (λ i. reduction i - committed T i)
 
-  abbrev pub lack : ℕ → ℕ → ℕ
-  lack ev = lackOver (listed (inEvent ev)) (reduction (inEvent ev))
+  abbrev pub short : ℕ → ℕ → ℕ
+  short ev = shortOf (listed (inEvent ev)) (reduction (inEvent ev))
 
-  abbrev pub more : ℕ → ℕ → ℕ
-  more ev = moreOver (listed (inEvent ev)) (reduction (inEvent ev))
+  abbrev pub over : ℕ → ℕ → ℕ
+  over ev = overOf (listed (inEvent ev)) (reduction (inEvent ev))
 
   -- step 2
   unfoldable pub u : ℕ → ℕ → ℕ
-  u ev i = shareOf (lack ev) (shortfall ev) i
+  u ev i = shareOf (short ev) (shortfall ev) i
 
   -- steps 1 and 2 of what is measured off-peak apart: of all entries but Limited ones, by their second reductions, the whole deficit taken off here too
   unfoldable pub measured : ℕ → ℕ → Bool
-  measured ev i = F .event ev .apart && (listed (inEvent ev) i && not (eqb (product T i) limited))
+  measured ev i = F .event ev .dual && (listed (inEvent ev) i && not (eqb (product T i) limited))
 
   abbrev pub offShortfall : ℕ → ℕ → ℕ
   offShortfall ev = shortfallOver (measured ev) (second (inEvent ev)) (deficit (inEvent ev))
 
-  abbrev pub offLack : ℕ → ℕ → ℕ
-  offLack ev = lackOver (measured ev) (second (inEvent ev))
+  abbrev pub offShort : ℕ → ℕ → ℕ
+  offShort ev = shortOf (measured ev) (second (inEvent ev))
 
   unfoldable pub offU : ℕ → ℕ → ℕ
-  offU ev i = shareOf (offLack ev) (offShortfall ev) i
+  offU ev i = shareOf (offShort ev) (offShortfall ev) i
 
   -- step 3 of an entry: the higher of what u and what the off-peak u comes to, of which the second is 0 where nothing is measured apart
   unfoldable pub asked : ℕ → ℕ → ℕ
   asked ev i =
-      let first = beforeCap (F .event ev .period) (calls i) (u ev i) (rate i) in
-      let second = beforeCap offPeak (calls i) (offU ev i) (rate i) in
+      let first = beforeCap (F .event ev .period) (dispatchCount i) (u ev i) (rate i) in
+      let second = beforeCap offPeak (dispatchCount i) (offU ev i) (rate i) in
       max first second
 
   -- step 4: the cap, and its rest when x of it is spent
@@ -151,7 +151,7 @@ module _ (F : Facts) where
   excess ev = let l = inEvent ev in λ s. ofSeller s (only (listed l) (reduction l)) - ofSeller s (only (listed l) (committed T))
 
   unfoldable pub e : ℕ → ℕ → ℕ
-  e ev i = shareOf (more ev) (excess ev) i
+  e ev i = shareOf (over ev) (excess ev) i
 
   -- the share of the event's charges to date; the limit, whose bracket is rounded first; and the credit, the lesser of both
   unfoldable pub creditShare : ℕ → ℕ → ℕ → ℕ
@@ -165,7 +165,7 @@ module _ (F : Facts) where
 
   -- test: the entries whose registration no event lists; an entry's reduction, the retested one, if there is one, else the first; the shortfall as in step 1, B, and the charge to date
   abbrev pub stands : ℕ → ℕ → Bool
-  stands p i = listed (inTest p) i && not (called i)
+  stands p i = listed (inTest p) i && not (dispatched i)
 
   unfoldable pub result : ℕ → ℕ → ℕ
   result p i = cond (F .retest i .taken) (F .retest i .reduction) (reduction (inTest p) i)
@@ -176,15 +176,15 @@ module _ (F : Facts) where
   unfoldable pub B : ℕ → ℕ → ℕ
   B p s = ofSeller s (only (stands p) (λ i. committed T i * rate i)) / ofSeller s (only (stands p) (committed T))
 
-  unfoldable pub testOf : ℕ → ℕ → ℕ → ℕ
-  testOf k p s = testShortfall p s * raised (B p s) * D k / 1000
+  unfoldable pub testCharge : ℕ → ℕ → ℕ → ℕ
+  testCharge k p s = testShortfall p s * raised (B p s) * D k / 1000
 
   -- to date: a seller's charges and credits over all events and tests, all sellers', and LSE j's
   unfoldable pub compliance : ℕ → ℕ → ℕ
   compliance k s = sumTo (F .events) (λ ev. ofSeller s (charge k ev))
 
   unfoldable pub test : ℕ → ℕ → ℕ
-  test k s = sumTo places (λ p. testOf k p s)
+  test k s = sumTo testGroups (λ p. testCharge k p s)
 
   unfoldable pub credit : ℕ → ℕ → ℕ
   credit k s = sumTo (F .events) (λ ev. ofSeller s (creditOf k ev))

@@ -12,19 +12,19 @@ belowQuarter failed tested = ltb 0 (failed * 4) && ltb (failed * 4) tested
 
 module _ (F : Facts) where
   -- has the test an entry of the seller for registration i, and did it fail: was its reduction below its commitment
-  unfoldable pub entryOf : ℕ → ℕ → ℕ → Bool
-  entryOf p s i = listed (F .test p .listing) i && eqb (F .seller i) s
+  unfoldable pub testEntry : ℕ → ℕ → ℕ → Bool
+  testEntry p s i = listed (F .test p .listing) i && eqb (F .seller i) s
 
   unfoldable pub failed : ℕ → ℕ → ℕ → Bool
-  failed p s i = entryOf p s i && ltb (reduction (F .test p .listing) i) (committed (F .terms) i)
+  failed p s i = testEntry p s i && ltb (reduction (F .test p .listing) i) (committed (F .terms) i)
 
   -- the seller's tested and failed kW: sums of commitments
   unfoldable pub testedKw : ℕ → ℕ → ℕ
-  testedKw p s = sumTo registrations (only (entryOf p s) (committed (F .terms)))
+  testedKw p s = sumTo registrations (only (testEntry p s) (committed (F .terms)))
 
   unfoldable pub failedKw : ℕ → ℕ → ℕ
   failedKw p s = sumTo registrations (only (failed p s) (committed (F .terms)))
 
   -- has the seller had a retest of it: is one of its entries retested (a retest lists at least one, and none but these)
   unfoldable pub hadRetest : ℕ → ℕ → Bool
-  hadRetest p s = anyTo registrations (λ i. entryOf p s i && F .retest i .taken)
+  hadRetest p s = anyTo registrations (λ i. testEntry p s i && F .retest i .taken)

@@ -8,7 +8,7 @@ use Rattle.ids.specs.Ids.{sumTo, keyed}
 use Rattle.allotment.specs.Allot.{Allotted, allotted, share, share-zero}
 use Rattle.year.specs.Year as year
 use Rattle.owed.specs.Facts.{Facts, registrations, lses}
-use Rattle.owed.specs.Owed.{shareOf, shortfall, lack, more, u, offShortfall, offLack, offU, charge, excess, e, creditShare, charges, credits, lse}
+use Rattle.owed.specs.Owed.{shareOf, shortfall, short, over, u, offShortfall, offShort, offU, charge, excess, e, creditShare, charges, credits, lse}
 
 module _ (F : Facts) where
   -- registrations' shares of their sellers' amounts are, seller by seller, an allotment over the seller's registrations
@@ -23,17 +23,17 @@ module _ (F : Facts) where
       go i true q = rw (q, eqb-true (F .seller i) s q)
       go i false q = rw q (sym (share-zero registrations (keyed (F .seller) weight s) (amount s) i (rw q)))
 
-  pub u-allotted : (ev s : ℕ) → Allotted registrations (keyed (F .seller) (lack F ev) s) (shortfall F ev s) (keyed (F .seller) (u F ev) s)
+  pub u-allotted : (ev s : ℕ) → Allotted registrations (keyed (F .seller) (short F ev) s) (shortfall F ev s) (keyed (F .seller) (u F ev) s)
   unfolding u
-  u-allotted ev s = shares-of (lack F ev) (shortfall F ev) s
+  u-allotted ev s = shares-of (short F ev) (shortfall F ev) s
 
-  pub off-allotted : (ev s : ℕ) → Allotted registrations (keyed (F .seller) (offLack F ev) s) (offShortfall F ev s) (keyed (F .seller) (offU F ev) s)
+  pub off-allotted : (ev s : ℕ) → Allotted registrations (keyed (F .seller) (offShort F ev) s) (offShortfall F ev s) (keyed (F .seller) (offU F ev) s)
   unfolding offU
-  off-allotted ev s = shares-of (offLack F ev) (offShortfall F ev) s
+  off-allotted ev s = shares-of (offShort F ev) (offShortfall F ev) s
 
-  pub e-allotted : (ev s : ℕ) → Allotted registrations (keyed (F .seller) (more F ev) s) (excess F ev s) (keyed (F .seller) (e F ev) s)
+  pub e-allotted : (ev s : ℕ) → Allotted registrations (keyed (F .seller) (over F ev) s) (excess F ev s) (keyed (F .seller) (e F ev) s)
   unfolding e
-  e-allotted ev s = shares-of (more F ev) (excess F ev) s
+  e-allotted ev s = shares-of (over F ev) (excess F ev) s
 
   pub credit-allotted : (k ev : ℕ) → Allotted registrations (e F ev) (sumTo registrations (charge F k ev)) (creditShare F k ev)
   unfolding creditShare

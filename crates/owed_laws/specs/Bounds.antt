@@ -14,7 +14,7 @@ use Rattle.calendar.specs.Calendar.{due, days-le}
 use Rattle.allotment.specs.Allot.{share-most}
 use Rattle.year.specs.Year as year
 use Rattle.owed.specs.Facts.{Facts, registrations}
-use Rattle.owed.specs.Owed.{raised, D, unforced, own, areaRate, rate, ofSeller, shareOf, shortfallOver, lackOver, moreOver, more, u, measured, offU, cap, daily, spent, charge, excess, e, creditLimit, creditOf, stands, result, testShortfall, B, testOf}
+use Rattle.owed.specs.Owed.{raised, D, unforced, own, areaRate, rate, ofSeller, shareOf, shortfallOver, shortOf, overOf, over, u, measured, offU, cap, daily, spent, charge, excess, e, creditLimit, creditOf, stands, result, testShortfall, B, testCharge}
 use Rattle.owed_laws.specs.Limits.{Limits}
 use Rattle.owed_laws.specs.Rates.{worth-most, area-rate-some}
 use Rattle.owed_laws.specs.Sellers.{ofSeller-le, net-is, excess-is}
@@ -33,11 +33,11 @@ module _ {F : Facts} (L : Limits F) where
   unforced-one {a} h = omega (arith, unforced-scaled a)
 
   -- an entry's weights
-  pub lack-le : (p : ℕ → Bool) (v : ℕ → ℕ) (i : ℕ) → lackOver F p v i ≤ 100000
-  lack-le p v i = cond-le (p i) (omega (arith, L .committed i))
+  pub short-le : (p : ℕ → Bool) (v : ℕ → ℕ) (i : ℕ) → shortOf F p v i ≤ 100000
+  short-le p v i = cond-le (p i) (omega (arith, L .committed i))
 
-  pub more-le : (p : ℕ → Bool) {v : ℕ → ℕ} → ((i : ℕ) → v i ≤ 100000) → (i : ℕ) → moreOver F p v i ≤ 100000
-  more-le p h i = cond-le (p i) (omega (arith, h i))
+  pub over-le : (p : ℕ → Bool) {v : ℕ → ℕ} → ((i : ℕ) → v i ≤ 100000) → (i : ℕ) → overOf F p v i ≤ 100000
+  over-le p h i = cond-le (p i) (omega (arith, h i))
 
   -- a seller's: what is committed, the shortfall, the excess
   pub committed-le : (p : ℕ → Bool) (s : ℕ) → ofSeller F s (only p (year.committed (F .terms))) ≤ 6400000
@@ -52,19 +52,19 @@ module _ {F : Facts} (L : Limits F) where
   pub shortfall-le : (p : ℕ → Bool) (v d : ℕ → ℕ) (s : ℕ) → shortfallOver F p v d s ≤ 9216000
   shortfall-le p v d s = omega (arith, shortfall-scaled p v d s, committed-le p s)
 
-  pub excess-le : (ev s : ℕ) → excess F ev s ≤ ofSeller F s (more F ev)
+  pub excess-le : (ev s : ℕ) → excess F ev s ≤ ofSeller F s (over F ev)
   excess-le ev s = omega (arith, excess-is F s ev)
 
   -- an entry's shares: at most one registration's kilowatts
-  shortfall-lack : (p : ℕ → Bool) (v d : ℕ → ℕ) (s : ℕ) → shortfallOver F p v d s * 100000 ≤ 144000 * ofSeller F s (lackOver F p v)
+  shortfall-lack : (p : ℕ → Bool) (v d : ℕ → ℕ) (s : ℕ) → shortfallOver F p v d s * 100000 ≤ 144000 * ofSeller F s (shortOf F p v)
   shortfall-lack p v d s = omega (arith, net-is F s p v, shortfall-scaled p v d s)
 
-  share-le : (p : ℕ → Bool) (v d : ℕ → ℕ) (i : ℕ) → shareOf F (lackOver F p v) (shortfallOver F p v d) i ≤ 144000
+  share-le : (p : ℕ → Bool) (v d : ℕ → ℕ) (i : ℕ) → shareOf F (shortOf F p v) (shortfallOver F p v d) i ≤ 144000
   unfolding shareOf ofSeller
   share-le p v d i =
       let s = F .seller i in
-      share-most registrations (keyed (F .seller) (lackOver F p v) s) (shortfallOver F p v d s) i 144000
-      (le-trans (mul-le-mul-left (shortfallOver F p v d s) (cond-le (eqb s s) (lack-le p v i))) (shortfall-lack p v d s))
+      share-most registrations (keyed (F .seller) (shortOf F p v) s) (shortfallOver F p v d s) i 144000
+      (le-trans (mul-le-mul-left (shortfallOver F p v d s) (cond-le (eqb s s) (short-le p v i))) (shortfall-lack p v d s))
 
   pub u-le : (ev i : ℕ) → u F ev i ≤ 144000
   unfolding u
@@ -78,7 +78,7 @@ module _ {F : Facts} (L : Limits F) where
   unfolding ofSeller
   e-le ev i =
       let s = F .seller i in
-      le-trans (rw (eq-eqb s s refl) at (e-allotted F ev s .most (excess-le ev s) i)) (more-le (year.listed (F .event ev .listing)) (L .reduction ev) i)
+      le-trans (rw (eq-eqb s s refl) at (e-allotted F ev s .at-most (excess-le ev s) i)) (over-le (year.listed (F .event ev .listing)) (L .reduction ev) i)
 
   -- a registration's cap, and what is spent of it
   pub cap-le : (i : ℕ) → cap F i ≤ 14400000000
@@ -110,10 +110,10 @@ module _ {F : Facts} (L : Limits F) where
   -- a rate is at least 1 where a registration of its area has one of its own
   pub rate-some : (i j : ℕ) → year.known (F .terms) i ≡ true → year.area (F .terms) i ≡ year.area (F .terms) j → j < registrations → year.known (F .terms) j ≡ true → 1 ≤ own F j → 1 ≤ rate F i
   unfolding rate
-  rate-some i j here same l there lent = rw (here, same) (go (eqb (own F i) 0) refl)
+  rate-some i j here same l there some-rate = rw (here, same) (go (eqb (own F i) 0) refl)
     where
       go : (b : Bool) → eqb (own F i) 0 ≡ b → 1 ≤ cond b (areaRate F (year.area (F .terms) j)) (own F i)
-      go true e = area-rate-some F j l lent (L .some j there)
+      go true e = area-rate-some F j l some-rate (L .some j there)
       go false e = let z = eqb-false (own F i) 0 e in omega arith
 
   -- a test's base, at most the highest rate, its rate, and its charge
@@ -131,8 +131,8 @@ module _ {F : Facts} (L : Limits F) where
   raised-le p s = omega (arith, B-le p s)
 
   -- by what is committed in it
-  pub test-scaled : (k p s : ℕ) → testOf F k p s * 100000 ≤ ofSeller F s (only (stands F p) (year.committed (F .terms))) * 6324480000
-  unfolding testOf
+  pub test-scaled : (k p s : ℕ) → testCharge F k p s * 100000 ≤ ofSeller F s (only (stands F p) (year.committed (F .terms))) * 6324480000
+  unfolding testCharge
   test-scaled k p s =
       let a = testShortfall F p s in
       omega (
@@ -142,5 +142,5 @@ module _ {F : Facts} (L : Limits F) where
         shortfall-scaled (stands F p) (result F p) (year.deficit (F .test p .listing)) s,
       )
 
-  pub test-le : (k p s : ℕ) → testOf F k p s ≤ 404766720000
+  pub test-le : (k p s : ℕ) → testCharge F k p s ≤ 404766720000
   test-le k p s = omega (arith, test-scaled k p s, committed-le (stands F p) s)

@@ -9,8 +9,8 @@ use Rattle.ids.specs.Ids.{sumTo, anyTo, only, keyed}
 use Rattle.ids.specs.Sums.{sum-same}
 use Rattle.ids.specs.Tests.{any-same}
 use Rattle.year.specs.Year as year
-use Rattle.owed.specs.Facts.{Facts, registrations, places}
-use Rattle.owed.specs.Owed.{unforced, rate, ofSeller, shareOf, called, calls, shortfallOver, lackOver, u, measured, offU, asked, cap, daily, spent, charge, stands, result, B, testOf, compliance, test}
+use Rattle.owed.specs.Facts.{Facts, registrations, testGroups}
+use Rattle.owed.specs.Owed.{unforced, rate, ofSeller, shareOf, dispatched, dispatchCount, shortfallOver, shortOf, u, measured, offU, asked, cap, daily, spent, charge, stands, result, B, testCharge, compliance, test}
 
 -- two facts that agree in what is seller r's, along the accepted events and at every test
 pub record Same (r : ℕ) (F G : Facts) : Type 0 where
@@ -21,7 +21,7 @@ pub record Same (r : ℕ) (F G : Facts) : Type 0 where
   pub events : F .events ≡ G .events
   pub month : (ev : ℕ) → ev < F .events → F .event ev .month ≡ G .event ev .month
   pub period : (ev : ℕ) → ev < F .events → F .event ev .period ≡ G .event ev .period
-  pub apart : (ev : ℕ) → ev < F .events → F .event ev .apart ≡ G .event ev .apart
+  pub dual : (ev : ℕ) → ev < F .events → F .event ev .dual ≡ G .event ev .dual
   pub deficit : (ev : ℕ) → ev < F .events → year.deficit (F .event ev .listing) r ≡ year.deficit (G .event ev .listing) r
   pub testDeficit : (p : ℕ) → year.deficit (F .test p .listing) r ≡ year.deficit (G .test p .listing) r
   -- of its registrations
@@ -72,13 +72,13 @@ module _ {r : ℕ} {F G : Facts} (h : Same r F G) where
   same-sum : {f g : ℕ → ℕ} → ((ev : ℕ) → ev < F .events → f ev ≡ g ev) → sumTo (F .events) f ≡ sumTo (G .events) g
   same-sum {f} {g} a = sum-same (F .events) a ∙ ap (λ n. sumTo n g) (h .events)
 
-  same-calls : Alike (calls F) (calls G)
-  unfolding calls
-  same-calls i own = same-sum (λ ev l. rw (h .listed ev l i own, h .period ev l))
+  same-dispatch-count : Alike (dispatchCount F) (dispatchCount G)
+  unfolding dispatchCount
+  same-dispatch-count i own = same-sum (λ ev l. rw (h .listed ev l i own, h .period ev l))
 
-  same-called : Alike (called F) (called G)
-  unfolding called
-  same-called i own =
+  same-dispatched : Alike (dispatched F) (dispatched G)
+  unfolding dispatched
+  same-dispatched i own =
       any-same (F .events) {q = λ ev. year.listed (G .event ev .listing) i} (λ ev l. h .listed ev l i own) ∙ ap (λ n. anyTo n (λ ev. year.listed (G .event ev .listing) i)) (h .events)
 
   same-cap : Alike (cap F) (cap G)
@@ -87,7 +87,7 @@ module _ {r : ℕ} {F G : Facts} (h : Same r F G) where
 
   -- shares of a shortfall, of entries that are picked alike
   same-shares : {p q : ℕ → Bool} {v w : ℕ → ℕ} (d c : ℕ → ℕ) → Alike p q → Alike v w → d r ≡ c r
-      → Alike (shareOf F (lackOver F p v) (shortfallOver F p v d)) (shareOf G (lackOver G q w) (shortfallOver G q w c))
+      → Alike (shareOf F (shortOf F p v) (shortfallOver F p v d)) (shareOf G (shortOf G q w) (shortfallOver G q w c))
   same-shares {p} {q} {v} {w} d c a b e =
       same-share (shortfallOver F p v d) (shortfallOver G q w c) (λ i own. rw (a i own, h .committed i own, b i own)) (same-shortfall d c a b e)
 
@@ -98,7 +98,7 @@ module _ {r : ℕ} {F G : Facts} (h : Same r F G) where
 
     same-measured : Alike (measured F ev) (measured G ev)
     unfolding measured
-    same-measured i own = rw (h .apart ev l, h .listed ev l i own, h .product i own)
+    same-measured i own = rw (h .dual ev l, h .listed ev l i own, h .product i own)
 
     same-off : Alike (offU F ev) (offU G ev)
     unfolding offU
@@ -107,7 +107,7 @@ module _ {r : ℕ} {F G : Facts} (h : Same r F G) where
     same-daily : (x : ℕ) → Alike (daily F ev x) (daily G ev x)
     unfolding asked daily
     same-daily x i own =
-        cc (h .listed ev l i own, h .period ev l, h .rate i own, same-calls i own, same-u i own, same-off i own, same-cap i own)
+        cc (h .listed ev l i own, h .period ev l, h .rate i own, same-dispatch-count i own, same-u i own, same-off i own, same-cap i own)
 
   same-spent : (ev : ℕ) → ev ≤ F .events → Alike (spent F ev) (spent G ev)
   unfolding spent
@@ -124,7 +124,7 @@ module _ {r : ℕ} {F G : Facts} (h : Same r F G) where
   same-compliance k = same-sum (λ ev l. same-seller (same-charge k ev l))
 
   same-stands : (p : ℕ) → Alike (stands F p) (stands G p)
-  same-stands p i own = cc (h .tested p i own, same-called i own)
+  same-stands p i own = cc (h .tested p i own, same-dispatched i own)
 
   same-result : (p : ℕ) → Alike (result F p) (result G p)
   unfolding result
@@ -138,8 +138,8 @@ module _ {r : ℕ} {F G : Facts} (h : Same r F G) where
         same-seller (same-only {f = λ i. year.committed (F .terms) i * rate F i} {g = λ i. year.committed (G .terms) i * rate G i} (same-stands p) (λ i own. cc (h .committed i own, h .rate i own))),
       )
 
-  same-testOf : (k p : ℕ) → testOf F k p r ≡ testOf G k p r
-  unfolding testOf
+  same-testOf : (k p : ℕ) → testCharge F k p r ≡ testCharge G k p r
+  unfolding testCharge
   same-testOf k p =
       cc (
         h .leap,
@@ -149,4 +149,4 @@ module _ {r : ℕ} {F G : Facts} (h : Same r F G) where
 
   pub same-test : (k : ℕ) → test F k r ≡ test G k r
   unfolding test
-  same-test k = ap (sumTo places) (fun-ext (same-testOf k))
+  same-test k = ap (sumTo testGroups) (fun-ext (same-testOf k))

@@ -19,7 +19,7 @@ use Rattle.year.specs.Year.{noListing, noEvent, noTest, zone, product, obligati
 use Rattle.year.specs.Year as year
 use Rattle.year.specs.Sound.{SoundListing, AtMost, Sound}
 use Rattle.year.specs.Limits.{each-anywhere, clearings-sound, seller-below, area-below, zone-below, product-below, committed-most, committed-some, committed-blank, field-rate-most, retest-most, reduction-most, second-most}
-use Rattle.owed.specs.Facts.{Facts, factsOf, registrations, places}
+use Rattle.owed.specs.Facts.{Facts, factsOf, registrations, testGroups}
 use Rattle.owed.specs.Owed.{own, rate, result}
 use Rattle.owed_laws.specs.Rates.{own-le, rate-le}
 
@@ -44,7 +44,7 @@ pub record Limits (F : Facts) : Type 0 where
   pub result : (p i : ℕ) → result F p i ≤ 100000
   pub testDeficit : (p s : ℕ) → year.deficit (F .test p .listing) s ≤ 1000000
   -- no registration is in two tests
-  pub once : (i : ℕ) → i < registrations → countTo places (λ p. year.listed (F .test p .listing) i) ≤ 1
+  pub once : (i : ℕ) → i < registrations → countTo testGroups (λ p. year.listed (F .test p .listing) i) ≤ 1
 
 -- a registration is known just where it commits something
 pub known-is : {F : Facts} → Limits F → (i : ℕ) → year.known (F .terms) i ≡ ltb 0 (year.committed (F .terms) i)
@@ -79,7 +79,7 @@ module _ {y : Year} (S : Sound y) where
       everywhere (λ (x : Event). Within (x .listing)) noEvent (y .events) within-none (S .events .long) (λ k l. within (S .events .at k l .listing))
 
   test-within : (p : ℕ) → Within (getD (y .tests) p noTest .listing)
-  test-within = everywhere (λ (x : Test). Within (x .listing)) noTest (y .tests) within-none (S .places) (λ k l. within (S .tests k l .listing))
+  test-within = everywhere (λ (x : Test). Within (x .listing)) noTest (y .tests) within-none (S .testGroups) (λ k l. within (S .tests k l .listing))
 
   month-most : (ev : ℕ) → getD (y .events) ev noEvent .month ≤ 12
   month-most =
@@ -90,11 +90,11 @@ module _ {y : Year} (S : Sound y) where
   obligation-most = each-anywhere (AtMost 1000000) (lit≤ tt) (S .terms .obligations)
 
   -- a registration is in the test of its zone and product alone
-  in-one-test : (i : ℕ) → i < registrations → countTo places (λ p. year.listed (factsOf y .test p .listing) i) ≤ 1
+  in-one-test : (i : ℕ) → i < registrations → countTo testGroups (λ p. year.listed (factsOf y .test p .listing) i) ≤ 1
   in-one-test i l =
       let own = 3 * zone (y .terms) i + product (y .terms) i in
-      le-trans (sum-le places (λ p b. go p (year.listed (factsOf y .test p .listing) i) (S .tests p b .own i l)))
-      (le-of-eq (sum-at places own 1 (omega (arith, zone-below (S .terms) i, product-below (S .terms) i))))
+      le-trans (sum-le testGroups (λ p b. go p (year.listed (factsOf y .test p .listing) i) (S .tests p b .own i l)))
+      (le-of-eq (sum-at testGroups own 1 (omega (arith, zone-below (S .terms) i, product-below (S .terms) i))))
     where
       go : (p : ℕ) (b : Bool) → (b ≡ true → 3 * zone (y .terms) i + product (y .terms) i ≡ p)
           → cond b 1 0 ≤ cond (eqb (3 * zone (y .terms) i + product (y .terms) i) p) 1 0
@@ -127,7 +127,7 @@ module _ {y : Year} (S : Sound y) where
         some = committed-some (S .terms);
         blank = committed-blank (S .terms);
         obligation = obligation-most;
-        events = S .held;
+        events = S .accepted;
         month = month-most;
         reduction = λ ev. event-within ev .reduction;
         deficit = λ ev. event-within ev .deficit;

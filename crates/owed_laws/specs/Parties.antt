@@ -10,14 +10,14 @@ use Rattle.ids.specs.Sums.{sum-zero}
 use Rattle.units.specs.Units.{convert-zero}
 use Rattle.allotment.specs.Allot.{share-zero}
 use Rattle.year.specs.Year as year
-use Rattle.owed.specs.Facts.{Facts, registrations, lses, places}
-use Rattle.owed.specs.Owed.{D, raised, unforced, ofSeller, shortfallOver, stands, result, testShortfall, B, testOf, compliance, test, credit, charges, credits, lse}
+use Rattle.owed.specs.Facts.{Facts, registrations, lses, testGroups}
+use Rattle.owed.specs.Owed.{D, raised, unforced, ofSeller, shortfallOver, stands, result, testShortfall, B, testCharge, compliance, test, credit, charges, credits, lse}
 use Rattle.owed_laws.specs.Unlisted.{u-unlisted, off-unlisted, charge-none, credit-unlisted}
 
 -- every listed registration is known
 pub record Known (F : Facts) : Type 0 where
   pub events : (ev : ℕ) → ev < F .events → (i : ℕ) → i < registrations → year.listed (F .event ev .listing) i ≡ true → year.known (F .terms) i ≡ true
-  pub tests : (p : ℕ) → p < places → (i : ℕ) → i < registrations → year.listed (F .test p .listing) i ≡ true → year.known (F .terms) i ≡ true
+  pub tests : (p : ℕ) → p < testGroups → (i : ℕ) → i < registrations → year.listed (F .test p .listing) i ≡ true → year.known (F .terms) i ≡ true
 
 -- so one that is not known is not listed
 unlisted : (b c : Bool) → (b ≡ true → c ≡ true) → c ≡ false → b ≡ false
@@ -44,13 +44,13 @@ module _ {F : Facts} (K : Known F) (s : ℕ) (none : (i : ℕ) → i < registrat
   credit-none k =
       sum-zero (F .events) (λ ev l. seller-none (λ i m q. credit-unlisted F ev i (unlisted (year.listed (F .event ev .listing) i) (year.known (F .terms) i) (K .events ev l i m) q) k))
 
-  stands-none : (p : ℕ) → p < places → ofSeller F s (only (stands F p) (year.committed (F .terms))) ≡ 0
+  stands-none : (p : ℕ) → p < testGroups → ofSeller F s (only (stands F p) (year.committed (F .terms))) ≡ 0
   stands-none p l = seller-none (λ i m q. rw (unlisted (year.listed (F .test p .listing) i) (year.known (F .terms) i) (K .tests p l i m) q))
 
   pub test-none : (k : ℕ) → test F k s ≡ 0
-  unfolding test testOf shortfallOver unforced
+  unfolding test testCharge shortfallOver unforced
   test-none k =
-      sum-zero places (λ p l.
+      sum-zero testGroups (λ p l.
       let net : ofSeller F s (only (stands F p) (year.committed (F .terms))) - ofSeller F s (only (stands F p) (result F p)) ≡ 0 = omega (arith, stands-none p l) in
       let short : testShortfall F p s ≡ 0 = rw net (omega (arith, convert-zero (F .terms .factor) (F .terms .requirement))) in
       rw (short, zero-mul (raised (B F p s)), zero-mul (D F k)))

@@ -11,7 +11,7 @@ use Rattle.ids.specs.Sums.{sum-mul, sum-le, sum-one}
 use Rattle.ids.specs.Tests.{cond-le}
 use Rattle.year.specs.Year as year
 use Rattle.owed.specs.Facts.{Facts, registrations}
-use Rattle.owed.specs.Owed.{own, lends, ofArea, areaRate, rate}
+use Rattle.owed.specs.Owed.{own, hasOwnRate, ofArea, areaRate, rate}
 
 -- what kilowatts are worth at rates, all of a key that are picked: at most their most, and at least as much where no rate is 0
 module _ (n : ℕ) (key kw q : ℕ → ℕ) (p : ℕ → Bool) (k : ℕ) where
@@ -50,7 +50,7 @@ own-le F i f v = cond-le (year.known (F .terms) i) (go (ltb 0 (F .clearings i .c
 module _ (F : Facts) where
   area-rate-le : ((i : ℕ) → own F i ≤ 100000) → (a : ℕ) → areaRate F a ≤ 100000
   unfolding ofArea areaRate
-  area-rate-le h a = div-le-of-le-mul (ofArea F a (only (lends F) (year.committed (F .terms)))) (worth-most registrations (year.area (F .terms)) (year.committed (F .terms)) (own F) (lends F) a 100000 h)
+  area-rate-le h a = div-le-of-le-mul (ofArea F a (only (hasOwnRate F) (year.committed (F .terms)))) (worth-most registrations (year.area (F .terms)) (year.committed (F .terms)) (own F) (hasOwnRate F) a 100000 h)
 
   pub rate-le : ((i : ℕ) → own F i ≤ 100000) → (i : ℕ) → rate F i ≤ 100000
   unfolding rate
@@ -63,11 +63,11 @@ module _ (F : Facts) where
   -- the rate of an area where registration j lends
   pub area-rate-some : (j : ℕ) → j < registrations → 1 ≤ own F j → 1 ≤ year.committed (F .terms) j → 1 ≤ areaRate F (year.area (F .terms) j)
   unfolding ofArea areaRate
-  area-rate-some j l lent some =
+  area-rate-some j l some-rate some =
       let a = year.area (F .terms) j in
-      let one : 1 ≤ ofArea F a (only (lends F) (year.committed (F .terms))) =
-      omega (arith, some, rw (eq-eqb a a refl, lt-ltb 0 (own F j) lent) at (sum-one (keyed (year.area (F .terms)) (only (lends F) (year.committed (F .terms))) a) l)) in
-      le-div-iff-mul-le one .1 (omega (arith, worth-least registrations (year.area (F .terms)) (year.committed (F .terms)) (own F) (lends F) a (λ i e. ltb-true 0 (own F i) e)))
+      let one : 1 ≤ ofArea F a (only (hasOwnRate F) (year.committed (F .terms))) =
+      omega (arith, some, rw (eq-eqb a a refl, lt-ltb 0 (own F j) some-rate) at (sum-one (keyed (year.area (F .terms)) (only (hasOwnRate F) (year.committed (F .terms))) a) l)) in
+      le-div-iff-mul-le one .1 (omega (arith, worth-least registrations (year.area (F .terms)) (year.committed (F .terms)) (own F) (hasOwnRate F) a (λ i e. ltb-true 0 (own F i) e)))
 
   -- a registration that keeps its own, and one that borrows
   module _ (i : ℕ) where

@@ -8,12 +8,12 @@ use Rattle.ids.specs.Sums.{sum-same}
 use Rattle.ids.specs.Tests.{and-parts, any-same}
 use Rattle.year.specs.Year as year
 use Rattle.owed.specs.Facts.{Facts, registrations}
-use Rattle.owed.specs.Retests.{entryOf, failed, testedKw, failedKw, hadRetest}
+use Rattle.owed.specs.Retests.{testEntry, failed, testedKw, failedKw, hadRetest}
 use Rattle.owed_laws.specs.Independent.{Same}
 
 module _ {r : ℕ} {F G : Facts} (h : Same r F G) (p : ℕ) where
-  same-entry : (i : ℕ) → entryOf F p r i ≡ entryOf G p r i
-  unfolding entryOf
+  same-entry : (i : ℕ) → testEntry F p r i ≡ testEntry G p r i
+  unfolding testEntry
   same-entry i = rw (← (h .seller i)) (go (eqb (F .seller i) r) refl)
     where
       go : (b : Bool) → eqb (F .seller i) r ≡ b → (year.listed (F .test p .listing) i && b) ≡ (year.listed (G .test p .listing) i && b)
@@ -21,15 +21,15 @@ module _ {r : ℕ} {F G : Facts} (h : Same r F G) (p : ℕ) where
       go false q = rw (and-false (year.listed (F .test p .listing) i), and-false (year.listed (G .test p .listing) i))
 
   -- an entry of the seller's is of its registration
-  own : (i : ℕ) → entryOf F p r i ≡ true → F .seller i ≡ r
-  unfolding entryOf
+  own : (i : ℕ) → testEntry F p r i ≡ true → F .seller i ≡ r
+  unfolding testEntry
   own i e = eqb-true (F .seller i) r (and-parts (year.listed (F .test p .listing) i) (eqb (F .seller i) r) e .1)
 
   -- tests and kilowatts of such entries
-  same-and : (i : ℕ) {a b : Bool} → (F .seller i ≡ r → a ≡ b) → (entryOf F p r i && a) ≡ (entryOf G p r i && b)
-  same-and i {a} {b} e = rw (← (same-entry i)) (go (entryOf F p r i) refl)
+  same-and : (i : ℕ) {a b : Bool} → (F .seller i ≡ r → a ≡ b) → (testEntry F p r i && a) ≡ (testEntry G p r i && b)
+  same-and i {a} {b} e = rw (← (same-entry i)) (go (testEntry F p r i) refl)
     where
-      go : (t : Bool) → entryOf F p r i ≡ t → (t && a) ≡ (t && b)
+      go : (t : Bool) → testEntry F p r i ≡ t → (t && a) ≡ (t && b)
       go true q = e (own i q)
       go false q = refl
 
@@ -51,7 +51,7 @@ module _ {r : ℕ} {F G : Facts} (h : Same r F G) (p : ℕ) where
   pub same-failed-kw : failedKw F p r ≡ failedKw G p r
   unfolding failedKw failed
   same-failed-kw =
-      sum-same registrations (λ i l. same-kw i (same-failed i) (λ e. own i (and-parts (entryOf F p r i) (ltb (year.reduction (F .test p .listing) i) (year.committed (F .terms) i)) e .0)))
+      sum-same registrations (λ i l. same-kw i (same-failed i) (λ e. own i (and-parts (testEntry F p r i) (ltb (year.reduction (F .test p .listing) i) (year.committed (F .terms) i)) e .0)))
 
   pub same-had-retest : hadRetest F p r ≡ hadRetest G p r
   unfolding hadRetest

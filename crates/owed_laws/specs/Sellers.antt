@@ -11,7 +11,7 @@ use Rattle.ids.specs.Tests.{cond-le}
 use Rattle.year.specs.Year.{sellers}
 use Rattle.year.specs.Year as year
 use Rattle.owed.specs.Facts.{Facts, registrations}
-use Rattle.owed.specs.Owed.{ofSeller, lackOver, moreOver, lack, more, excess}
+use Rattle.owed.specs.Owed.{ofSeller, shortOf, overOf, short, over, excess}
 use Rattle.owed_laws.specs.Limits.{Limits}
 
 module _ (F : Facts) (s : ℕ) where
@@ -64,21 +64,21 @@ module _ (F : Facts) (s : ℕ) where
 
   -- of the entries that are picked, what is committed and what is given differ as what is lacking and what is given more
   module _ (p : ℕ → Bool) (v : ℕ → ℕ) where
-    sums-differ : ofSeller F s (only p (year.committed (F .terms))) + ofSeller F s (moreOver F p v) ≡ ofSeller F s (only p v) + ofSeller F s (lackOver F p v)
+    sums-differ : ofSeller F s (only p (year.committed (F .terms))) + ofSeller F s (overOf F p v) ≡ ofSeller F s (only p v) + ofSeller F s (shortOf F p v)
     sums-differ =
-        sym (ofSeller-add (only p (year.committed (F .terms))) (moreOver F p v))
+        sym (ofSeller-add (only p (year.committed (F .terms))) (overOf F p v))
         ∙ ofSeller-same (λ i l. go (p i) (year.committed (F .terms) i) (v i))
-        ∙ ofSeller-add (only p v) (lackOver F p v)
+        ∙ ofSeller-add (only p v) (shortOf F p v)
       where
         go : (b : Bool) (c v : ℕ) → cond b c 0 + cond b (v - c) 0 ≡ cond b v 0 + cond b (c - v) 0
         go false c v = refl
         go true c v = omega arith
 
     -- so step 1's net and the excess come from these two
-    pub net-is : ofSeller F s (only p (year.committed (F .terms))) - ofSeller F s (only p v) ≡ ofSeller F s (lackOver F p v) - ofSeller F s (moreOver F p v)
+    pub net-is : ofSeller F s (only p (year.committed (F .terms))) - ofSeller F s (only p v) ≡ ofSeller F s (shortOf F p v) - ofSeller F s (overOf F p v)
     net-is = omega (arith, sums-differ)
 
-  pub excess-is : (ev : ℕ) → excess F ev s ≡ ofSeller F s (more F ev) - ofSeller F s (lack F ev)
+  pub excess-is : (ev : ℕ) → excess F ev s ≡ ofSeller F s (over F ev) - ofSeller F s (short F ev)
   unfolding excess
   excess-is ev = omega (arith, sums-differ (year.listed (F .event ev .listing)) (year.reduction (F .event ev .listing)))
 

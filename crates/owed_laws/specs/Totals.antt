@@ -11,8 +11,8 @@ use Rattle.allotment.specs.Allot.{one-share}
 use Rattle.year.specs.Sound.{SoundAmounts, Fits42}
 use Rattle.year.specs.Year.{sellers}
 use Rattle.year.specs.Year as year
-use Rattle.owed.specs.Facts.{Facts, registrations, lses, places}
-use Rattle.owed.specs.Owed.{ofSeller, called, charge, creditOf, stands, testOf, compliance, test, credit, charges, credits, lse, amounts}
+use Rattle.owed.specs.Facts.{Facts, registrations, lses, testGroups}
+use Rattle.owed.specs.Owed.{ofSeller, dispatched, charge, creditOf, stands, testCharge, compliance, test, credit, charges, credits, lse, amounts}
 use Rattle.owed_laws.specs.Limits.{Limits}
 use Rattle.owed_laws.specs.Sellers.{ofSeller-mono, ofSeller-le, ofSeller-sum, sellers-sum, sellers-events}
 use Rattle.owed_laws.specs.Allotments.{lse-allotted}
@@ -43,15 +43,15 @@ module _ {F : Facts} (L : Limits F) (k : ℕ) where
       omega (arith, sum-one {n = sellers} {i = s} f l, sellers-credits L k m, sellers-compliance m)
 
   -- no registration is in two tests, so what all tests count of a seller's commitments is at most all of them
-  stands-once : (s : ℕ) → sumTo places (λ p. ofSeller F s (only (stands F p) (year.committed (F .terms)))) ≤ ofSeller F s (year.committed (F .terms))
+  stands-once : (s : ℕ) → sumTo testGroups (λ p. ofSeller F s (only (stands F p) (year.committed (F .terms)))) ≤ ofSeller F s (year.committed (F .terms))
   stands-once s =
-      rw (ofSeller-sum F s places (λ p. only (stands F p) (year.committed (F .terms))))
+      rw (ofSeller-sum F s testGroups (λ p. only (stands F p) (year.committed (F .terms))))
       (ofSeller-mono F s (λ i l.
       omega (
         arith,
-        sum-le places {f = λ p. only (stands F p) (year.committed (F .terms)) i} {g = λ p. cond (year.listed (F .test p .listing) i) 1 0 * year.committed (F .terms) i}
-            (λ p m. go (year.listed (F .test p .listing) i) (not (called F i)) (year.committed (F .terms) i)),
-        sum-mul places (λ p. cond (year.listed (F .test p .listing) i) 1 0) (year.committed (F .terms) i),
+        sum-le testGroups {f = λ p. only (stands F p) (year.committed (F .terms)) i} {g = λ p. cond (year.listed (F .test p .listing) i) 1 0 * year.committed (F .terms) i}
+            (λ p m. go (year.listed (F .test p .listing) i) (not (dispatched F i)) (year.committed (F .terms) i)),
+        sum-mul testGroups (λ p. cond (year.listed (F .test p .listing) i) 1 0) (year.committed (F .terms) i),
         mul-le-mul-right (year.committed (F .terms) i) (L .once i l),
       )))
     where
@@ -66,17 +66,17 @@ module _ {F : Facts} (L : Limits F) (k : ℕ) where
       let c : ℕ → ℕ = λ p. ofSeller F s (only (stands F p) (year.committed (F .terms))) in
       omega (
         arith,
-        sum-mul places (λ p. testOf F k p s) 100000,
-        sum-le places {f = λ p. testOf F k p s * 100000} {g = λ p. c p * 6324480000} (λ p l. test-scaled L k p s),
-        sum-mul places c 6324480000,
+        sum-mul testGroups (λ p. testCharge F k p s) 100000,
+        sum-le testGroups {f = λ p. testCharge F k p s * 100000} {g = λ p. c p * 6324480000} (λ p l. test-scaled L k p s),
+        sum-mul testGroups c 6324480000,
         stands-once s,
       )
 
   -- a seller's test charges of the first m places, and all sellers'
-  pub test-most : (m s : ℕ) → m ≤ places → sumTo m (λ p. testOf F k p s) ≤ 404766720000
+  pub test-most : (m s : ℕ) → m ≤ testGroups → sumTo m (λ p. testCharge F k p s) ≤ 404766720000
   unfolding test
   test-most m s l =
-      omega (arith, sum-mono (λ p. testOf F k p s) l, tests-scaled s, ofSeller-le F s 100000 (L .committed))
+      omega (arith, sum-mono (λ p. testCharge F k p s) l, tests-scaled s, ofSeller-le F s 100000 (L .committed))
 
   sellers-test : sumTo sellers (test F k) ≤ 404766720000
   sellers-test =
@@ -108,7 +108,7 @@ module _ {F : Facts} (L : Limits F) (k : ℕ) where
   sound-amounts =
       record {
         compliance = fits (compliance F k) (λ s l. omega (arith, compliance-most (F .events) s));
-        test = fits (test F k) (λ s l. omega (arith, test-most places s (omega arith)));
+        test = fits (test F k) (λ s l. omega (arith, test-most testGroups s (omega arith)));
         credit = fits (credit F k) (λ s l. omega (arith, credit-most (F .events) s l));
         lse = fits (lse F k) lse-le;
       }

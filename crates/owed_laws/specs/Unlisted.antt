@@ -11,7 +11,7 @@ use Rattle.calendar.specs.Calendar.{offPeak, due}
 use Rattle.allotment.specs.Allot.{share-zero}
 use Rattle.year.specs.Year as year
 use Rattle.owed.specs.Facts.{Facts, registrations}
-use Rattle.owed.specs.Owed.{oneOrThree, beforeCap, D, rate, shareOf, calls, lack, more, shortfall, excess, u, measured, offLack, offShortfall, offU, asked, daily, spent, charge, e, creditShare, creditLimit, creditOf}
+use Rattle.owed.specs.Owed.{oneOrThree, beforeCap, D, rate, shareOf, dispatchCount, short, over, shortfall, excess, u, measured, offShort, offShortfall, offU, asked, daily, spent, charge, e, creditShare, creditLimit, creditOf}
 
 -- a weight of 0
 share-none : (F : Facts) (weight amount : ℕ → ℕ) (i : ℕ) → weight i ≡ 0 → shareOf F weight amount i ≡ 0
@@ -23,20 +23,20 @@ share-none F weight amount i z =
 -- one that is not measured apart has no off-peak share
 pub off-none : (F : Facts) (ev i : ℕ) → measured F ev i ≡ false → offU F ev i ≡ 0
 unfolding offU
-off-none F ev i e = share-none F (offLack F ev) (offShortfall F ev) i (rw e)
+off-none F ev i e = share-none F (offShort F ev) (offShortfall F ev) i (rw e)
 
 module _ (F : Facts) (ev i : ℕ) (no : year.listed (F .event ev .listing) i ≡ false) where
   pub u-unlisted : u F ev i ≡ 0
   unfolding u
-  u-unlisted = share-none F (lack F ev) (shortfall F ev) i (rw no)
+  u-unlisted = share-none F (short F ev) (shortfall F ev) i (rw no)
 
   pub off-unlisted : offU F ev i ≡ 0
   unfolding measured
-  off-unlisted = off-none F ev i (rw no (and-false (F .event ev .apart)))
+  off-unlisted = off-none F ev i (rw no (and-false (F .event ev .dual)))
 
   pub e-unlisted : e F ev i ≡ 0
   unfolding e
-  e-unlisted = share-none F (more F ev) (excess F ev) i (rw no)
+  e-unlisted = share-none F (over F ev) (excess F ev) i (rw no)
 
   pub credit-unlisted : (k : ℕ) → creditOf F k ev i ≡ 0
   unfolding creditOf creditShare
@@ -51,8 +51,8 @@ module _ (F : Facts) (ev i : ℕ) (none : u F ev i ≡ 0) (off : offU F ev i ≡
   pub daily-none : (x : ℕ) → daily F ev x i ≡ 0
   unfolding asked daily
   daily-none x =
-      let z : beforeCap (F .event ev .period) (calls F i) (u F ev i) (rate F i) ≡ 0 = rw none (nothing-asked (F .event ev .period) (calls F i) (rate F i)) in
-      let y : beforeCap offPeak (calls F i) (offU F ev i) (rate F i) ≡ 0 = rw off (nothing-asked offPeak (calls F i) (rate F i)) in
+      let z : beforeCap (F .event ev .period) (dispatchCount F i) (u F ev i) (rate F i) ≡ 0 = rw none (nothing-asked (F .event ev .period) (dispatchCount F i) (rate F i)) in
+      let y : beforeCap offPeak (dispatchCount F i) (offU F ev i) (rate F i) ≡ 0 = rw off (nothing-asked offPeak (dispatchCount F i) (rate F i)) in
       let le : daily F ev x i ≤ 0 = cond-le (year.listed (F .event ev .listing) i) (omega arith) in
       omega arith
 

@@ -2,7 +2,7 @@
 ghost use mathlib.Core.Path.{_≡_};
 ghost use Rattle.record_numbers.specs.Calls.{Reads, Writes};
 ghost use Rattle.year.specs.Year.{newYear};
-ghost use Rattle.year_cells.specs.Layout.{yearIn, Held};
+ghost use Rattle.year_cells.specs.Layout.{yearIn, ValidCells};
 ghost use Rattle.book_outcome.specs.Outcome.{Posts};
 ghost use Rattle.bill_file.specs.Billed.{Bills};
 ghost use Rattle.telemetry.specs.declared.Sample.the-variants.{Pair, Direct};
@@ -41,7 +41,7 @@ pub extern "C" fn piermint_write(numbers: &[u64], bytes: &mut [u8], used: &mut u
 #[no_mangle]
 pub extern "C" fn piermint_new(cells: &mut Cells)
     ensures equals { λ _. ⌜ yearIn (now (cells .exit)) ≡ newYear ⌝ }
-    ensures held { λ _. ⌜ Held (now (cells .exit)) ⌝ }
+    ensures valid { λ _. ⌜ ValidCells (now (cells .exit)) ⌝ }
 {
     *cells = book::new_book();
 }
@@ -56,10 +56,10 @@ pub extern "C" fn piermint_post(
     used: &mut usize,
     written: &mut usize,
 ) -> u64
-    requires { ⌜ Held (now cells) ⌝ }
+    requires { ⌜ ValidCells (now cells) ⌝ }
     ensures posts { λ r. ⌜ Posts (yearIn (now (cells .entry))) (now (bytes .entry)) (now (buffer .entry)) r (now (used .exit)) (now (written .exit)) (yearIn (now (cells .exit))) (now (buffer .exit)) ⌝ }
     ensures refused { λ r. ⌜ ((r ≡ 0 → ⊥) → now (cells .exit) ≡ now (cells .entry)) ⌝ }
-    ensures held { λ r. ⌜ Held (now (cells .exit)) ⌝ }
+    ensures valid { λ r. ⌜ ValidCells (now (cells .exit)) ⌝ }
 {
     let posted = book::post(cells, bytes, buffer);
     *used = posted.used;

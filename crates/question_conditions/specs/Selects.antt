@@ -4,16 +4,16 @@ use mathlib.Core.Bool.{Bool, not, _&&_}
 use Rattle.year.specs.declared.Year.{Year}
 use Rattle.year.specs.Year.{known}
 use Rattle.owed.specs.Facts.{factsOf}
-use Rattle.owed.specs.Owed.{called}
-use Rattle.owed.specs.Retests.{entryOf, failed}
+use Rattle.owed.specs.Owed.{dispatched}
+use Rattle.owed.specs.Retests.{testEntry, failed}
 use Rattle.question_conditions.specs.declared.Selection.{Selection}
-use Rattle.question_conditions.specs.declared.Selection.the-variants.{Known, Uncalled, Tested, Failed, Retested}
+use Rattle.question_conditions.specs.declared.Selection.the-variants.{Known, Undispatched, Tested, Failed, Retested}
 use Rattle.question_conditions.specs.Entries.{inGroup}
 
 module _ (y : Year) where
   abbrev pub selects : Selection → ℕ → Bool
   selects Known i = known (y .terms) i
-  selects (Uncalled z p) i = inGroup (y .terms) z p i && not (called (factsOf y) i)
-  selects (Tested p s) i = entryOf (factsOf y) p s i
+  selects (Undispatched z p) i = inGroup (y .terms) z p i && not (dispatched (factsOf y) i)
+  selects (Tested p s) i = testEntry (factsOf y) p s i
   selects (Failed p s) i = failed (factsOf y) p s i
-  selects (Retested p s) i = entryOf (factsOf y) p s i && factsOf y .retest i .taken
+  selects (Retested p s) i = testEntry (factsOf y) p s i && factsOf y .retest i .taken

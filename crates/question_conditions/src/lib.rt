@@ -21,7 +21,7 @@ pub enum Condition {
 // retested.
 pub enum Selection {
     Known,
-    Uncalled(u64, u64),
+    Undispatched(u64, u64),
     Tested(u64, u64),
     Failed(u64, u64),
     Retested(u64, u64),

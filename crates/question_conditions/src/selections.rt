@@ -2,8 +2,8 @@
 ghost use mathlib.Core.Path.{_≡_};
 ghost use Prim.Native.Nat.{_<_};
 ghost use Rattle.owed.specs.Facts.{factsOf};
-ghost use Rattle.owed.specs.Owed.{called};
-ghost use Rattle.year_cells.specs.Layout.{yearIn, Held};
+ghost use Rattle.owed.specs.Owed.{dispatched};
+ghost use Rattle.year_cells.specs.Layout.{yearIn, ValidCells};
 ghost use Rattle.question_conditions.specs.Selects.{selects};
 use crate::Selection;
 use crate::conditions::in_group;
@@ -13,12 +13,12 @@ use crate::test_entries::is_retested;
 use year_cells::Cells;
 
 // Does an accepted event list the registration?
-fn is_called(year: &Cells, i: usize) -> bool
-    requires { ⌜ Held (now year) ⌝ }
+fn is_dispatched(year: &Cells, i: usize) -> bool
+    requires { ⌜ ValidCells (now year) ⌝ }
     requires { ⌜ i < 64 ⌝ }
-    ensures { λ r. ⌜ r ≡ called (factsOf (yearIn (now (year .entry)))) i ⌝ }
+    ensures { λ r. ⌜ r ≡ dispatched (factsOf (yearIn (now (year .entry)))) i ⌝ }
 {
-    let n = year_cells::held(year);
+    let n = year_cells::events_accepted(year);
     let mut e: usize = 0;
     while e < n {
         if year_cells::listed_in(year, e, i) {
@@ -31,16 +31,17 @@ fn is_called(year: &Cells, i: usize) -> bool
 
 // Is a registration selected?
 pub fn is_selected(year: &Cells, i: usize, selection: Selection) -> bool
-    requires { ⌜ Held (now year) ⌝ }
+    requires { ⌜ ValidCells (now year) ⌝ }
     requires { ⌜ i < 64 ⌝ }
     ensures { λ b. ⌜ b ≡ selects (yearIn (now (year .entry))) selection i ⌝ }
 {
     let r = year_cells::registration_at(year, i);
     match selection {
         Selection::Known => r.known,
-        Selection::Uncalled(zone, product) => in_group(r, zone, product) && !is_called(year, i),
-        Selection::Tested(place, seller) => is_entry(year, i, place, seller),
-        Selection::Failed(place, seller) => has_failed(year, i, place, seller),
-        Selection::Retested(place, seller) => is_retested(year, i, place, seller),
+        Selection::Undispatched(zone, product) => in_group(r, zone, product)
+            && !is_dispatched(year, i),
+        Selection::Tested(group, seller) => is_entry(year, i, group, seller),
+        Selection::Failed(group, seller) => has_failed(year, i, group, seller),
+        Selection::Retested(group, seller) => is_retested(year, i, group, seller),
     }
 }

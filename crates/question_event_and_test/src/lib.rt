@@ -7,7 +7,7 @@ ghost use Rattle.ids.specs.Ids.{at};
 ghost use Rattle.record_layouts.specs.Questions.{firstFailed};
 ghost use Rattle.year.specs.Year.{product};
 ghost use Rattle.calendar.specs.Calendar.{callable};
-ghost use Rattle.year_cells.specs.Layout.{listingAt, yearIn, Held};
+ghost use Rattle.year_cells.specs.Layout.{listingAt, yearIn, ValidCells};
 ghost use Rattle.record_heads.specs.Within.{GroupWithin};
 ghost use Rattle.question_conditions.specs.Entries.{everyListed};
 ghost use Rattle.question_list.specs.Questions.{monthBegun, questions};
@@ -26,7 +26,7 @@ use year_cells::Cells;
 
 // Question 11 of an event.
 fn may_call(year: &Cells, e: EventHead, listing: &[u64]) -> bool
-    requires { ⌜ Held (now year) ⌝ }
+    requires { ⌜ ValidCells (now year) ⌝ }
     requires { ⌜ length (now listing) ≡ 208 ⌝ }
     ensures { λ r. ⌜ r ≡ (let y = yearIn (now (year .entry)) in monthBegun (y .closed) (e .month) && everyListed (y .terms) (listingAt (at (now (listing .entry)))) (λ i. callable (product (y .terms) i) (e .month) (e .period))) ⌝ }
 {
@@ -36,7 +36,7 @@ fn may_call(year: &Cells, e: EventHead, listing: &[u64]) -> bool
 
 // Of an event.
 pub fn event_number(year: &Cells, e: EventHead, listing: &[u64]) -> u64
-    requires { ⌜ Held (now year) ⌝ }
+    requires { ⌜ ValidCells (now year) ⌝ }
     requires { ⌜ length (now listing) ≡ 208 ⌝ }
     ensures { λ n. ⌜ ((room : ℕ) → n ≡ firstFailed (questions monthBegun (yearIn (now (year .entry))) (record { head = Head.Event e; listing = listingAt (at (now (listing .entry))) }) room)) ⌝ }
 {
@@ -50,12 +50,16 @@ pub fn event_number(year: &Cells, e: EventHead, listing: &[u64]) -> u64
     if !may_call(year, e, listing) {
         return 11;
     }
-    if year_cells::held(year) < 16 { 0 } else { 12 }
+    if year_cells::events_accepted(year) < 16 {
+        0
+    } else {
+        12
+    }
 }
 
 // Of a test.
 pub fn test_number(year: &Cells, t: TestHead, listing: &[u64]) -> u64
-    requires { ⌜ Held (now year) ⌝ }
+    requires { ⌜ ValidCells (now year) ⌝ }
     requires { ⌜ GroupWithin (t .zone) (t .product) ⌝ }
     requires { ⌜ length (now listing) ≡ 208 ⌝ }
     ensures { λ n. ⌜ ((room : ℕ) → n ≡ firstFailed (questions monthBegun (yearIn (now (year .entry))) (record { head = Head.Test t; listing = listingAt (at (now (listing .entry))) }) room)) ⌝ }
@@ -73,7 +77,7 @@ pub fn test_number(year: &Cells, t: TestHead, listing: &[u64]) -> u64
     if year_tested::test_taken(year, (3 * t.zone + t.product) as usize) {
         return 13;
     }
-    if lists_exactly(year, listing, Selection::Uncalled(t.zone, t.product)) {
+    if lists_exactly(year, listing, Selection::Undispatched(t.zone, t.product)) {
         0
     } else {
         14

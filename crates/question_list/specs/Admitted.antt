@@ -13,7 +13,7 @@ use Rattle.ids.specs.Sets.{getD-replicate-same}
 use Rattle.year.specs.declared.Listing.{Listing}
 use Rattle.year.specs.declared.Test as test
 use Rattle.year.specs.declared.Year.{Year}
-use Rattle.year.specs.Year.{clearingsOf, seller, noTest, testPlace}
+use Rattle.year.specs.Year.{clearingsOf, seller, noTest, testGroup}
 use Rattle.year.specs.Sound.{Sound}
 use Rattle.record_heads.specs.declared.EventHead.{EventHead}
 use Rattle.record_heads.specs.declared.TestHead.{TestHead}
@@ -67,15 +67,15 @@ pub not-started : {rule : ℕ → ℕ → Bool} {y : Year} {r : Record} {room : 
 not-started {y = y} e a = not-true (y .started) (sym e ∙ a .seven)
 
 module _ {rule : ℕ → ℕ → Bool} {y : Year} {l : Listing} {room : ℕ} where
-  pub event-held : {e : EventHead} → Admitted rule y (record { head = Event e; listing = l }) room → y .held < 16
+  pub event-room : {e : EventHead} → Admitted rule y (record { head = Event e; listing = l }) room → y .accepted < 16
   unfolding q12
-  event-held a = ltb-true (y .held) 16 (a .twelve)
+  event-room a = ltb-true (y .accepted) 16 (a .twelve)
 
   pub test-group : {t : TestHead} → Admitted rule y (record { head = Test t; listing = l }) room → everyListed (y .terms) l (inGroup (y .terms) (t .zone) (t .product)) ≡ true
   unfolding q10
   test-group {t} a = and-parts (everyListed (y .terms) l (inGroup (y .terms) (t .zone) (t .product))) (deficitsListed (y .terms) l) (a .ten) .0
 
-  pub test-free : {t : TestHead} → Admitted rule y (record { head = Test t; listing = l }) room → getD (y .tests) (testPlace (t .zone) (t .product)) noTest .taken ≡ false
+  pub test-free : {t : TestHead} → Admitted rule y (record { head = Test t; listing = l }) room → getD (y .tests) (testGroup (t .zone) (t .product)) noTest .taken ≡ false
   unfolding q13
   test-free a = not-true _ (a .thirteen)
 
@@ -86,9 +86,9 @@ module _ {rule : ℕ → ℕ → Bool} {y : Year} {l : Listing} {room : ℕ} whe
     retest-own =
         and-parts (everyListed (y .terms) l (inGroup (y .terms) (t .zone) (t .product))) (everyListed (y .terms) l (λ i. eqb (seller (y .terms) i) (t .seller))) (a .ten) .1
 
-    pub retest-tested : getD (y .tests) (testPlace (t .zone) (t .product)) noTest .taken ≡ true
+    pub retest-tested : getD (y .tests) (testGroup (t .zone) (t .product)) noTest .taken ≡ true
     unfolding q20
-    retest-tested = and-parts (getD (y .tests) (testPlace (t .zone) (t .product)) noTest .taken) _ (a .twenty) .0
+    retest-tested = and-parts (getD (y .tests) (testGroup (t .zone) (t .product)) noTest .taken) _ (a .twenty) .0
 
     pub retest-started : Sound y → y .started ≡ true
     retest-started S = go (y .started) refl
@@ -96,7 +96,7 @@ module _ {rule : ℕ → ℕ → Bool} {y : Year} {l : Listing} {room : ℕ} whe
         go : (b : Bool) → y .started ≡ b → b ≡ true
         go true e = refl
         go false e =
-            let blank = ap (λ (x : test.Test). x .taken) (getD-replicate-same 24 (testPlace (t .zone) (t .product)) noTest) in
+            let blank = ap (λ (x : test.Test). x .taken) (getD-replicate-same 24 (testGroup (t .zone) (t .product)) noTest) in
             absurd (let z : _≡_ {A = ℕ} 0 1 = cc (retest-tested, S .fresh e .2, blank) in omega arith)
 
   pub clearings-few : {c : ClearingHead} → Admitted rule y (record { head = Clearing c; listing = l }) room → clearingsOf y (c .registration) .count < 4

@@ -9,9 +9,9 @@ use Rattle.year.specs.declared.Listing.{Listing}
 use Rattle.year.specs.declared.Test.{Test}
 use Rattle.year.specs.declared.Terms.{Terms}
 use Rattle.year.specs.declared.Year.{Year}
-use Rattle.year.specs.Year.{clearingsOf, known, seller, product, obligation, size, lses, testAt, testPlace}
+use Rattle.year.specs.Year.{clearingsOf, known, seller, product, obligation, size, lses, testAt, testGroup}
 use Rattle.owed.specs.Facts.{factsOf}
-use Rattle.owed.specs.Owed.{called}
+use Rattle.owed.specs.Owed.{dispatched}
 use Rattle.owed.specs.Retests.{belowQuarter, failed, testedKw, failedKw, hadRetest}
 use Rattle.record_heads.specs.declared.Head.{Head}
 use Rattle.record_heads.specs.Record.{Record, forOpening, forRegistration, forLse, forEvent, forTest, forClose, forClearing, forRetest}
@@ -41,8 +41,8 @@ module _ (y : Year) where
   T = y .terms
 
   -- the test of a zone and product
-  abbrev testOf : ℕ → ℕ → Test
-  testOf z p = testAt y (testPlace z p)
+  abbrev testIn : ℕ → ℕ → Test
+  testIn z p = testAt y (testGroup z p)
 
   -- for an opening: is there no year? For others: is there one, with month 15 not closed?
   unfoldable pub q6 : Head → Bool
@@ -77,31 +77,31 @@ module _ (y : Year) where
   q11 rule l =
       forEvent (λ e. rule (y .closed) (e .month) && everyListed T l (λ i. callable (product T i) (e .month) (e .period)))
       (forTest (λ t. mayTest (y .closed) (t .product) (t .month))
-      (forRetest (λ t. let test = testOf (t .zone) (t .product) in mayTest (y .closed) (t .product) (t .month) && (not (test .taken) || leb (test .month) (t .month))) passed))
+      (forRetest (λ t. let test = testIn (t .zone) (t .product) in mayTest (y .closed) (t .product) (t .month) && (not (test .taken) || leb (test .month) (t .month))) passed))
 
   -- for a retest: was there a test of the zone and product, has the seller had no retest of it, and are its failed kW below a quarter of its tested kW, and some?
   unfoldable pub q20 : Head → Bool
   q20 =
       forRetest
-      (λ t. let p = testPlace (t .zone) (t .product) in
-      testOf (t .zone) (t .product) .taken && (not (hadRetest (factsOf y) p (t .seller)) && belowQuarter (failedKw (factsOf y) p (t .seller)) (testedKw (factsOf y) p (t .seller))))
+      (λ t. let p = testGroup (t .zone) (t .product) in
+      testIn (t .zone) (t .product) .taken && (not (hadRetest (factsOf y) p (t .seller)) && belowQuarter (failedKw (factsOf y) p (t .seller)) (testedKw (factsOf y) p (t .seller))))
       passed
 
   -- does a retest list exactly the seller's entries that failed?
   unfoldable pub q21 : Listing → Head → Bool
-  q21 l = forRetest (λ t. listsExactly T l (failed (factsOf y) (testPlace (t .zone) (t .product)) (t .seller))) passed
+  q21 l = forRetest (λ t. listsExactly T l (failed (factsOf y) (testGroup (t .zone) (t .product)) (t .seller))) passed
 
   -- are fewer than 16 events accepted (for an event)?
   unfoldable pub q12 : Head → Bool
-  q12 = forEvent (λ e. ltb (y .held) 16) passed
+  q12 = forEvent (λ e. ltb (y .accepted) 16) passed
 
   -- is the zone and product untested (for a test)?
   unfoldable pub q13 : Head → Bool
-  q13 = forTest (λ t. not (testOf (t .zone) (t .product) .taken)) passed
+  q13 = forTest (λ t. not (testIn (t .zone) (t .product) .taken)) passed
 
   -- does a test list exactly those registrations of its zone and product that no accepted event lists?
   unfoldable pub q14 : Listing → Head → Bool
-  q14 l = forTest (λ t. listsExactly T l (λ i. inGroup T (t .zone) (t .product) i && not (called (factsOf y) i))) passed
+  q14 l = forTest (λ t. listsExactly T l (λ i. inGroup T (t .zone) (t .product) i && not (dispatched (factsOf y) i))) passed
 
   -- is a close's month the next?
   unfoldable pub q15 : Head → Bool

@@ -4,7 +4,7 @@ ghost use mathlib.Core.Bool.{_&&_};
 ghost use mathlib.Core.List.{[], _∷_};
 ghost use lib.Dec.{ltb};
 ghost use Rattle.record_layouts.specs.Questions.{firstFailed};
-ghost use Rattle.year_cells.specs.Layout.{yearIn, Held};
+ghost use Rattle.year_cells.specs.Layout.{yearIn, ValidCells};
 ghost use Rattle.question_list.specs.Questions.{monthBegun, mayTest, hasParties};
 use question_conditions::Selection;
 use question_listings::any_lse;
@@ -20,7 +20,7 @@ pub fn is_open(year: &Cells) -> bool
 
 // Question 8.
 fn has_parties(year: &Cells) -> bool
-    requires { ⌜ Held (now year) ⌝ }
+    requires { ⌜ ValidCells (now year) ⌝ }
     ensures { λ r. ⌜ r ≡ hasParties (yearIn (now (year .entry)) .terms) ⌝ }
 {
     any_selected(year, Selection::Known) && any_lse(year)
@@ -28,7 +28,7 @@ fn has_parties(year: &Cells) -> bool
 
 // Questions 6 and 8 of an event, a test, a retest or a close: the number of the first that fails, or 0.
 pub fn open_number(year: &Cells) -> u64
-    requires { ⌜ Held (now year) ⌝ }
+    requires { ⌜ ValidCells (now year) ⌝ }
     ensures { λ r. ⌜ r ≡ (let y = yearIn (now (year .entry)) in firstFailed ((6, y .opened && ltb (y .closed) 15) ∷ (8, hasParties (y .terms)) ∷ [])) ⌝ }
 {
     if !is_open(year) {
@@ -39,7 +39,7 @@ pub fn open_number(year: &Cells) -> u64
 
 // Has the month begun? Question 11 of an event, a test and a retest.
 pub fn month_begun(year: &Cells, month: u64) -> bool
-    requires { ⌜ Held (now year) ⌝ }
+    requires { ⌜ ValidCells (now year) ⌝ }
     ensures { λ r. ⌜ r ≡ monthBegun (yearIn (now (year .entry)) .closed) month ⌝ }
 {
     let closed = year_cells::closed(year);
@@ -48,7 +48,7 @@ pub fn month_begun(year: &Cells, month: u64) -> bool
 
 // A test's question 11.
 pub fn may_test(year: &Cells, product: u64, month: u64) -> bool
-    requires { ⌜ Held (now year) ⌝ }
+    requires { ⌜ ValidCells (now year) ⌝ }
     ensures { λ r. ⌜ r ≡ mayTest (yearIn (now (year .entry)) .closed) product month ⌝ }
 {
     month_begun(year, month) && calendar::testable(product, month)

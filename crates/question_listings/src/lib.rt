@@ -6,7 +6,7 @@ ghost use lib.Dec.{eqb};
 ghost use lib.ListN.{length};
 ghost use Rattle.ids.specs.Ids.{at, anyTo, tabulate};
 ghost use Rattle.year.specs.Year.{listed, seller, size};
-ghost use Rattle.year_cells.specs.Layout.{listingAt, yearIn, Held};
+ghost use Rattle.year_cells.specs.Layout.{listingAt, yearIn, ValidCells};
 ghost use Rattle.question_conditions.specs.Entries.{everyListed, deficitsListed, listsExactly};
 ghost use Rattle.question_conditions.specs.Meets.{fulfils};
 ghost use Rattle.question_conditions.specs.Selects.{selects};
@@ -36,7 +36,7 @@ fn passes(year: &Cells, listing: &[u64], condition: Condition, i: usize) -> bool
 
 // Does every listed registration meet the condition?
 pub fn every_listed(year: &Cells, listing: &[u64], condition: Condition) -> bool
-    requires { ⌜ Held (now year) ⌝ }
+    requires { ⌜ ValidCells (now year) ⌝ }
     requires { ⌜ length (now listing) ≡ 208 ⌝ }
     ensures { λ r. ⌜ r ≡ (let y = yearIn (now (year .entry)) in everyListed (y .terms) (listingAt (at (now (listing .entry)))) (fulfils y condition)) ⌝ }
 {
@@ -52,7 +52,7 @@ pub fn every_listed(year: &Cells, listing: &[u64], condition: Condition) -> bool
 
 // Which sellers have an entry.
 fn sellers_listed(year: &Cells, listing: &[u64]) -> [bool; 16]
-    requires { ⌜ Held (now year) ⌝ }
+    requires { ⌜ ValidCells (now year) ⌝ }
     requires { ⌜ length (now listing) ≡ 208 ⌝ }
     ensures { λ r. ⌜ r ≡ (let T = yearIn (now (year .entry)) .terms in tabulate 16 (λ s. anyTo (size T) (λ i. listed (listingAt (at (now (listing .entry)))) i && eqb (seller T i) s))) ⌝ }
 {
@@ -71,7 +71,7 @@ fn sellers_listed(year: &Cells, listing: &[u64]) -> [bool; 16]
 
 // Has every deficit's seller an entry?
 fn deficits_listed(year: &Cells, listing: &[u64]) -> bool
-    requires { ⌜ Held (now year) ⌝ }
+    requires { ⌜ ValidCells (now year) ⌝ }
     requires { ⌜ length (now listing) ≡ 208 ⌝ }
     ensures { λ r. ⌜ r ≡ deficitsListed (yearIn (now (year .entry)) .terms) (listingAt (at (now (listing .entry)))) ⌝ }
 {
@@ -88,7 +88,7 @@ fn deficits_listed(year: &Cells, listing: &[u64]) -> bool
 
 // Does every listed registration meet the condition, and has every deficit's seller an entry?
 pub fn entries_pass(year: &Cells, listing: &[u64], condition: Condition) -> bool
-    requires { ⌜ Held (now year) ⌝ }
+    requires { ⌜ ValidCells (now year) ⌝ }
     requires { ⌜ length (now listing) ≡ 208 ⌝ }
     ensures { λ r. ⌜ r ≡ (let y = yearIn (now (year .entry)) in let l = listingAt (at (now (listing .entry))) in everyListed (y .terms) l (fulfils y condition) && deficitsListed (y .terms) l) ⌝ }
 {
@@ -97,7 +97,7 @@ pub fn entries_pass(year: &Cells, listing: &[u64], condition: Condition) -> bool
 
 // Are exactly those listed that are selected?
 pub fn lists_exactly(year: &Cells, listing: &[u64], selection: Selection) -> bool
-    requires { ⌜ Held (now year) ⌝ }
+    requires { ⌜ ValidCells (now year) ⌝ }
     requires { ⌜ length (now listing) ≡ 208 ⌝ }
     ensures { λ r. ⌜ r ≡ (let y = yearIn (now (year .entry)) in listsExactly (y .terms) (listingAt (at (now (listing .entry)))) (selects y selection)) ⌝ }
 {

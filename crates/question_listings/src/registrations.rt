@@ -4,7 +4,7 @@ ghost use lib.Dec.{ltb};
 ghost use Prim.Native.Nat.{_<_};
 ghost use Rattle.ids.specs.Ids.{sumTo, anyTo, only};
 ghost use Rattle.year.specs.Year.{committed, obligation, lses};
-ghost use Rattle.year_cells.specs.Layout.{yearIn, Held};
+ghost use Rattle.year_cells.specs.Layout.{yearIn, ValidCells};
 ghost use Rattle.question_conditions.specs.Selects.{selects};
 use question_conditions::Selection;
 use question_conditions::is_selected;
@@ -13,7 +13,7 @@ use year_cells::Cells;
 
 // Is there a registration that is selected?
 pub fn any_selected(year: &Cells, selection: Selection) -> bool
-    requires { ⌜ Held (now year) ⌝ }
+    requires { ⌜ ValidCells (now year) ⌝ }
     ensures { λ r. ⌜ r ≡ anyTo 64 (selects (yearIn (now (year .entry))) selection) ⌝ }
 {
     let mut i: usize = 0;
@@ -28,7 +28,7 @@ pub fn any_selected(year: &Cells, selection: Selection) -> bool
 
 // What a registration commits, if it is selected.
 fn committed_by(year: &Cells, i: usize, selection: Selection) -> u64
-    requires { ⌜ Held (now year) ⌝ }
+    requires { ⌜ ValidCells (now year) ⌝ }
     requires { ⌜ i < 64 ⌝ }
     ensures { λ r. ⌜ r ≡ (let y = yearIn (now (year .entry)) in only (selects y selection) (committed (y .terms)) i) ⌝ }
 {
@@ -43,7 +43,7 @@ fn committed_by(year: &Cells, i: usize, selection: Selection) -> u64
 
 // What the selected registrations commit.
 pub fn committed_kw(year: &Cells, selection: Selection) -> Nominated
-    requires { ⌜ Held (now year) ⌝ }
+    requires { ⌜ ValidCells (now year) ⌝ }
     ensures { λ r. ⌜ r .0 ≡ (let y = yearIn (now (year .entry)) in sumTo 64 (only (selects y selection) (committed (y .terms)))) ⌝ }
 {
     let mut sum: u64 = 0;
@@ -57,7 +57,7 @@ pub fn committed_kw(year: &Cells, selection: Selection) -> Nominated
 
 // Is there an LSE?
 pub fn any_lse(year: &Cells) -> bool
-    requires { ⌜ Held (now year) ⌝ }
+    requires { ⌜ ValidCells (now year) ⌝ }
     ensures { λ r. ⌜ r ≡ (let T = yearIn (now (year .entry)) .terms in anyTo (lses T) (λ j. ltb 0 (obligation T j))) ⌝ }
 {
     let mut j: usize = 0;

@@ -4,7 +4,7 @@ ghost use lib.ListN.{length};
 ghost use Rattle.ids.specs.Ids.{at};
 ghost use Rattle.record_layouts.specs.Questions.{firstFailed};
 ghost use Rattle.year.specs.declared.Listing.{Listing};
-ghost use Rattle.year_cells.specs.Layout.{listingAt, yearIn, Held};
+ghost use Rattle.year_cells.specs.Layout.{listingAt, yearIn, ValidCells};
 ghost use Rattle.record_heads.specs.Within.{Within};
 ghost use Rattle.question_list.specs.Questions.{monthBegun, questions};
 use question_event_and_test::event_number;
@@ -20,7 +20,7 @@ use year_cells::Cells;
 
 // Of a close.
 fn close_number(year: &Cells, c: CloseHead, room: usize) -> u64
-    requires { ⌜ Held (now year) ⌝ }
+    requires { ⌜ ValidCells (now year) ⌝ }
     ensures { λ n. ⌜ ((l : Listing) → n ≡ firstFailed (questions monthBegun (yearIn (now (year .entry))) (record { head = Head.Close c; listing = l }) room)) ⌝ }
 {
     let first = open_number(year);
@@ -35,7 +35,7 @@ fn close_number(year: &Cells, c: CloseHead, room: usize) -> u64
 
 // The number of the first question from 6 on that fails, or 0. The listing is a row by id.
 pub fn number_of(year: &Cells, head: Head, listing: &[u64], room: usize) -> u64
-    requires { ⌜ Held (now year) ⌝ }
+    requires { ⌜ ValidCells (now year) ⌝ }
     requires { ⌜ Within head ⌝ }
     requires { ⌜ length (now listing) ≡ 208 ⌝ }
     ensures { λ n. ⌜ n ≡ firstFailed (questions monthBegun (yearIn (now (year .entry))) (record { head = head; listing = listingAt (at (now (listing .entry))) }) room) ⌝ }

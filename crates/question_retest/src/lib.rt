@@ -6,13 +6,13 @@ ghost use lib.Dec.{leb, eqb};
 ghost use lib.ListN.{length, getD};
 ghost use Rattle.ids.specs.Ids.{at};
 ghost use Rattle.record_layouts.specs.Questions.{firstFailed};
-ghost use Rattle.year.specs.Year.{seller, noTest, testPlace};
-ghost use Rattle.year_cells.specs.Layout.{listingAt, yearIn, Held};
+ghost use Rattle.year.specs.Year.{seller, noTest, testGroup};
+ghost use Rattle.year_cells.specs.Layout.{listingAt, yearIn, ValidCells};
 ghost use Rattle.record_heads.specs.Within.{GroupWithin};
 ghost use Rattle.question_conditions.specs.Entries.{inGroup, everyListed};
 ghost use Rattle.question_list.specs.Questions.{monthBegun, mayTest, questions};
+use crate::retestable::group_of;
 use crate::retestable::may_retest;
-use crate::retestable::place_of;
 use question_conditions::Condition;
 use question_conditions::Selection;
 use question_list::may_test;
@@ -27,7 +27,7 @@ mod retestable;
 
 // Question 10: is every listed registration known, of the zone and product, and the seller's?
 fn lists_own(year: &Cells, t: RetestHead, listing: &[u64]) -> bool
-    requires { ⌜ Held (now year) ⌝ }
+    requires { ⌜ ValidCells (now year) ⌝ }
     requires { ⌜ length (now listing) ≡ 208 ⌝ }
     ensures { λ r. ⌜ r ≡ (let T = yearIn (now (year .entry)) .terms in let l = listingAt (at (now (listing .entry))) in everyListed T l (inGroup T (t .zone) (t .product)) && everyListed T l (λ i. eqb (seller T i) (t .seller))) ⌝ }
 {
@@ -37,23 +37,23 @@ fn lists_own(year: &Cells, t: RetestHead, listing: &[u64]) -> bool
 
 // Question 11: a test's, and not before the month of the test, where there was one.
 fn in_time(year: &Cells, t: RetestHead) -> bool
-    requires { ⌜ Held (now year) ⌝ }
+    requires { ⌜ ValidCells (now year) ⌝ }
     requires { ⌜ GroupWithin (t .zone) (t .product) ⌝ }
-    ensures { λ r. ⌜ r ≡ (let y = yearIn (now (year .entry)) in let test = getD (y .tests) (testPlace (t .zone) (t .product)) noTest in mayTest (y .closed) (t .product) (t .month) && (not (test .taken) || leb (test .month) (t .month))) ⌝ }
+    ensures { λ r. ⌜ r ≡ (let y = yearIn (now (year .entry)) in let test = getD (y .tests) (testGroup (t .zone) (t .product)) noTest in mayTest (y .closed) (t .product) (t .month) && (not (test .taken) || leb (test .month) (t .month))) ⌝ }
 {
     if !may_test(year, t.product, t.month) {
         return false;
     }
-    let place = place_of(t) as usize;
-    if !year_tested::test_taken(year, place) {
+    let group = group_of(t) as usize;
+    if !year_tested::test_taken(year, group) {
         return true;
     }
-    year_tested::test_month(year, place) <= t.month
+    year_tested::test_month(year, group) <= t.month
 }
 
 // Of a retest.
 pub fn retest_number(year: &Cells, t: RetestHead, listing: &[u64]) -> u64
-    requires { ⌜ Held (now year) ⌝ }
+    requires { ⌜ ValidCells (now year) ⌝ }
     requires { ⌜ GroupWithin (t .zone) (t .product) ⌝ }
     requires { ⌜ length (now listing) ≡ 208 ⌝ }
     ensures { λ n. ⌜ ((room : ℕ) → n ≡ firstFailed (questions monthBegun (yearIn (now (year .entry))) (record { head = Head.Retest t; listing = listingAt (at (now (listing .entry))) }) room)) ⌝ }
@@ -71,8 +71,8 @@ pub fn retest_number(year: &Cells, t: RetestHead, listing: &[u64]) -> u64
     if !may_retest(year, t) {
         return 20;
     }
-    let place = place_of(t);
-    if lists_exactly(year, listing, Selection::Failed(place, t.seller)) {
+    let group = group_of(t);
+    if lists_exactly(year, listing, Selection::Failed(group, t.seller)) {
         0
     } else {
         21

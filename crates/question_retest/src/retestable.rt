@@ -3,10 +3,10 @@ ghost use mathlib.Core.Path.{_≡_};
 ghost use mathlib.Core.Bool.{not, _&&_};
 ghost use Prim.Native.Nat.{_≤_};
 ghost use lib.ListN.{getD};
-ghost use Rattle.year.specs.Year.{noTest, testPlace};
+ghost use Rattle.year.specs.Year.{noTest, testGroup};
 ghost use Rattle.owed.specs.Facts.{factsOf};
 ghost use Rattle.owed.specs.Retests.{belowQuarter, testedKw, failedKw, hadRetest};
-ghost use Rattle.year_cells.specs.Layout.{yearIn, Held};
+ghost use Rattle.year_cells.specs.Layout.{yearIn, ValidCells};
 ghost use Rattle.record_heads.specs.Within.{GroupWithin};
 use question_conditions::Selection;
 use question_listings::any_selected;
@@ -16,9 +16,9 @@ use units::Nominated;
 use year_cells::Cells;
 
 // The place of the test of its zone and product.
-pub fn place_of(t: RetestHead) -> u64
+pub fn group_of(t: RetestHead) -> u64
     requires { ⌜ GroupWithin (t .zone) (t .product) ⌝ }
-    ensures { λ r. ⌜ r ≡ testPlace (t .zone) (t .product) ⌝ }
+    ensures { λ r. ⌜ r ≡ testGroup (t .zone) (t .product) ⌝ }
 {
     3 * t.zone + t.product
 }
@@ -34,18 +34,18 @@ fn below_quarter(failed: Nominated, tested: Nominated) -> bool
 
 // Question 20: was there a test, has the seller had no retest of it, and did it fail with less than a quarter, and some?
 pub fn may_retest(year: &Cells, t: RetestHead) -> bool
-    requires { ⌜ Held (now year) ⌝ }
+    requires { ⌜ ValidCells (now year) ⌝ }
     requires { ⌜ GroupWithin (t .zone) (t .product) ⌝ }
-    ensures { λ r. ⌜ r ≡ (let y = yearIn (now (year .entry)) in let p = testPlace (t .zone) (t .product) in getD (y .tests) p noTest .taken && (not (hadRetest (factsOf y) p (t .seller)) && belowQuarter (failedKw (factsOf y) p (t .seller)) (testedKw (factsOf y) p (t .seller)))) ⌝ }
+    ensures { λ r. ⌜ r ≡ (let y = yearIn (now (year .entry)) in let p = testGroup (t .zone) (t .product) in getD (y .tests) p noTest .taken && (not (hadRetest (factsOf y) p (t .seller)) && belowQuarter (failedKw (factsOf y) p (t .seller)) (testedKw (factsOf y) p (t .seller)))) ⌝ }
 {
-    let place = place_of(t);
-    if !year_tested::test_taken(year, place as usize) {
+    let group = group_of(t);
+    if !year_tested::test_taken(year, group as usize) {
         return false;
     }
-    if any_selected(year, Selection::Retested(place, t.seller)) {
+    if any_selected(year, Selection::Retested(group, t.seller)) {
         return false;
     }
-    let failed = committed_kw(year, Selection::Failed(place, t.seller));
-    let tested = committed_kw(year, Selection::Tested(place, t.seller));
+    let failed = committed_kw(year, Selection::Failed(group, t.seller));
+    let tested = committed_kw(year, Selection::Tested(group, t.seller));
     below_quarter(failed, tested)
 }

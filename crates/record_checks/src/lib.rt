@@ -85,5 +85,5 @@ pub fn is_filled(c: Cursor, bytes: &[u8]) -> bool
     if left == 0 {
         return true;
     }
-    c.take(bytes, left).value == 0
+    c.read_field(bytes, left).value == 0
 }

@@ -49,14 +49,14 @@ fn column_within(
     high: u64,
     values: &[u64],
     from: usize,
-    apart: usize,
+    stride: usize,
     n: usize,
 ) -> bool
     requires { ⌜ width ≤ 42 ⌝ }
-    requires { ⌜ (read ≡ true → ColumnFits width (now values) from apart n) ⌝ }
-    requires { ⌜ n * apart ≤ length (now values) ⌝ }
-    requires { ⌜ from + n * apart < length (now values) + apart ⌝ }
-    ensures { λ r. ⌜ r ≡ columnWithin low high (now (values .entry)) from apart n ⌝ }
+    requires { ⌜ (read ≡ true → ColumnFits width (now values) from stride n) ⌝ }
+    requires { ⌜ n * stride ≤ length (now values) ⌝ }
+    requires { ⌜ from + n * stride < length (now values) + stride ⌝ }
+    ensures { λ r. ⌜ r ≡ columnWithin low high (now (values .entry)) from stride n ⌝ }
 {
     if read && hold_all(low, high, width) {
         return true;
@@ -71,7 +71,7 @@ fn column_within(
         if high < v {
             return false;
         }
-        p += apart;
+        p += stride;
         k += 1;
     }
     true

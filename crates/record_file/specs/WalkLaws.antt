@@ -8,7 +8,7 @@ use lib.ListN.{length, drop, length-drop}
 use Rattle.bits.specs.TableLaws.{total-in}
 use Rattle.record_layouts.specs.Layout.{head, widths, sizeOf}
 use Rattle.record_layouts.specs.LayoutLaws.{length-widths, rules-long}
-use Rattle.record_layouts.specs.Questions.{firstFailed, kindOf, headOf, rulesOf, isKind, isWhole, recordQuestions, recordNumber, consumed}
+use Rattle.record_layouts.specs.Questions.{firstFailed, kindOf, headNumbers, rulesOf, isKind, isWhole, recordQuestions, recordNumber, consumed}
 use Rattle.record_layouts.specs.QuestionLaws.{head-kind}
 use Rattle.record_file.specs.Walk.{ends, recordsTo, recordsIn}
 
@@ -19,7 +19,7 @@ module _ (file : List ℕ) where
   size-some e =
       let k = kindOf file in
       let h = head-kind k e in
-      omega (arith, rules-long k (headOf file), total-in (widths (head k)) 0 (omega (arith, length-widths (head k))))
+      omega (arith, rules-long k (headNumbers file), total-in (widths (head k)) 0 (omega (arith, length-widths (head k))))
 
   consumed-some : ends (recordNumber file) ≡ false → 1 ≤ consumed file
   unfolding recordQuestions recordNumber firstFailed consumed

@@ -13,7 +13,7 @@ use Rattle.bits.specs.TableLaws.{fields-take}
 use Rattle.bits.specs.Pack.{bytesFor}
 use Rattle.record_layouts.specs.Layout.{head, widths, sizeOf, longestRecord}
 use Rattle.record_layouts.specs.LayoutLaws.{head-small}
-use Rattle.record_layouts.specs.Questions.{kindOf, headOf, rulesOf, numbersOf, isWhole, isFilled, recordQuestions, recordNumber, consumed}
+use Rattle.record_layouts.specs.Questions.{kindOf, headNumbers, rulesOf, numbersOf, isWhole, isFilled, recordQuestions, recordNumber, consumed}
 use Rattle.record_layouts.specs.QuestionLaws.{few-bits}
 
 -- bytes with the same front, as long as the longest record
@@ -29,8 +29,8 @@ module _ {xs ys : List ℕ} (e : Alike xs ys) where
   unfolding kindOf
   same-kind = agree-field (agree-take xs ys longestRecord (e .fronts)) 0 4 (omega arith) (omega arith)
 
-  same-head : headOf xs ≡ headOf ys
-  unfolding headOf
+  same-head : headNumbers xs ≡ headNumbers ys
+  unfolding headNumbers
   same-head = rw same-kind (fields-take xs ys longestRecord 0 (widths (head (kindOf ys))) (e .fronts) (omega (arith, head-small (kindOf ys) .1)))
 
   same-rules : rulesOf xs ≡ rulesOf ys

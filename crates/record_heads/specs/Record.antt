@@ -32,11 +32,11 @@ headOf vs =
     cond (eqb (v 0) 1) (Opening (record { leap = v 1; factor = v 2; requirement = v 3 }))
     (cond (eqb (v 0) 2) (Registration (record { id = v 1; seller = v 2; area = v 3; zone = v 4; product = v 5; committed = v 6; rate = v 7 }))
     (cond (eqb (v 0) 3) (Lse (record { id = v 1; obligation = v 2 }))
-    (cond (eqb (v 0) 4) (Event (record { area = v 1; month = v 2; period = v 3; apart = false }))
+    (cond (eqb (v 0) 4) (Event (record { area = v 1; month = v 2; period = v 3; dual = false }))
     (cond (eqb (v 0) 5) (Test (record { zone = v 1; product = v 2; month = v 3 }))
     (cond (eqb (v 0) 6) (Close (record { month = v 1 }))
     (cond (eqb (v 0) 7) (Clearing (record { registration = v 1; price = v 2; kw = v 3 }))
-    (cond (eqb (v 0) 8) (Event (record { area = v 1; month = v 2; period = 3; apart = true }))
+    (cond (eqb (v 0) 8) (Event (record { area = v 1; month = v 2; period = 3; dual = true }))
     (cond (eqb (v 0) 9) (Retest (record { seller = v 1; zone = v 2; product = v 3; month = v 4 }))
     (Close (record { month = 0 }))))))))))
 

@@ -30,7 +30,7 @@ pub struct EventHead {
     pub area: u64,
     pub month: u64,
     pub period: u64,
-    pub apart: bool,
+    pub dual: bool,
 }
 
 pub struct TestHead {
@@ -102,7 +102,7 @@ pub fn head_of(values: &[u64]) -> Head
             area: values[1],
             month: values[2],
             period: values[3],
-            apart: false,
+            dual: false,
         });
     }
     if kind == 5 {
@@ -127,7 +127,7 @@ pub fn head_of(values: &[u64]) -> Head
             area: values[1],
             month: values[2],
             period: 3,
-            apart: true,
+            dual: true,
         });
     }
     if kind == 9 {

@@ -143,12 +143,12 @@ highest f [] = 0
 highest f (l ∷ ls) = max (f l) (highest f ls)
 
 -- the bytes of the longest record, by counts as written, and of the longest that is permitted; the most numbers that a permitted record has:
--- `longest-is`, `longest-permitted-is` and `most-is` compute them from the table
+-- `longest-is`, `longest-permitted-is` and `most-numbers-is` compute them from the table
 abbrev pub longestRecord : ℕ
 longestRecord = 731
 
 abbrev pub longestPermitted : ℕ
 longestPermitted = 371
 
-abbrev pub most : ℕ
-most = 229
+abbrev pub mostNumbers : ℕ
+mostNumbers = 229

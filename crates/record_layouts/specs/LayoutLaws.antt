@@ -14,7 +14,7 @@ use Rattle.ids.specs.Tests.{and-parts}
 use Rattle.bits.specs.Table.{total, times, narrow}
 use Rattle.bits.specs.TableLaws.{total-append}
 use Rattle.bits.specs.Pack.{bytesFor}
-use Rattle.record_layouts.specs.Layout.{Rule, noRule, Items, noItems, Layout, bare, layouts, layoutOf, head, lists, listAt, itemsIn, rulesTo, rulesFor, widths, mostTo, bitsMost, numbersMost, asWritten, asPermitted, highest, longestRecord, longestPermitted, most}
+use Rattle.record_layouts.specs.Layout.{Rule, noRule, Items, noItems, Layout, bare, layouts, layoutOf, head, lists, listAt, itemsIn, rulesTo, rulesFor, widths, mostTo, bitsMost, numbersMost, asWritten, asPermitted, highest, longestRecord, longestPermitted, mostNumbers}
 
 -- does p hold of every element
 unfoldable pub every : {A : Type 0} → (A → Bool) → List A → Bool
@@ -189,9 +189,9 @@ longest-permitted-is : highest (λ l. bytesFor (bitsMost asPermitted l)) layouts
 unfolding highest bitsMost mostTo
 longest-permitted-is = refl
 
-most-is : highest (numbersMost asPermitted) layouts ≡ most
+most-numbers-is : highest (numbersMost asPermitted) layouts ≡ mostNumbers
 unfolding highest numbersMost mostTo
-most-is = refl
+most-numbers-is = refl
 
 -- no record is longer, by its counts
 module _ (limit : Rule → ℕ) {n : ℕ} (e : highest (λ l. bytesFor (bitsMost limit l)) layouts ≡ n) (k : ℕ) (vs : List ℕ)
@@ -213,9 +213,9 @@ module _ (k : ℕ) (vs : List ℕ) (h : (i : ℕ) → i < length (lists k) → i
   pub permitted-most : total (widths (rulesFor k vs)) ≤ 8 * longestPermitted
   permitted-most = bits-within asPermitted longest-permitted-is k vs h
 
-  pub numbers-most : length (rulesFor k vs) ≤ most
+  pub numbers-most : length (rulesFor k vs) ≤ mostNumbers
   unfolding rulesFor numbersMost mostTo
   numbers-most =
       let here = size-to asPermitted length refl length-append k vs h (length (lists k)) (omega arith) in
-      let all : numbersMost asPermitted (layoutOf k) ≤ most = rw most-is at (highest-at (numbersMost asPermitted) layouts k refl) in
+      let all : numbersMost asPermitted (layoutOf k) ≤ mostNumbers = rw most-numbers-is at (highest-at (numbersMost asPermitted) layouts k refl) in
       le-trans here all

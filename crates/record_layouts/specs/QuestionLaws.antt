@@ -16,9 +16,9 @@ use Rattle.ids.specs.Tests.{and-parts, all-same, all-at}
 use Rattle.bits.specs.BitLaws.{field-lt, field-past}
 use Rattle.bits.specs.Table.{total, fieldsAt, laid}
 use Rattle.bits.specs.TableLaws.{fields-append, fields-at, length-fields}
-use Rattle.record_layouts.specs.Layout.{Rule, noRule, Layout, bare, layouts, layoutOf, head, lists, listAt, itemsIn, rulesTo, rulesFor, placeOf, widths, sizeOf, longestRecord, longestPermitted, most}
+use Rattle.record_layouts.specs.Layout.{Rule, noRule, Layout, bare, layouts, layoutOf, head, lists, listAt, itemsIn, rulesTo, rulesFor, placeOf, widths, sizeOf, longestRecord, longestPermitted, mostNumbers}
 use Rattle.record_layouts.specs.LayoutLaws.{every, every-at, count-in, items-count, width-at, widths-append, length-widths, rules-front, rules-long, rule-head, bits-most, permitted-most, numbers-most}
-use Rattle.record_layouts.specs.Questions.{kindOf, headOf, rulesOf, numbersOf, rulesBy, isKind, isWhole, permits, permitted, rises, idsRise, row, consumed}
+use Rattle.record_layouts.specs.Questions.{kindOf, headNumbers, rulesOf, numbersOf, rulesBy, isKind, isWhole, permits, permitted, rises, idsRise, row, consumed}
 
 drop-zeros : (n m : ℕ) → _≡_ {A = List ℕ} (drop n (replicate m 0)) (replicate (m - n) 0)
 drop-zeros zero m = rw sub-zero
@@ -29,18 +29,18 @@ drop-zeros (suc n) (suc m) = rw suc-sub-suc (drop-zeros n m)
 pub at-row : (vs : List ℕ) (j : ℕ) → at (row vs) j ≡ at vs j
 unfolding row
 at-row vs j = elim (decLt j (length vs)) [
-  | yes l ↦ List·getD-append vs (replicate (most - length vs) 0) 0 j l
+  | yes l ↦ List·getD-append vs (replicate (mostNumbers - length vs) 0) 0 j l
   | no l ↦
       let e : j ≡ length vs + (j - length vs) = omega arith in
-      ap (λ (i : ℕ). getD (vs ++ replicate (most - length vs) 0) i 0) e
-      ∙ getD-append-add vs (replicate (most - length vs) 0) (j - length vs) 0
-      ∙ getD-replicate-same (most - length vs) (j - length vs) 0
+      ap (λ (i : ℕ). getD (vs ++ replicate (mostNumbers - length vs) 0) i 0) e
+      ∙ getD-append-add vs (replicate (mostNumbers - length vs) 0) (j - length vs) 0
+      ∙ getD-replicate-same (mostNumbers - length vs) (j - length vs) 0
       ∙ sym (List·getD-eq-default vs 0 (omega arith))
 ]
 
-pub length-row : (vs : List ℕ) → length vs ≤ most → length (row vs) ≡ most
+pub length-row : (vs : List ℕ) → length vs ≤ mostNumbers → length (row vs) ≡ mostNumbers
 unfolding row
-length-row vs l = omega (arith, length-append vs (replicate (most - length vs) 0), length-replicate {A = ℕ} (most - length vs) 0)
+length-row vs l = omega (arith, length-append vs (replicate (mostNumbers - length vs) 0), length-replicate {A = ℕ} (mostNumbers - length vs) 0)
 
 -- more numbers laid behind those of a row
 pub row-more : (fs ys xs : List ℕ) (p : ℕ) → p ≡ length fs → xs ≡ row fs → laid p ys xs ≡ row (fs ++ ys)
@@ -49,8 +49,8 @@ row-more fs ys xs p e f =
     let n = length ys in
     let front : take p xs ≡ fs = rw f (take-at fs _ p (sym e)) in
     let at : p + n ≡ length fs + n = omega arith in
-    let back : drop (p + n) xs ≡ replicate (most - length fs - n) 0 = rw (f, at) (drop-append-add fs (replicate (most - length fs) 0) n ∙ drop-zeros n (most - length fs)) in
-    let left : most - length fs - n ≡ most - length (fs ++ ys) = omega (arith, length-append fs ys) in
+    let back : drop (p + n) xs ≡ replicate (mostNumbers - length fs - n) 0 = rw (f, at) (drop-append-add fs (replicate (mostNumbers - length fs) 0) n ∙ drop-zeros n (mostNumbers - length fs)) in
+    let left : mostNumbers - length fs - n ≡ mostNumbers - length (fs ++ ys) = omega (arith, length-append fs ys) in
     rw (front, back, left)
 
 -- a value within its rule
@@ -142,7 +142,7 @@ counts-permitted k vs e i l = rw (items-count k vs i l) (permitted-at (head k) v
 
 -- so a record's bytes are no more than the longest's, and a permitted head makes for few enough numbers
 pub few-bits : (bytes : List ℕ) → total (widths (rulesOf bytes)) ≤ 8 * longestRecord
-unfolding rulesOf headOf
+unfolding rulesOf headNumbers
 few-bits bytes = bits-most (kindOf bytes) _ (counts-written bytes (kindOf bytes))
 
 pub permitted-bits : (k : ℕ) (vs : List ℕ) → permitted (head k) vs ≡ true → total (widths (rulesFor k vs)) ≤ 8 * longestPermitted
@@ -151,7 +151,7 @@ permitted-bits k vs e = permitted-most k vs (counts-permitted k vs e)
 pub stated-bits : (k : ℕ) (vs : List ℕ) → permitted (head k) vs ≡ true → total (widths (rulesFor k vs)) ≤ 8 * longestRecord
 stated-bits k vs e = omega (arith, permitted-bits k vs e)
 
-pub few-numbers : (k : ℕ) (vs : List ℕ) → permitted (head k) vs ≡ true → length (rulesFor k vs) ≤ most
+pub few-numbers : (k : ℕ) (vs : List ℕ) → permitted (head k) vs ≡ true → length (rulesFor k vs) ≤ mostNumbers
 few-numbers k vs e = numbers-most k vs (counts-permitted k vs e)
 
 -- the first of more numbers
@@ -203,21 +203,21 @@ kind-byte bytes e = elim (decLt (length bytes) 1) [
 
 -- the numbers of a record say its kind, its counts and so its fields
 module _ (bytes : List ℕ) (e : isKind (kindOf bytes) ≡ true) where
-  pub numbers-head : (j : ℕ) → j < length (head (kindOf bytes)) → at (numbersOf bytes) j ≡ at (headOf bytes) j
-  unfolding numbersOf rulesOf headOf
+  pub numbers-head : (j : ℕ) → j < length (head (kindOf bytes)) → at (numbersOf bytes) j ≡ at (headNumbers bytes) j
+  unfolding numbersOf rulesOf headNumbers
   numbers-head j l = fields-head bytes (kindOf bytes) _ j l
 
   pub numbers-kind : at (numbersOf bytes) 0 ≡ kindOf bytes
-  unfolding headOf
+  unfolding headNumbers
   numbers-kind = numbers-head 0 (head-kind (kindOf bytes) e .0) ∙ kind-at bytes (kindOf bytes) e
 
   pub rules-by : rulesBy (numbersOf bytes) ≡ rulesOf bytes
   unfolding rulesBy rulesOf
-  rules-by = rw numbers-kind (rules-same (kindOf bytes) (numbersOf bytes) (headOf bytes) numbers-head)
+  rules-by = rw numbers-kind (rules-same (kindOf bytes) (numbersOf bytes) (headNumbers bytes) numbers-head)
 
 -- and bytes with the numbers in their fields are of a record with that kind and those fields
 pub rules-of : (bytes vs : List ℕ) → isKind (at vs 0) ≡ true → fieldsAt bytes 0 (widths (rulesBy vs)) ≡ vs → (kindOf bytes ≡ at vs 0) × (rulesOf bytes ≡ rulesBy vs)
-unfolding rulesBy rulesOf headOf
+unfolding rulesBy rulesOf headNumbers
 rules-of bytes vs e f =
     let k = at vs 0 in
     let us = fieldsAt bytes 0 (widths (head k)) in
@@ -230,10 +230,10 @@ pub permitted-row : (rs : List Rule) (vs : List ℕ) → permitted rs (row vs) �
 permitted-row rs vs = permitted-same rs (row vs) vs (λ j l. at-row vs j)
 
 -- a record consumes no more than the bytes that are there
-either : (kind whole : Bool) (size most : ℕ) → leb size most ≡ whole → cond (kind && whole) size 0 ≤ most
-either true true size most e = leb-true size most e
-either true false size most e = omega arith
-either false whole size most e = omega arith
+either : (kind whole : Bool) (size mostNumbers : ℕ) → leb size mostNumbers ≡ whole → cond (kind && whole) size 0 ≤ mostNumbers
+either true true size mostNumbers e = leb-true size mostNumbers e
+either true false size mostNumbers e = omega arith
+either false whole size mostNumbers e = omega arith
 
 pub consumed-within : (bytes : List ℕ) → consumed bytes ≤ length bytes
 unfolding consumed isWhole

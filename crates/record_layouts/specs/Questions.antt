@@ -8,7 +8,7 @@ use Rattle.ids.specs.Ids.{at, allTo}
 use Rattle.bits.specs.Bits.{fieldAt}
 use Rattle.bits.specs.Table.{fieldsAt}
 use Rattle.bits.specs.Pack.{filling}
-use Rattle.record_layouts.specs.Layout.{Rule, noRule, head, lists, listAt, itemsIn, rulesFor, placeOf, widths, sizeOf, most}
+use Rattle.record_layouts.specs.Layout.{Rule, noRule, head, lists, listAt, itemsIn, rulesFor, placeOf, widths, sizeOf, mostNumbers}
 
 -- the number of the first question that fails, 0 where none does
 unfoldable pub firstFailed : List (ℕ × Bool) → ℕ
@@ -19,11 +19,11 @@ firstFailed (q ∷ qs) = cond (q .1) (firstFailed qs) (q .0)
 unfoldable pub kindOf : List ℕ → ℕ
 kindOf bytes = fieldAt bytes 0 4
 
-unfoldable pub headOf : List ℕ → List ℕ
-headOf bytes = fieldsAt bytes 0 (widths (head (kindOf bytes)))
+unfoldable pub headNumbers : List ℕ → List ℕ
+headNumbers bytes = fieldsAt bytes 0 (widths (head (kindOf bytes)))
 
 unfoldable pub rulesOf : List ℕ → List Rule
-rulesOf bytes = rulesFor (kindOf bytes) (headOf bytes)
+rulesOf bytes = rulesFor (kindOf bytes) (headNumbers bytes)
 
 -- a record's numbers, in layout order
 unfoldable pub numbersOf : List ℕ → List ℕ
@@ -75,7 +75,7 @@ consumed bytes = cond (isKind (kindOf bytes) && isWhole bytes) (sizeOf (rulesOf 
 
 -- a record's numbers in a row of as many as a record has at most, zeros behind them
 unfoldable pub row : List ℕ → List ℕ
-row vs = vs ++ replicate (most - length vs) 0
+row vs = vs ++ replicate (mostNumbers - length vs) 0
 
 -- the numbers that a record is taken for: its own, or none where a question fails
 unfoldable pub numbersTaken : List ℕ → List ℕ

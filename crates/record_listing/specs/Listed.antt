@@ -11,7 +11,7 @@ use lib.Dec.{leb, ltb, eqb}
 use lib.ListN.{length, getD}
 use Rattle.ids.specs.Ids.{at}
 use Rattle.ids.specs.Tests.{and-parts}
-use Rattle.record_layouts.specs.Layout.{Rule, noRule, noItems, bare, layouts, head, lists, listAt, itemsIn, rulesFor, itemAt, itemIn, most}
+use Rattle.record_layouts.specs.Layout.{Rule, noRule, noItems, bare, layouts, head, lists, listAt, itemsIn, rulesFor, itemAt, itemIn, mostNumbers}
 use Rattle.record_layouts.specs.LayoutLaws.{every, every-at, every-in, rules-long}
 use Rattle.record_layouts.specs.ListLaws.{rule-item}
 use Rattle.record_layouts.specs.Parts.{Stated}
@@ -20,7 +20,7 @@ use Rattle.record_layouts.specs.QuestionLaws.{kind-in, permitted-at, head-permi
 use Rattle.year.specs.declared.Listing.{Listing}
 use Rattle.year.specs.Sound.{SoundListing}
 use Rattle.year.specs.Listing.{withEntry, withSecond, withDeficit}
-use Rattle.year.specs.Kept.{sound-no-listing}
+use Rattle.year.specs.StaysSound.{sound-no-listing}
 use Rattle.year.specs.ListingLaws.{sound-entry, sound-second, sound-deficit}
 use Rattle.record_heads.specs.Record.{withItem, listingIn}
 use Rattle.record_heads.specs.RecordLaws.{listing-keeps}
@@ -35,7 +35,7 @@ withAny t item l = cond (eqb t 0) l (withSecond l (item 0) (item t))
 
 -- an item is kept as an entry of a registration below 64 and of up to 100,000 kW, twice where it has two, or as a deficit of a seller below 16 and of up to 1,000,000 kW
 module _ (rs : List ℕ) (fs : List Rule) (item : ℕ → ℕ) where
-  pub record Entry : Type 0 where
+  pub record EntryLimits : Type 0 where
     pub some : 1 ≤ at rs 0
     pub inside : at rs 0 < length fs
     pub id : item 0 < 64
@@ -44,7 +44,7 @@ module _ (rs : List ℕ) (fs : List Rule) (item : ℕ → ℕ) where
     pub more : (at rs 1 ≡ 0 → ⊥) → item (at rs 1) ≤ 100000
     pub keeps : (v : ℕ → ℕ) (l : Listing) → withItem rs v l ≡ withAny (at rs 1) v (withEntry l (v 0) (v (at rs 0)))
 
-  pub record Deficit : Type 0 where
+  pub record DeficitLimits : Type 0 where
     pub none : rs ≡ []
     pub inside : 1 < length fs
     pub id : item 0 < 16
@@ -55,10 +55,10 @@ abbrev below : List Rule → ℕ → ℕ → Bool
 below fs f n = ltb f (length fs) && leb (getD fs f noRule .high) n
 
 -- every list of the table is of one or the other
-unfoldable limited : List ℕ → List Rule → Bool
-limited [] fs = below fs 0 15 && below fs 1 1000000
-limited (r ∷ []) fs = leb 1 r && (below fs 0 63 && below fs r 100000)
-limited (r ∷ t ∷ ts) fs = (leb 1 r && (below fs 0 63 && below fs r 100000)) && (leb 1 t && below fs t 100000)
+unfoldable itemLimits : List ℕ → List Rule → Bool
+itemLimits [] fs = below fs 0 15 && below fs 1 1000000
+itemLimits (r ∷ []) fs = leb 1 r && (below fs 0 63 && below fs r 100000)
+itemLimits (r ∷ t ∷ ts) fs = (leb 1 r && (below fs 0 63 && below fs r 100000)) && (leb 1 t && below fs t 100000)
 
 module _ (fs : List Rule) (item : ℕ → ℕ) (within : (f : ℕ) → f < length fs → item f ≤ getD fs f noRule .high) where
   is-below : (f n : ℕ) → below fs f n ≡ true → (f < length fs) × (item f ≤ n)
@@ -74,8 +74,8 @@ module _ (fs : List Rule) (item : ℕ → ℕ) (within : (f : ℕ) → f < lengt
       let b = and-parts (below fs 0 63) (below fs r 100000) (a .1) in
       (leb-true 1 r (a .0), is-below 0 63 (b .0), is-below r 100000 (b .1))
 
-  kept-as : (rs : List ℕ) → limited rs fs ≡ true → Entry rs fs item ⊎ Deficit rs fs item
-  unfolding limited withItem
+  kept-as : (rs : List ℕ) → itemLimits rs fs ≡ true → EntryLimits rs fs item ⊎ DeficitLimits rs fs item
+  unfolding itemLimits withItem
   kept-as [] e =
       let a = and-parts (below fs 0 15) (below fs 1 1000000) e in
       let id = is-below 0 15 (a .0) in
@@ -92,11 +92,11 @@ module _ (fs : List Rule) (item : ℕ → ℕ) (within : (f : ℕ) → f < lengt
       let some = ne-eqb t 0 (λ z. omega (arith, leb-true 1 t (b .0))) in
       inl (record { some = a .0; inside = a .2 .0; id = omega (arith, a .1 .1); kilowatts = a .2 .1; second = kw .0; more = λ o. kw .1; keeps = λ v l. rw some })
 
-limited-at : (k i : ℕ) → i < length (lists k) → limited (listAt k i .reductions) (listAt k i .fields) ≡ true
-unfolding every limited
-limited-at k i l =
-    every-in (λ x. limited (x .reductions) (x .fields)) (lists k) noItems i
-    (every-at (λ l. every (λ x. limited (x .reductions) (x .fields)) (l .lists)) layouts (bare []) k refl refl) l
+item-limits-at : (k i : ℕ) → i < length (lists k) → itemLimits (listAt k i .reductions) (listAt k i .fields) ≡ true
+unfolding every itemLimits
+item-limits-at k i l =
+    every-in (λ x. itemLimits (x .reductions) (x .fields)) (lists k) noItems i
+    (every-at (λ l. every (λ x. itemLimits (x .reductions) (x .fields)) (l .lists)) layouts (bare []) k refl refl) l
 
 sound-any : (t : ℕ) (item : ℕ → ℕ) {l : Listing} → ((t ≡ 0 → ⊥) → item t ≤ 100000) → SoundListing l → SoundListing (withAny t item l)
 sound-any t item {l} h s = go (eqb t 0) refl
@@ -110,10 +110,10 @@ module _ {vs : List ℕ} (p : Permitted vs) where
   unfolding rulesBy
   yes-head = head-permitted (at vs 0) vs vs (p .fields)
 
-  numbers-few : length (rulesFor (at vs 0) vs) ≤ most
+  numbers-few : length (rulesFor (at vs 0) vs) ≤ mostNumbers
   numbers-few = few-numbers (at vs 0) vs yes-head
 
-  pub stated : length vs ≡ most → Stated (at vs 0) vs
+  pub stated : length vs ≡ mostNumbers → Stated (at vs 0) vs
   stated e =
       record { kind = kind-in (at vs 0) (p .kind); head = omega (arith, rules-long (at vs 0) vs, numbers-few); bits = stated-bits (at vs 0) vs yes-head }
 
@@ -127,11 +127,11 @@ module _ {vs : List ℕ} (p : Permitted vs) where
         let high = permitted-at (rulesFor (at vs 0) vs) vs (p .fields) _ (r .1) .1 in
         rw add-assoc (rw (r .0) at high, r .1)
 
-    pub item-as : Entry (listAt (at vs 0) i .reductions) (listAt (at vs 0) i .fields) (itemIn (at vs 0) vs i m)
-        ⊎ Deficit (listAt (at vs 0) i .reductions) (listAt (at vs 0) i .fields) (itemIn (at vs 0) vs i m)
-    item-as = kept-as (listAt (at vs 0) i .fields) (itemIn (at vs 0) vs i m) (λ f g. field-at f g .0) (listAt (at vs 0) i .reductions) (limited-at (at vs 0) i l)
+    pub item-as : EntryLimits (listAt (at vs 0) i .reductions) (listAt (at vs 0) i .fields) (itemIn (at vs 0) vs i m)
+        ⊎ DeficitLimits (listAt (at vs 0) i .reductions) (listAt (at vs 0) i .fields) (itemIn (at vs 0) vs i m)
+    item-as = kept-as (listAt (at vs 0) i .fields) (itemIn (at vs 0) vs i m) (λ f g. field-at f g .0) (listAt (at vs 0) i .reductions) (item-limits-at (at vs 0) i l)
 
-    pub item-there : (f : ℕ) → f < length (listAt (at vs 0) i .fields) → itemAt (at vs 0) vs i m + f < most
+    pub item-there : (f : ℕ) → f < length (listAt (at vs 0) i .fields) → itemAt (at vs 0) vs i m + f < mostNumbers
     item-there f g = omega (arith, field-at f g .1, numbers-few)
 
   pub sound-listed : SoundListing (listingIn vs)

@@ -3,7 +3,7 @@ ghost use mathlib.Core.Path.{_≡_};
 ghost use Prim.Native.Nat.{_+_, _<_};
 ghost use lib.ListN.{length, replicate};
 ghost use Rattle.ids.specs.Ids.{at};
-ghost use Rattle.record_layouts.specs.Layout.{lists, placeOf, most};
+ghost use Rattle.record_layouts.specs.Layout.{lists, placeOf, mostNumbers};
 ghost use Rattle.record_heads.specs.Record.{listingTo, listingIn};
 ghost use Rattle.record_listing.specs.Listed.{Permitted};
 ghost use Rattle.record_listing.specs.Spread.{Spreads};
@@ -14,7 +14,7 @@ use record_shapes::list_at;
 
 // List i of a record, which begins at a place: its items go into the row, as entries or as deficits. Answers where the next list begins.
 fn spread_list(values: &[u64], i: usize, from: usize, row: &mut [u64; 208]) -> usize
-    requires { ⌜ length (now values) ≡ most ⌝ }
+    requires { ⌜ length (now values) ≡ mostNumbers ⌝ }
     requires { ⌜ Permitted (now values) ⌝ }
     requires { ⌜ i < length (lists (at (now values) 0)) ⌝ }
     requires { ⌜ from ≡ placeOf (at (now values) 0) (now values) i ⌝ }
@@ -50,7 +50,7 @@ fn spread_list(values: &[u64], i: usize, from: usize, row: &mut [u64; 208]) -> u
 
 // What a record lists goes into a row of zeros, list by list.
 pub fn spread(values: &[u64], row: &mut [u64; 208])
-    requires { ⌜ length (now values) ≡ most ⌝ }
+    requires { ⌜ length (now values) ≡ mostNumbers ⌝ }
     requires { ⌜ Permitted (now values) ⌝ }
     requires { ⌜ now row ≡ replicate 208 0 ⌝ }
     ensures { λ _. ⌜ Spreads (listingIn (now (values .entry))) (now (row .exit)) ⌝ }

@@ -10,7 +10,7 @@ use lib.ListN.{length, getD}
 use Rattle.ids.specs.Ids.{at}
 use Rattle.ids.specs.Tests.{and-parts}
 use Rattle.bits.specs.TableLaws.{length-fields}
-use Rattle.record_layouts.specs.Layout.{noRule, head, rulesFor, widths, sizeOf, most}
+use Rattle.record_layouts.specs.Layout.{noRule, head, rulesFor, widths, sizeOf, mostNumbers}
 use Rattle.record_layouts.specs.LayoutLaws.{every, length-widths, rules-long, rule-head}
 use Rattle.record_layouts.specs.Questions.{firstFailed, kindOf, rulesOf, numbersOf, rulesBy, isKind, isWhole, permitted, isFilled, idsRise, recordQuestions, recordNumber, numbersTaken, consumed, row}
 use Rattle.record_layouts.specs.QuestionLaws.{at-row, permitted-at, head-permitted, few-numbers, numbers-kind, rules-by}
@@ -143,7 +143,7 @@ module _ (bytes : List ℕ) (a : Accepted bytes) where
   unfolding rulesBy
   rules = rw (numbers-kind bytes (a .kind)) at (rules-by bytes (a .kind))
 
-  pub numbers-few : length vs ≤ most
+  pub numbers-few : length vs ≤ mostNumbers
   numbers-few =
       let k = kindOf bytes in
       let yes-head : permitted (head k) vs ≡ true = head-permitted k vs vs (rw rules (a .permits)) in
@@ -204,8 +204,8 @@ module _ (bytes : List ℕ) (a : Accepted bytes) where
       record { registration = omega (arith, h 1 (omega arith) .1); price = h 2 (omega arith) .1; kw = h 3 (omega arith) }
 
   -- the month of an event of two reductions
-  pub apart-month : kindOf bytes ≡ 8 → at (row vs) 2 ≤ 12
-  apart-month e = head-as 8 2 e (omega arith) .1
+  pub dual-month : kindOf bytes ≡ 8 → at (row vs) 2 ≤ 12
+  dual-month e = head-as 8 2 e (omega arith) .1
 
   pub retest : kindOf bytes ≡ 9 → Retest (row vs)
   retest e = record { zone = omega (arith, head-as 9 2 e (omega arith) .1); product = head-as 9 3 e (omega arith) .1 }

@@ -7,12 +7,12 @@ use lib.ListN.{length, drop}
 use lib.Dec.{leb, eqb}
 use Rattle.ids.specs.Ids.{at}
 use Rattle.bits.specs.Pack.{encode}
-use Rattle.record_layouts.specs.Layout.{widths, sizeOf, most}
+use Rattle.record_layouts.specs.Layout.{widths, sizeOf, mostNumbers}
 use Rattle.record_layouts.specs.Questions.{firstFailed, rulesOf, numbersOf, numbersTaken, rulesBy, isKind, permitted, idsRise, recordQuestions, recordNumber, consumed, row}
 
 -- reading, with a buffer for so many numbers: questions 1 to 5, then 16
 unfoldable pub readNumber : List ℕ → ℕ → ℕ
-readNumber bytes room = firstFailed (recordQuestions bytes ++ ((16, leb most room) ∷ []))
+readNumber bytes room = firstFailed (recordQuestions bytes ++ ((16, leb mostNumbers room) ∷ []))
 
 -- the front of a buffer, and the rest as it was
 abbrev pub over : List ℕ → List ℕ → List ℕ

@@ -16,7 +16,7 @@ use Rattle.bits.specs.Table.{total, fieldsAt, Valid}
 use Rattle.bits.specs.TableLaws.{fields-take}
 use Rattle.bits.specs.Pack.{bytesFor, encode, filling}
 use Rattle.bits.specs.PackLaws.{length-encode, read-back, filling-zero, write-back}
-use Rattle.record_layouts.specs.Layout.{Rule, noRule, widths, sizeOf, most}
+use Rattle.record_layouts.specs.Layout.{Rule, noRule, widths, sizeOf, mostNumbers}
 use Rattle.record_layouts.specs.LayoutLaws.{every, every-in, sound, sound-rules, width-at, length-widths}
 use Rattle.record_layouts.specs.Questions.{firstFailed, rulesOf, numbersOf, rulesBy, isKind, isWhole, permitted, isFilled, idsRise, recordNumber, consumed}
 use Rattle.record_layouts.specs.QuestionLaws.{permitted-at, rules-by, rules-of, numbers-kind}
@@ -182,7 +182,7 @@ module _ {bytes buffer out : List ℕ} {count used : ℕ} (r : Reads bytes buffe
       (v .numbers ∙ zero, size ∙ ap sizeOf (rules-by bytes (a .kind)) ∙ sym size-read, all ∙ ap (λ (l : List ℕ). over l before) back)
 
 -- Whatever `write` accepts, `read` of its bytes, whatever follows them, with room, accepts, and leaves the numbers that were written.
-pub write-read : {vs before after : List ℕ} {used : ℕ} → Writes vs before 0 used after → (rest : List ℕ) {buffer out : List ℕ} {number count read : ℕ} → most ≤ length buffer
+pub write-read : {vs before after : List ℕ} {used : ℕ} → Writes vs before 0 used after → (rest : List ℕ) {buffer out : List ℕ} {number count read : ℕ} → mostNumbers ≤ length buffer
     → Reads (take used after ++ rest) buffer number count read out → (number ≡ 0) × (count ≡ length vs) × (read ≡ used) × (out ≡ over vs buffer)
 unfolding writeBuffer readBuffer readNumber firstFailed
 write-read {vs} {before} {after} {used} w rest {buffer} {out} {number} {count} {read} room r =
@@ -196,7 +196,7 @@ write-read {vs} {before} {after} {used} w rest {buffer} {out} {number} {count} {
     let bytes = bytesBy vs ++ rest in
     let q : Reads bytes buffer number count read out = rw front at r in
     let back = write-reads vs (length before) zero rest in
-    let none : readNumber bytes (length buffer) ≡ 0 = number-later bytes _ (back .accepts) ∙ rw (le-leb most (length buffer) room) in
+    let none : readNumber bytes (length buffer) ≡ 0 = number-later bytes _ (back .accepts) ∙ rw (le-leb mostNumbers (length buffer) room) in
     let sure = eq-eqb (readNumber bytes (length buffer)) 0 none in
     let uses : read ≡ sizeOf (rulesOf bytes) = rw sure at (q .uses) in (
       q .numbers ∙ none,

@@ -4,8 +4,8 @@ ghost use mathlib.Core.Path.{_≡_};
 ghost use mathlib.Core.Bool.{true};
 ghost use lib.ListN.{replicate};
 ghost use Rattle.bits.specs.Table.{total};
-ghost use Rattle.record_layouts.specs.Layout.{head, widths, most};
-ghost use Rattle.record_layouts.specs.Questions.{isWhole, headOf, rulesOf, row};
+ghost use Rattle.record_layouts.specs.Layout.{head, widths, mostNumbers};
+ghost use Rattle.record_layouts.specs.Questions.{isWhole, headNumbers, rulesOf, row};
 ghost use Rattle.record_layouts.specs.Parts.{rules};
 ghost use Rattle.record_shapes.specs.Shapes.{Shaped};
 ghost use Rattle.record_numbers.specs.Parsing.{Known};
@@ -22,8 +22,8 @@ use record_shapes::Shape;
 use record_shapes::shape_of;
 use record_shapes::size_of;
 use record_unpack::kind_of;
-use record_unpack::take_head;
-use record_unpack::take_lists;
+use record_unpack::read_head;
+use record_unpack::read_lists;
 
 // The number of the question that failed, 0 where none did; how many numbers the record has; the bytes consumed.
 pub struct ReadAnswer {
@@ -56,7 +56,7 @@ fn parse_whole(
     requires { ⌜ Shaped (rulesOf (now bytes)) s ⌝ }
     requires { ⌜ now ws ≡ widths rules ⌝ }
     requires { ⌜ c .at ≡ total (widths (head kind)) ⌝ }
-    requires { ⌜ now values ≡ row (headOf (now bytes)) ⌝ }
+    requires { ⌜ now values ≡ row (headNumbers (now bytes)) ⌝ }
     ensures { λ r. ⌜ Fills (now (bytes .entry)) (r .number) (r .used) (r .count) (now (values .exit)) ⌝ }
 {
     let size = size_of(s);
@@ -65,7 +65,7 @@ fn parse_whole(
     if !head_permitted(kind, &lows, &highs, values) {
         return refused(3, size);
     }
-    let end = take_lists(c, kind, bytes, ws, values);
+    let end = read_lists(c, kind, bytes, ws, values);
     if !lists_permitted(kind, true, ws, &lows, &highs, values) {
         return refused(3, size);
     }
@@ -84,7 +84,7 @@ fn parse_whole(
 
 // Takes a record apart into a lent row of zeros: questions 1 to 5. The head goes first, since it has the counts. What is refused may leave numbers in the row.
 pub fn parse(bytes: &[u8], values: &mut [u64]) -> ReadAnswer
-    requires { ⌜ now values ≡ replicate most 0 ⌝ }
+    requires { ⌜ now values ≡ replicate mostNumbers 0 ⌝ }
     ensures { λ r. ⌜ Fills (now (bytes .entry)) (r .number) (r .used) (r .count) (now (values .exit)) ⌝ }
 {
     let kind = kind_of(bytes);
@@ -93,7 +93,7 @@ pub fn parse(bytes: &[u8], values: &mut [u64]) -> ReadAnswer
     }
     let k = kind.value as usize;
     let ws = widths_of_parts();
-    let c = take_head(kind, bytes, &ws, values);
+    let c = read_head(kind, bytes, &ws, values);
     let s = shape_of(k, values);
     if bytes.len() < size_of(s) {
         return refused(2, 0);

@@ -6,7 +6,7 @@ use borrow.Author.Tests.{lt-leb, le-leb, eq-eqb, ne-eqb}
 use lib.ListN.{length, take}
 use lib.Seq.{take-at}
 use Rattle.ids.specs.Tests.{cond-true, cond-false}
-use Rattle.record_layouts.specs.Layout.{sizeOf, most}
+use Rattle.record_layouts.specs.Layout.{sizeOf, mostNumbers}
 use Rattle.record_layouts.specs.Questions.{firstFailed, rulesOf, numbersOf, recordNumber, row}
 use Rattle.record_numbers.specs.Accepted.{number-first, number-later}
 use Rattle.record_numbers.specs.Calls.{readNumber, over, readBuffer, Reads}
@@ -17,13 +17,13 @@ module _ (bytes : List ℕ) (room : ℕ) where
   unfolding readNumber
   read-fails e = sym (number-first bytes _ e)
 
-  pub read-short : recordNumber bytes ≡ 0 → room < most → 16 ≡ readNumber bytes room
+  pub read-short : recordNumber bytes ≡ 0 → room < mostNumbers → 16 ≡ readNumber bytes room
   unfolding readNumber firstFailed
-  read-short e l = sym (number-later bytes _ e ∙ rw (lt-leb most room l))
+  read-short e l = sym (number-later bytes _ e ∙ rw (lt-leb mostNumbers room l))
 
-  pub read-full : recordNumber bytes ≡ 0 → most ≤ room → 0 ≡ readNumber bytes room
+  pub read-full : recordNumber bytes ≡ 0 → mostNumbers ≤ room → 0 ≡ readNumber bytes room
   unfolding readNumber firstFailed
-  read-full e l = sym (number-later bytes _ e ∙ rw (le-leb most room l))
+  read-full e l = sym (number-later bytes _ e ∙ rw (le-leb mostNumbers room l))
 
 -- an answer with the number of a question that failed, and one with none
 pub rejects : {bytes before after : List ℕ} {number count used : ℕ} (n : ℕ) → number ≡ n → count ≡ 0 → used ≡ 0 → after ≡ before → (n ≡ 0 → ⊥) → n ≡ readNumber bytes (length before)

@@ -15,9 +15,9 @@ use Rattle.bits.specs.Table.{total, times, fieldsAt, laid, narrow, Valid, Fit}
 use Rattle.bits.specs.TableLaws.{fields-append, length-fields, fields-valid, valid-join, narrow-split}
 use Rattle.bits.specs.ItemLaws.{length-times, total-times}
 use Rattle.bits.specs.Pack.{bytesFor}
-use Rattle.record_layouts.specs.Layout.{Rule, head, lists, listAt, itemsIn, rulesTo, rulesFor, widths, sizeOf, longestRecord, most}
+use Rattle.record_layouts.specs.Layout.{Rule, head, lists, listAt, itemsIn, rulesTo, rulesFor, widths, sizeOf, longestRecord, mostNumbers}
 use Rattle.record_layouts.specs.LayoutLaws.{head-small, sound-heads, sound-items, sound-times, narrow-sound, length-widths, widths-times, front-to, rules-long}
-use Rattle.record_layouts.specs.Questions.{firstFailed, kindOf, headOf, rulesOf, numbersOf, isKind, isWhole, permitted, isFilled, idsRise, recordQuestions, recordNumber, consumed, row}
+use Rattle.record_layouts.specs.Questions.{firstFailed, kindOf, headNumbers, rulesOf, numbersOf, isKind, isWhole, permitted, isFilled, idsRise, recordQuestions, recordNumber, consumed, row}
 use Rattle.record_layouts.specs.QuestionLaws.{head-kind, at-row, length-row, row-more, permitted-same, permitted-row, rises-all, head-refused, counts-same, rules-same, few-bits, few-numbers, kind-in, fields-front, numbers-head, numbers-kind}
 use Rattle.record_layouts.specs.Parts.{Stated}
 use Rattle.record_layouts.specs.ListLaws.{rules-upto, widths-list, length-list, total-list}
@@ -54,7 +54,7 @@ module _ (k : ℕ) (e : isKind k ≡ true) where
       let small = head-small k in
       (narrow-split (4 ∷ []) behind n .1, omega (arith, head-split .1), omega (arith, ap length all, length-widths (head k)))
 
-  pub head-row : (bytes : List ℕ) {values : List ℕ} → k ≡ kindOf bytes → values ≡ replicate most 0
+  pub head-row : (bytes : List ℕ) {values : List ℕ} → k ≡ kindOf bytes → values ≡ replicate mostNumbers 0
       → laid 1 (fieldsAt bytes 4 behind) (set values 0 k) ≡ row (fieldsAt bytes 0 (widths (head k)))
   unfolding row kindOf
   head-row bytes {values} z f =
@@ -99,7 +99,7 @@ module _ (bytes : List ℕ) where
 
 pub row-long : (vs : List ℕ) → length vs ≤ length (row vs)
 unfolding row
-row-long vs = omega (arith, length-append vs (replicate (most - length vs) 0))
+row-long vs = omega (arith, length-append vs (replicate (mostNumbers - length vs) 0))
 
 -- an answer with the number of a question that failed, and one with none
 pub refuses : {bytes values : List ℕ} {number used n u count : ℕ} → number ≡ n → used ≡ u → count ≡ 0 → (n ≡ 0 → ⊥) → Fails bytes n u → Fills bytes number used count values
@@ -113,17 +113,17 @@ fills f n v t = record { numbers = t .numbers; uses = f ∙ t .uses; counts = n 
 -- a record of kind k: its numbers before list i, in a row
 module _ {bytes : List ℕ} {k : ℕ} (w : Known bytes k) where
   abbrev hs : List ℕ
-  hs = headOf bytes
+  hs = headNumbers bytes
 
   abbrev upTo : ℕ → List ℕ
   upTo i = fieldsAt bytes 0 (widths (rulesTo k hs i))
 
   pub rules-are : rulesFor k hs ≡ rulesOf bytes
   unfolding rulesOf
-  rules-are = ap (λ (x : ℕ). rulesFor x (headOf bytes)) (w .kind)
+  rules-are = ap (λ (x : ℕ). rulesFor x (headNumbers bytes)) (w .kind)
 
   head-is : fieldsAt bytes 0 (widths (head k)) ≡ hs
-  unfolding headOf
+  unfolding headNumbers
   head-is = ap (λ (x : ℕ). fieldsAt bytes 0 (widths (head x))) (w .kind)
 
   pub row-first : {values : List ℕ} → values ≡ row (fieldsAt bytes 0 (widths (head k))) → values ≡ row hs
@@ -133,7 +133,7 @@ module _ {bytes : List ℕ} {k : ℕ} (w : Known bytes k) where
   unfolding rulesTo
   row-start v = v ∙ ap row (sym head-is)
 
-  pub head-few : length hs ≤ most
+  pub head-few : length hs ≤ mostNumbers
   head-few = omega (arith, ap length (sym head-is), length-fields bytes 0 (widths (head k)), length-widths (head k), head-small k)
 
   pub length-upto : (i : ℕ) → length (upTo i) ≡ length (rulesTo k hs i)
@@ -165,7 +165,7 @@ module _ {bytes : List ℕ} {k : ℕ} (w : Known bytes k) where
         }
 
     -- with list i there are so many more
-    module _ (few : length (rulesOf bytes) ≤ most) (whole : sizeOf (rulesOf bytes) ≤ length bytes) (l : i < length (lists k)) where
+    module _ (few : length (rulesOf bytes) ≤ mostNumbers) (whole : sizeOf (rulesOf bytes) ≤ length bytes) (l : i < length (lists k)) where
       abbrev n : ℕ
       n = itemsIn k hs i
 
@@ -182,7 +182,7 @@ module _ {bytes : List ℕ} {k : ℕ} (w : Known bytes k) where
             small = omega (arith, total-times ws n, total-list k hs i, sum, few-bits bytes);
           }
 
-      pub take-count : length (rulesTo k hs i) + n * length (listAt k i .fields) ≤ most
+      pub take-count : length (rulesTo k hs i) + n * length (listAt k i .fields) ≤ mostNumbers
       take-count =
           let all = rules-upto k hs (i + 1) (omega arith) in
           omega (arith, length-list k hs i, all .0, ap length rules-are)
@@ -210,11 +210,11 @@ module _ {bytes : List ℕ} {k : ℕ} (w : Known bytes k) where
 
 -- the numbers of a record in a row: questions 3 and 5 are those of the record
 module _ {bytes values : List ℕ} {k : ℕ} (w : Known bytes k) (v : values ≡ row (numbersOf bytes)) where
-  whole-head : (j : ℕ) → j < length (head k) → at values j ≡ at (headOf bytes) j
+  whole-head : (j : ℕ) → j < length (head k) → at values j ≡ at (headNumbers bytes) j
   whole-head j l = ap (λ (l : List ℕ). at l j) v ∙ at-row (numbersOf bytes) j ∙ numbers-head bytes (w .first) j (subst (λ (x : ℕ). j < length (head x)) (w .kind) l)
 
   pub whole-rules : rulesFor k values ≡ rulesOf bytes
-  whole-rules = rules-same k values (headOf bytes) whole-head ∙ rules-are w
+  whole-rules = rules-same k values (headNumbers bytes) whole-head ∙ rules-are w
 
   pub whole-stated : Stated k values
   whole-stated =
@@ -235,7 +235,7 @@ module _ {bytes values : List ℕ} {k : ℕ} (w : Known bytes k) (v : values ≡
   whole-valid =
       let ws = widths (rulesOf bytes) in
       let vs = fieldsAt bytes 0 ws in
-      let zeros = replicate {A = ℕ} (most - length vs) 0 in
+      let zeros = replicate {A = ℕ} (mostNumbers - length vs) 0 in
       rw (whole-rules, v) (subst (λ (l : List ℕ). Valid l (vs ++ zeros)) (append-nil ws) (valid-join ws [] vs zeros (length-fields bytes 0 ws) (fields-valid bytes 0 ws) tt))
 
   pub whole-kind : at values 0 ≡ k
@@ -265,10 +265,10 @@ whole-filled bytes n e = rw e
 
 -- a head that is permitted makes for few enough numbers, and one that is not refuses the record
 module _ {bytes : List ℕ} {k : ℕ} (w : Known bytes k) where
-  pub few-of : permitted (head k) (numbersOf bytes) ≡ true → length (rulesOf bytes) ≤ most
+  pub few-of : permitted (head k) (numbersOf bytes) ≡ true → length (rulesOf bytes) ≤ mostNumbers
   few-of e =
-      let same : rulesFor k (numbersOf bytes) ≡ rulesOf bytes = rules-same k (numbersOf bytes) (headOf bytes) (λ j l. numbers-head bytes (w .first) j (subst (λ (x : ℕ). j < length (head x)) (w .kind) l)) ∙ rules-are w in
+      let same : rulesFor k (numbersOf bytes) ≡ rulesOf bytes = rules-same k (numbersOf bytes) (headNumbers bytes) (λ j l. numbers-head bytes (w .first) j (subst (λ (x : ℕ). j < length (head x)) (w .kind) l)) ∙ rules-are w in
       omega (arith, few-numbers k (numbersOf bytes) e, ap length same)
 
   pub refused-of : permitted (head k) (numbersOf bytes) ≡ false → permitted (rulesOf bytes) (numbersOf bytes) ≡ false
-  refused-of e = ap (λ (rs : List Rule). permitted rs (numbersOf bytes)) (sym (rules-are w)) ∙ head-refused k (headOf bytes) (numbersOf bytes) e
+  refused-of e = ap (λ (rs : List Rule). permitted rs (numbersOf bytes)) (sym (rules-are w)) ∙ head-refused k (headNumbers bytes) (numbersOf bytes) e

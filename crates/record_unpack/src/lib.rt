@@ -6,8 +6,8 @@ ghost use mathlib.Core.Bool.{true};
 ghost use Prim.Native.Nat.{_≤_};
 ghost use lib.ListN.{length, replicate};
 ghost use Rattle.bits.specs.Table.{total, fieldsAt};
-ghost use Rattle.record_layouts.specs.Layout.{head, widths, most};
-ghost use Rattle.record_layouts.specs.Questions.{isKind, isWhole, kindOf, headOf, rulesOf, numbersOf, row};
+ghost use Rattle.record_layouts.specs.Layout.{head, widths, mostNumbers};
+ghost use Rattle.record_layouts.specs.Questions.{isKind, isWhole, kindOf, headNumbers, rulesOf, numbersOf, row};
 ghost use Rattle.record_layouts.specs.Parts.{rules};
 ghost use Rattle.record_numbers.specs.Parsing.{Known};
 use record_layouts::lists_of;
@@ -23,16 +23,16 @@ pub fn kind_of(bytes: &[u8]) -> Field
     if bytes.len() == 0 {
         return c.field(0, 4);
     }
-    c.take(bytes, 4)
+    c.read_field(bytes, 4)
 }
 
 // The numbers of the head, from its kind on, over the front of a row of zeros; the cursor behind it.
-pub fn take_head(kind: Field, bytes: &[u8], ws: &[u8], values: &mut [u64]) -> Cursor
+pub fn read_head(kind: Field, bytes: &[u8], ws: &[u8], values: &mut [u64]) -> Cursor
     requires { ⌜ kind .value ≡ kindOf (now bytes) ⌝ }
     requires { ⌜ kind .next .at ≡ 4 ⌝ }
     requires { ⌜ isKind (kind .value) ≡ true ⌝ }
     requires { ⌜ now ws ≡ widths rules ⌝ }
-    requires { ⌜ now values ≡ replicate most 0 ⌝ }
+    requires { ⌜ now values ≡ replicate mostNumbers 0 ⌝ }
     ensures { λ r. ⌜ r .at ≡ total (widths (head (kind .value))) ⌝ }
     ensures { λ r. ⌜ now (values .exit) ≡ row (fieldsAt (now (bytes .entry)) 0 (widths (head (kind .value)))) ⌝ }
 {
@@ -42,17 +42,17 @@ pub fn take_head(kind: Field, bytes: &[u8], ws: &[u8], values: &mut [u64]) -> Cu
     let bits = part.bits - kind.next.at;
     values[0] = kind.value;
     kind.next
-        .take_all(bytes, &ws[start + 1..end], bits, values, 1)
+        .read_fields(bytes, &ws[start + 1..end], bits, values, 1)
 }
 
 // The numbers of the lists, behind those of the head; the cursor behind them.
-pub fn take_lists(c: Cursor, kind: usize, bytes: &[u8], ws: &[u8], values: &mut [u64]) -> Cursor
+pub fn read_lists(c: Cursor, kind: usize, bytes: &[u8], ws: &[u8], values: &mut [u64]) -> Cursor
     requires { ⌜ Known (now bytes) kind ⌝ }
     requires { ⌜ isWhole (now bytes) ≡ true ⌝ }
-    requires { ⌜ length (rulesOf (now bytes)) ≤ most ⌝ }
+    requires { ⌜ length (rulesOf (now bytes)) ≤ mostNumbers ⌝ }
     requires { ⌜ now ws ≡ widths rules ⌝ }
     requires { ⌜ c .at ≡ total (widths (head kind)) ⌝ }
-    requires { ⌜ now values ≡ row (headOf (now bytes)) ⌝ }
+    requires { ⌜ now values ≡ row (headNumbers (now bytes)) ⌝ }
     ensures { λ r. ⌜ r .at ≡ total (widths (rulesOf (now (bytes .entry)))) ⌝ }
     ensures { λ r. ⌜ now (values .exit) ≡ row (numbersOf (now (bytes .entry))) ⌝ }
 {
@@ -64,7 +64,7 @@ pub fn take_lists(c: Cursor, kind: usize, bytes: &[u8], ws: &[u8], values: &mut 
         let list = list_at(kind, i, values);
         let start = list.start;
         let end = list.end;
-        d = d.take_items(bytes, &ws[start..end], list.bits, list.items, values, p);
+        d = d.read_items(bytes, &ws[start..end], list.bits, list.items, values, p);
         p += list.numbers;
         i += 1;
     }

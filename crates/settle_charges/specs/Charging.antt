@@ -21,7 +21,7 @@ use Rattle.owed_laws.specs.Cap.{spent-le}
 use Rattle.owed_laws.specs.Unlisted.{u-unlisted, off-unlisted, daily-none, charge-none}
 use Rattle.settle_shortfalls.specs.Sharing.{Shares, shares-aside}
 use Rattle.settle_table.specs.Columns.{Columns, columns-aside}
-use Rattle.settle_table.specs.Places.{callsRow, spentRow, complianceRow, lackRow, offURow}
+use Rattle.settle_table.specs.Places.{dispatchCountRow, spentRow, complianceRow, shortRow, offURow}
 use Rattle.settle_table.specs.Rows.{Stored, Aside, Row, Renewed, Grown, none, aside-none, aside-then, aside-more, row-aside, row-same, renewed-first, renewed-kept, renewed-next, renewed-more, renewed-none, grown-first, grown-kept, grown-none, grown-more, grown-most}
 use Rattle.settle_charges.specs.declared.prices.Line.{Line}
 use Rattle.settle_charges.specs.Pricing.{lineAt, dailyOf}
@@ -29,16 +29,16 @@ use Rattle.settle_charges.specs.Pricing.{lineAt, dailyOf}
 -- what an event's charges are made of: the terms, n, and the shares of its entries, off-peak too
 pub record Given (F : Facts) (ev : ℕ) (w : List ℕ) : Type 0 where
   pub columns : Columns F 64 w
-  pub calls : Row w callsRow 64 (owed.calls F)
+  pub dispatchCount : Row w dispatchCountRow 64 (owed.dispatchCount F)
   pub shares : Shares F ev w
   pub off : Row w offURow 64 (owed.offU F ev)
 
 -- the rows that its charges and credits are written to lie apart
-pub given-aside : {F : Facts} {ev p n : ℕ} {w v : List ℕ} → Given F ev w → Aside p n w v → spentRow ≤ p → p + n ≤ lackRow → Given F ev v
+pub given-aside : {F : Facts} {ev p n : ℕ} {w v : List ℕ} → Given F ev w → Aside p n w v → spentRow ≤ p → p + n ≤ shortRow → Given F ev v
 given-aside g a b d =
     record {
       columns = columns-aside (g .columns) a (omega arith) (omega arith);
-      calls = row-aside (g .calls) a (λ j l x y. omega arith);
+      dispatchCount = row-aside (g .dispatchCount) a (λ j l x y. omega arith);
       shares = shares-aside (g .shares) a (λ j l m x y. omega arith);
       off = row-aside (g .off) a (λ j l x y. omega arith);
     }
@@ -46,12 +46,12 @@ given-aside g a b d =
 -- registration i as the rules have it, where t is spent of its cap
 abbrev pub lineOf : Facts → ℕ → ℕ → ℕ → Line
 lineOf F ev i t =
-    record { seller = F .seller i; product = year.product (F .terms) i; calls = owed.calls F i; rate = owed.rate F i; cap = owed.cap F i; spent = t; u = record { 0 = owed.u F ev i }; off = record { 0 = owed.offU F ev i }; e = record { 0 = owed.e F ev i } }
+    record { seller = F .seller i; product = year.product (F .terms) i; n = owed.dispatchCount F i; rate = owed.rate F i; cap = owed.cap F i; spent = t; u = record { 0 = owed.u F ev i }; off = record { 0 = owed.offU F ev i }; e = record { 0 = owed.e F ev i } }
 
 pub line-is : {F : Facts} {ev i t : ℕ} {w : List ℕ} → Given F ev w → i < 64 → at w (spentRow + i) ≡ t → lineAt w i ≡ lineOf F ev i t
 line-is {i = i} g l e =
     let c = g .columns in
-    λ j. record { seller = c .seller .is i l j; product = c .product .is i l j; calls = g .calls .is i l j; rate = c .rate .is i l j; cap = c .cap .is i l j; spent = e j; u = record { 0 = g .shares .u .is i l j }; off = record { 0 = g .off .is i l j }; e = record { 0 = g .shares .e .is i l j } }
+    λ j. record { seller = c .seller .is i l j; product = c .product .is i l j; n = g .dispatchCount .is i l j; rate = c .rate .is i l j; cap = c .cap .is i l j; spent = e j; u = record { 0 = g .shares .u .is i l j }; off = record { 0 = g .off .is i l j }; e = record { 0 = g .shares .e .is i l j } }
 
 -- a seller's charges of the first m events
 unfoldable pub complianceBy : Facts → ℕ → ℕ → ℕ → ℕ

@@ -1,9 +1,9 @@
 // An event's charges, from what the working table has of its entries: no look at one.
 ghost use mathlib.Core.Path.{_≡_};
 ghost use Prim.Native.Nat.{_+_, _≤_, _<_};
-ghost use Rattle.year_cells.specs.Layout.{Held};
+ghost use Rattle.year_cells.specs.Layout.{ValidCells};
 ghost use Rattle.ids.specs.Ids.{sumTo};
-ghost use Rattle.settle_facts.specs.Looks.{facts};
+ghost use Rattle.settle_facts.specs.CellFacts.{facts};
 ghost use Rattle.owed.specs.Owed.{charge};
 ghost use Rattle.settle_table.specs.Places.{spentRow};
 ghost use Rattle.settle_table.specs.Rows.{Aside};
@@ -20,7 +20,7 @@ pub use prices::line_at;
 // Event ev's charges to date at month k, added to what is spent of the caps and to the sellers' compliance; their sum. A registration
 // without a share of a shortfall of its seller's is not charged.
 pub fn charge(year: &Cells, work: &mut Work, ev: usize, k: u64) -> u64
-    requires { ⌜ Held (now year) ⌝ }
+    requires { ⌜ ValidCells (now year) ⌝ }
     requires { ⌜ (ev < 16) × (1 ≤ k) × (k ≤ 15) ⌝ }
     requires { ⌜ Given (facts (now year)) ev (now work) ⌝ }
     requires { ⌜ Billed (facts (now year)) k ev (now work) ⌝ }

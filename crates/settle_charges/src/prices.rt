@@ -11,7 +11,7 @@ use units::Unforced;
 pub struct Line {
     pub seller: usize,
     pub product: u64,
-    pub calls: u64,
+    pub n: u64,
     pub rate: u64,
     pub cap: u64,
     pub spent: u64,
@@ -30,7 +30,7 @@ pub fn line_at(work: &Work, i: usize) -> Line
     Line {
         seller: settle_table::get(work, settle_table::SELLER, i) as usize,
         product: settle_table::get(work, settle_table::PRODUCT, i),
-        calls: settle_table::get(work, settle_table::CALLS, i),
+        n: settle_table::get(work, settle_table::DISPATCH_COUNT, i),
         rate: settle_table::get(work, settle_table::RATE, i),
         cap: settle_table::get(work, settle_table::CAP, i),
         spent: settle_table::get(work, settle_table::SPENT, i),
@@ -82,8 +82,8 @@ pub fn daily_of(peak: bool, line: Line) -> u64
 {
     let u = line.u;
     let off = line.off;
-    let first = before_cap(peak, line.calls, u, line.rate);
-    let second = before_cap(false, line.calls, off, line.rate);
+    let first = before_cap(peak, line.n, u, line.rate);
+    let second = before_cap(false, line.n, off, line.rate);
     let asked = higher(first, second);
     let rest = less(line.cap, line.spent);
     lesser(asked, rest)

@@ -13,9 +13,9 @@ use Rattle.year.specs.Year as year
 use Rattle.owed.specs.Facts.{Facts}
 use Rattle.owed.specs.Owed.{amounts}
 use Rattle.owed.specs.Owed as owed
-use Rattle.settle_facts.specs.Looks.{facts}
+use Rattle.settle_facts.specs.CellFacts.{facts}
 use Rattle.settle_table.specs.Columns.{columns-aside}
-use Rattle.settle_table.specs.Places.{size, callsRow, calledRow, complianceRow, creditRow, testRow, lseRow, passedPlaces}
+use Rattle.settle_table.specs.Places.{size, dispatchCountRow, dispatchedRow, complianceRow, creditRow, testRow, lseRow, passedPlaces}
 use Rattle.settle_table.specs.Rows.{Aside, Row, none, mark, row-aside, row-within}
 use Rattle.settle_rates.specs.Rating.{Rated}
 use Rattle.settle_tests.specs.Entries.{Ready}
@@ -44,10 +44,10 @@ module _ (c : List ℕ) (k : ℕ) where
     pub test : Row w testRow 16 (owed.test F k)
     pub lse : Row w lseRow 16 none
 
-  pub evented : {w v : List ℕ} → Rated c w → Aside callsRow passedPlaces w v → Row v calledRow 64 (λ i. mark (owed.called F i)) → Row v complianceRow 16 (owed.compliance F k) → Row v creditRow 16 (owed.credit F k) → Evented v
-  evented h a called x z =
+  pub evented : {w v : List ℕ} → Rated c w → Aside dispatchCountRow passedPlaces w v → Row v dispatchedRow 64 (λ i. mark (owed.dispatched F i)) → Row v complianceRow 16 (owed.compliance F k) → Row v creditRow 16 (owed.credit F k) → Evented v
+  evented h a dispatched x z =
       record {
-        ready = record { columns = columns-aside (h .columns) a (omega arith) (omega arith); called = called; place = row-aside (h .place) a (λ j l x y. omega arith) };
+        ready = record { columns = columns-aside (h .columns) a (omega arith) (omega arith); dispatched = dispatched; group = row-aside (h .group) a (λ j l x y. omega arith) };
         compliance = x;
         credit = z;
         test = row-aside (row-within testRow 16 (h .fresh) (omega arith) (omega arith)) a (λ j l x y. omega arith);

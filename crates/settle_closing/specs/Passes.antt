@@ -8,45 +8,45 @@ use Rattle.owed.specs.Facts.{Facts}
 use Rattle.owed.specs.Owed as owed
 use Rattle.settle_shortfalls.specs.Sharing.{Shares}
 use Rattle.settle_table.specs.Columns.{Columns, columns-aside}
-use Rattle.settle_table.specs.Places.{callsRow, calledRow, spentRow, complianceRow, creditRow, lackRow, offURow}
+use Rattle.settle_table.specs.Places.{dispatchCountRow, dispatchedRow, spentRow, complianceRow, creditRow, shortRow, offURow}
 use Rattle.settle_table.specs.Rows.{Aside, Row, none, mark, row-aside, row-within}
 
 -- after m events
 pub record Run (F : Facts) (k m : ℕ) (w : List ℕ) : Type 0 where
   pub columns : Columns F 64 w
-  pub calls : Row w callsRow 64 (owed.calls F)
-  pub called : Row w calledRow 64 (λ i. mark (owed.called F i))
+  pub dispatchCount : Row w dispatchCountRow 64 (owed.dispatchCount F)
+  pub dispatched : Row w dispatchedRow 64 (λ i. mark (owed.dispatched F i))
   pub billed : Billed F k m w
   pub credit : Row w creditRow 16 (creditBy F k m)
 
 -- after pass 1
-pub run-first : {F : Facts} (k : ℕ) {w v : List ℕ} → Columns F 64 w → Row w callsRow 224 none → Aside callsRow 128 w v
-    → Row v callsRow 64 (owed.calls F) → Row v calledRow 64 (λ i. mark (owed.called F i)) → Run F k 0 v
+pub run-first : {F : Facts} (k : ℕ) {w v : List ℕ} → Columns F 64 w → Row w dispatchCountRow 224 none → Aside dispatchCountRow 128 w v
+    → Row v dispatchCountRow 64 (owed.dispatchCount F) → Row v dispatchedRow 64 (λ i. mark (owed.dispatched F i)) → Run F k 0 v
 run-first {F} k {w} {v} h z a n c =
     record {
       columns = columns-aside h a (omega arith) (omega arith);
-      calls = n;
-      called = c;
+      dispatchCount = n;
+      dispatched = c;
       billed = billed-first F k (fresh spentRow 64 (omega arith) (omega arith)) (fresh complianceRow 16 (omega arith) (omega arith));
       credit = credit-first F k (fresh creditRow 16 (omega arith) (omega arith));
     }
   where
-    fresh : (p n : ℕ) → spentRow ≤ p → p + n ≤ lackRow → Row v p n none
+    fresh : (p n : ℕ) → spentRow ≤ p → p + n ≤ shortRow → Row v p n none
     fresh p n x y = row-aside (row-within p n z (omega arith) (omega arith)) a (λ j l o q. omega arith)
 
 -- an event's own rows are filled
-pub run-aside : {F : Facts} {k m p n : ℕ} {w v : List ℕ} → Run F k m w → Aside p n w v → lackRow ≤ p → Run F k m v
+pub run-aside : {F : Facts} {k m p n : ℕ} {w v : List ℕ} → Run F k m w → Aside p n w v → shortRow ≤ p → Run F k m v
 run-aside h a b =
     record {
       columns = columns-aside (h .columns) a (omega arith) (omega arith);
-      calls = row-aside (h .calls) a (λ j l x y. omega arith);
-      called = row-aside (h .called) a (λ j l x y. omega arith);
+      dispatchCount = row-aside (h .dispatchCount) a (λ j l x y. omega arith);
+      dispatched = row-aside (h .dispatched) a (λ j l x y. omega arith);
       billed = record { spent = row-aside (h .billed .spent) a (λ j l x y. omega arith); compliance = row-aside (h .billed .compliance) a (λ j l x y. omega arith) };
       credit = row-aside (h .credit) a (λ j l x y. omega arith);
     }
 
 pub given : {F : Facts} {k ev : ℕ} {w : List ℕ} → Run F k ev w → Shares F ev w → Row w offURow 64 (owed.offU F ev) → Given F ev w
-given h s o = record { columns = h .columns; calls = h .calls; shares = s; off = o }
+given h s o = record { columns = h .columns; dispatchCount = h .dispatchCount; shares = s; off = o }
 
 -- its charges, then its credits
 pub run-more : {F : Facts} {k ev : ℕ} {w m v : List ℕ} → Run F k ev w → Aside spentRow 80 w m → Billed F k (ev + 1) m → Aside creditRow 16 m v
@@ -54,8 +54,8 @@ pub run-more : {F : Facts} {k ev : ℕ} {w m v : List ℕ} → Run F k ev w → 
 run-more h a b c r =
     record {
       columns = columns-aside (columns-aside (h .columns) a (omega arith) (omega arith)) c (omega arith) (omega arith);
-      calls = row-aside (row-aside (h .calls) a (λ j l x y. omega arith)) c (λ j l x y. omega arith);
-      called = row-aside (row-aside (h .called) a (λ j l x y. omega arith)) c (λ j l x y. omega arith);
+      dispatchCount = row-aside (row-aside (h .dispatchCount) a (λ j l x y. omega arith)) c (λ j l x y. omega arith);
+      dispatched = row-aside (row-aside (h .dispatched) a (λ j l x y. omega arith)) c (λ j l x y. omega arith);
       billed = record { spent = row-aside (b .spent) c (λ j l x y. omega arith); compliance = row-aside (b .compliance) c (λ j l x y. omega arith) };
       credit = r;
     }

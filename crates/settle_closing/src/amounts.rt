@@ -1,9 +1,9 @@
 // All amounts to date at a month, from the registrations that are entered into the working table and the year's cells.
 ghost use mathlib.Core.Path.{_≡_};
 ghost use Prim.Native.Nat.{_≤_};
-ghost use Rattle.year_cells.specs.Layout.{Held};
+ghost use Rattle.year_cells.specs.Layout.{ValidCells};
 ghost use Rattle.owed.specs.Owed.{amounts};
-ghost use Rattle.settle_facts.specs.Looks.{facts};
+ghost use Rattle.settle_facts.specs.CellFacts.{facts};
 ghost use Rattle.settle_rates.specs.Entering.{Begun};
 use settle_table::Work;
 use year::Amounts;
@@ -11,8 +11,8 @@ use year_cells::Cells;
 use year_copies::numbers_at;
 
 // The rates in force, the passes over events' entries, those over tests' entries, and the LSEs.
-pub fn close(year: &Cells, work: &mut Work, k: u64) -> Amounts
-    requires { ⌜ Held (now year) × Begun (now year) 64 (now work) × (1 ≤ k) × (k ≤ 15) ⌝ }
+pub fn amounts_to_date(year: &Cells, work: &mut Work, k: u64) -> Amounts
+    requires { ⌜ ValidCells (now year) × Begun (now year) 64 (now work) × (1 ≤ k) × (k ≤ 15) ⌝ }
     ensures { λ r. ⌜ r ≡ amounts (facts (now (year .entry))) k ⌝ }
 {
     settle_rates::rate(year, work);

@@ -1,10 +1,10 @@
 // The closing's passes over the accepted events: calls first, then event by event in order of acceptance.
 ghost use Prim.Native.Nat.{_+_, _≤_, _<_};
-ghost use Rattle.year_cells.specs.Layout.{Held};
-ghost use Rattle.settle_facts.specs.Looks.{facts};
-ghost use Rattle.owed.specs.Owed.{called, compliance, credit};
+ghost use Rattle.year_cells.specs.Layout.{ValidCells};
+ghost use Rattle.settle_facts.specs.CellFacts.{facts};
+ghost use Rattle.owed.specs.Owed.{dispatched, compliance, credit};
 ghost use Rattle.settle_table.specs.Columns.{Columns};
-ghost use Rattle.settle_table.specs.Places.{callsRow, calledRow, complianceRow, creditRow, passedPlaces};
+ghost use Rattle.settle_table.specs.Places.{dispatchCountRow, dispatchedRow, complianceRow, creditRow, passedPlaces};
 ghost use Rattle.settle_table.specs.Rows.{Aside, Row, none, mark};
 ghost use Rattle.settle_closing.specs.Passes.{Run};
 use settle_table::Work;
@@ -12,11 +12,11 @@ use year_cells::Cells;
 
 // One event: its sums by seller, the shares of its entries, what is measured apart, its charges, its credits.
 fn bill_event(year: &Cells, work: &mut Work, ev: usize, k: u64)
-    requires { ⌜ Held (now year) ⌝ }
+    requires { ⌜ ValidCells (now year) ⌝ }
     requires { ⌜ (ev < 16) × (1 ≤ k) × (k ≤ 15) ⌝ }
     requires { ⌜ Run (facts (now year)) k ev (now work) ⌝ }
     ensures run { λ _. ⌜ Run (facts (now (year .entry))) k (ev + 1) (now (work .exit)) ⌝ }
-    ensures aside { λ _. ⌜ Aside callsRow passedPlaces (now (work .entry)) (now (work .exit)) ⌝ }
+    ensures aside { λ _. ⌜ Aside dispatchCountRow passedPlaces (now (work .entry)) (now (work .exit)) ⌝ }
 {
     settle_shortfalls::weigh(year, work, ev);
     settle_shortfalls::share(year, work, ev);
@@ -27,19 +27,19 @@ fn bill_event(year: &Cells, work: &mut Work, ev: usize, k: u64)
 
 // The sellers' compliance charges and excess credits to date at month k, and which registrations are called.
 pub fn bill_events(year: &Cells, work: &mut Work, k: u64)
-    requires { ⌜ Held (now year) ⌝ }
+    requires { ⌜ ValidCells (now year) ⌝ }
     requires { ⌜ (1 ≤ k) × (k ≤ 15) ⌝ }
     requires { ⌜ Columns (facts (now year)) 64 (now work) ⌝ }
-    requires { ⌜ Row (now work) callsRow 224 none ⌝ }
+    requires { ⌜ Row (now work) dispatchCountRow 224 none ⌝ }
     ensures compliance { λ _. ⌜ Row (now (work .exit)) complianceRow 16 (compliance (facts (now (year .entry))) k) ⌝ }
     ensures credit { λ _. ⌜ Row (now (work .exit)) creditRow 16 (credit (facts (now (year .entry))) k) ⌝ }
-    ensures called { λ _. ⌜ Row (now (work .exit)) calledRow 64 (λ i. mark (called (facts (now (year .entry))) i)) ⌝ }
-    ensures aside { λ _. ⌜ Aside callsRow passedPlaces (now (work .entry)) (now (work .exit)) ⌝ }
+    ensures dispatched { λ _. ⌜ Row (now (work .exit)) dispatchedRow 64 (λ i. mark (dispatched (facts (now (year .entry))) i)) ⌝ }
+    ensures aside { λ _. ⌜ Aside dispatchCountRow passedPlaces (now (work .entry)) (now (work .exit)) ⌝ }
 {
     settle_dispatch::count(year, work);
-    let held = year_cells::held(year);
+    let accepted = year_cells::events_accepted(year);
     let mut ev: usize = 0;
-    while ev < held {
+    while ev < accepted {
         bill_event(year, work, ev, k);
         ev += 1;
     }

@@ -1,10 +1,10 @@
 // An event's excess credits, from the shares e that the working table keeps of its entries: no look at one.
 ghost use mathlib.Core.Path.{_≡_};
 ghost use Prim.Native.Nat.{_+_, _*_, _/_, _≤_, _<_};
-ghost use Rattle.year_cells.specs.Layout.{Held};
+ghost use Rattle.year_cells.specs.Layout.{ValidCells};
 ghost use Rattle.settle_charges.specs.Charging.{Given};
 ghost use Rattle.ids.specs.Ids.{sumTo};
-ghost use Rattle.settle_facts.specs.Looks.{facts};
+ghost use Rattle.settle_facts.specs.CellFacts.{facts};
 ghost use Rattle.owed.specs.Divisions.{creditDivisions};
 ghost use Rattle.owed.specs.Owed.{charge};
 ghost use Rattle.settle_table.specs.Places.{creditRow};
@@ -27,7 +27,7 @@ fn limit(e: Nominated, rate: u64, days: u64) -> u64
 
 // Event ev's charges to date at month k, allotted over its entries by e: each seller's credits with those of its entries. Tells the divisions.
 pub fn credit(year: &Cells, work: &mut Work, ev: usize, k: u64, charges: u64) -> u64
-    requires { ⌜ Held (now year) ⌝ }
+    requires { ⌜ ValidCells (now year) ⌝ }
     requires { ⌜ (ev < 16) × (1 ≤ k) × (k ≤ 15) ⌝ }
     requires { ⌜ Given (facts (now year)) ev (now work) ⌝ }
     requires { ⌜ Row (now work) creditRow 16 (creditBy (facts (now year)) k ev) ⌝ }

@@ -2,10 +2,10 @@
 ghost use mathlib.Core.Path.{_≡_};
 ghost use Prim.Native.Nat.{_+_, _<_};
 ghost use lib.ListN.{length};
-ghost use Rattle.year_cells.specs.Layout.{Held};
-ghost use Rattle.settle_facts.specs.Looks.{facts};
-ghost use Rattle.owed.specs.Owed.{calls, called};
-ghost use Rattle.settle_table.specs.Places.{size, callsRow, calledRow};
+ghost use Rattle.year_cells.specs.Layout.{ValidCells};
+ghost use Rattle.settle_facts.specs.CellFacts.{facts};
+ghost use Rattle.owed.specs.Owed.{dispatchCount, dispatched};
+ghost use Rattle.settle_table.specs.Places.{size, dispatchCountRow, dispatchedRow};
 ghost use Rattle.settle_table.specs.Rows.{Aside, Row, none, mark};
 ghost use Rattle.settle_dispatch.specs.Counting.{Counting};
 use settle_table::Work;
@@ -22,15 +22,15 @@ fn count_event(year: &Cells, work: &mut Work, ev: usize)
     requires { ⌜ ev < 16 ⌝ }
     requires { ⌜ Counting (facts (now year)) ev (now work) ⌝ }
     ensures counted { λ _. ⌜ Counting (facts (now (year .entry))) (ev + 1) (now (work .exit)) ⌝ }
-    ensures aside { λ _. ⌜ Aside callsRow 128 (now (work .entry)) (now (work .exit)) ⌝ }
+    ensures aside { λ _. ⌜ Aside dispatchCountRow 128 (now (work .entry)) (now (work .exit)) ⌝ }
 {
     let one = as_mark(settle_facts::one_or_three(year, ev));
     let mut i: usize = 0;
     while i < 64 {
         let x = settle_facts::look(year, ev, i);
         if x.listed {
-            settle_table::put(work, settle_table::CALLED, i, 1);
-            settle_table::add_at(work, settle_table::CALLS, i, one);
+            settle_table::put(work, settle_table::DISPATCHED, i, 1);
+            settle_table::add_at(work, settle_table::DISPATCH_COUNT, i, one);
         }
         i += 1;
     }
@@ -38,16 +38,16 @@ fn count_event(year: &Cells, work: &mut Work, ev: usize)
 
 // All events, later ones too: n and whether a registration is called do not depend on which event asks.
 pub fn count(year: &Cells, work: &mut Work)
-    requires { ⌜ Held (now year) ⌝ }
+    requires { ⌜ ValidCells (now year) ⌝ }
     requires { ⌜ length (now work) ≡ size ⌝ }
-    requires { ⌜ Row (now work) callsRow 128 none ⌝ }
-    ensures calls { λ _. ⌜ Row (now (work .exit)) callsRow 64 (calls (facts (now (year .entry)))) ⌝ }
-    ensures called { λ _. ⌜ Row (now (work .exit)) calledRow 64 (λ i. mark (called (facts (now (year .entry))) i)) ⌝ }
-    ensures aside { λ _. ⌜ Aside callsRow 128 (now (work .entry)) (now (work .exit)) ⌝ }
+    requires { ⌜ Row (now work) dispatchCountRow 128 none ⌝ }
+    ensures dispatchCount { λ _. ⌜ Row (now (work .exit)) dispatchCountRow 64 (dispatchCount (facts (now (year .entry)))) ⌝ }
+    ensures dispatched { λ _. ⌜ Row (now (work .exit)) dispatchedRow 64 (λ i. mark (dispatched (facts (now (year .entry))) i)) ⌝ }
+    ensures aside { λ _. ⌜ Aside dispatchCountRow 128 (now (work .entry)) (now (work .exit)) ⌝ }
 {
-    let held = year_cells::held(year);
+    let accepted = year_cells::events_accepted(year);
     let mut ev: usize = 0;
-    while ev < held {
+    while ev < accepted {
         count_event(year, work, ev);
         ev += 1;
     }

@@ -1,2 +1,2 @@
 -- What a look at the year's cells returns: the facts of the rules.
-pub mod Looks
+pub mod CellFacts

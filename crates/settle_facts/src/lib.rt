@@ -1,22 +1,22 @@
 // What the closing reads of the year: of an event its entries, one look at a time, month, period, whether it is measured apart, and deficits; the factors.
 ghost use mathlib.Core.Path.{_≡_};
 ghost use Prim.Native.Nat.{_-_, _≤_, _<_};
-ghost use Rattle.year_cells.specs.Layout.{Held};
+ghost use Rattle.year_cells.specs.Layout.{ValidCells};
 ghost use Rattle.owed.specs.Owed.{oneOrThree, D, unforced};
-ghost use Rattle.settle_facts.specs.Looks.{facts, lookAt};
+ghost use Rattle.settle_facts.specs.CellFacts.{facts, lookAt};
 use units::Nominated;
 use units::Unforced;
 use year_cells::Cells;
 ghost use Rattle.year.specs.Year.{deficit};
 
-pub struct Entry {
+pub struct EventEntry {
     pub listed: bool,
     pub reduction: Nominated,
     pub second: Nominated,
 }
 
 // One look at an entry: nothing else reads one.
-pub fn look(year: &Cells, ev: usize, i: usize) -> Entry
+pub fn look(year: &Cells, ev: usize, i: usize) -> EventEntry
     requires { ⌜ ev < 16 ⌝ }
     requires { ⌜ i < 64 ⌝ }
     ensures { λ r. ⌜ r ≡ lookAt (facts (now (year .entry))) ev i ⌝ }
@@ -25,7 +25,7 @@ pub fn look(year: &Cells, ev: usize, i: usize) -> Entry
     let p = year_cells::EVENTS + year_cells::EVENT * ev;
     let reduction = Nominated(year[p + (year_cells::REDUCTIONS + i)]);
     let second = Nominated(year[p + (year_cells::SECOND + i)]);
-    Entry {
+    EventEntry {
         listed,
         reduction,
         second,
@@ -51,12 +51,12 @@ pub fn one_or_three(year: &Cells, ev: usize) -> bool
 }
 
 // Is off-peak measured apart in an event?
-pub fn is_apart(year: &Cells, ev: usize) -> bool
+pub fn is_dual(year: &Cells, ev: usize) -> bool
     requires { ⌜ ev < 16 ⌝ }
-    ensures { λ r. ⌜ r ≡ facts (now (year .entry)) .event ev .apart ⌝ }
+    ensures { λ r. ⌜ r ≡ facts (now (year .entry)) .event ev .dual ⌝ }
 {
     let p = year_cells::EVENTS + year_cells::EVENT * ev;
-    year[p + year_cells::APART] != 0
+    year[p + year_cells::DUAL] != 0
 }
 
 // A seller's deficit in an event, 0 where it is absent.
@@ -71,7 +71,7 @@ pub fn deficit_of(year: &Cells, ev: usize, s: usize) -> Unforced
 
 // Converted by the year's factors: a registration's kilowatts, or a seller's sum.
 pub fn unforced(year: &Cells, kw: Nominated) -> Unforced
-    requires { ⌜ Held (now year) ⌝ }
+    requires { ⌜ ValidCells (now year) ⌝ }
     requires { ⌜ kw .0 ≤ 6400000 ⌝ }
     ensures { λ r. ⌜ r .0 ≡ unforced (facts (now (year .entry))) (kw .0) ⌝ }
 {
@@ -85,7 +85,7 @@ pub fn shortfall(
     given: Nominated,
     deficit: Unforced,
 ) -> Unforced
-    requires { ⌜ Held (now year) ⌝ }
+    requires { ⌜ ValidCells (now year) ⌝ }
     requires { ⌜ committed .0 ≤ 6400000 ⌝ }
     ensures { λ r. ⌜ r .0 ≡ unforced (facts (now (year .entry))) (committed .0 - given .0) - deficit .0 ⌝ }
 {
@@ -96,7 +96,7 @@ pub fn shortfall(
 
 // Days from 1 June to the end of a month.
 pub fn days_to(year: &Cells, k: u64) -> u64
-    requires { ⌜ Held (now year) ⌝ }
+    requires { ⌜ ValidCells (now year) ⌝ }
     requires { ⌜ 1 ≤ k ⌝ }
     requires { ⌜ k ≤ 15 ⌝ }
     ensures { λ r. ⌜ r ≡ D (facts (now (year .entry))) k ⌝ }

@@ -8,14 +8,14 @@ use Rattle.ids.specs.Sums.{sum-same, sum-add}
 use Rattle.allotment.specs.Allot.{share}
 use Rattle.year.specs.Year.{obligation, sellers}
 use Rattle.year.specs.Year as year
-use Rattle.year_cells.specs.Layout.{Held}
+use Rattle.year_cells.specs.Layout.{ValidCells}
 use Rattle.year_cells.specs.Regions.{obligation-in}
 use Rattle.owed.specs.Facts.{Facts}
 use Rattle.owed.specs.Owed.{compliance, test, credit, charges, credits, lse}
 use Rattle.owed_laws.specs.Limits.{limits}
 use Rattle.owed_laws.specs.Balance.{credits-le-charges}
 use Rattle.owed_laws.specs.Totals.{charges-le, lse-fits}
-use Rattle.settle_facts.specs.Looks.{facts}
+use Rattle.settle_facts.specs.CellFacts.{facts}
 use Rattle.settle_table.specs.Places.{complianceRow, creditRow, testRow}
 use Rattle.settle_table.specs.Rows.{Row}
 
@@ -59,7 +59,7 @@ module _ (c : List ℕ) (k : ℕ) {w : List ℕ} (x : Row w complianceRow 16 (co
   unfolding net
   net-is = rw (charges-are, credits-are)
 
-  module _ (h : Held c) where
+  module _ (h : ValidCells c) where
     pub covered : Covered w
     covered =
         let L = limits (h .sound) in

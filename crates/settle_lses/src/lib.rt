@@ -5,8 +5,8 @@ ghost use lib.ListN.{length};
 ghost use Rattle.ids.specs.Ids.{sumTo};
 ghost use Rattle.allotment.specs.Allot.{share};
 ghost use Rattle.year.specs.Year.{obligation};
-ghost use Rattle.year_cells.specs.Layout.{Held};
-ghost use Rattle.settle_facts.specs.Looks.{facts};
+ghost use Rattle.year_cells.specs.Layout.{ValidCells};
+ghost use Rattle.settle_facts.specs.CellFacts.{facts};
 ghost use Rattle.owed.specs.Divisions.{lseDivisions};
 ghost use Rattle.settle_table.specs.Places.{size, lseRow};
 ghost use Rattle.settle_table.specs.Rows.{Aside, Row, none};
@@ -28,7 +28,7 @@ fn net_of(work: &Work) -> u64
 
 // What is left after the credits is allotted to the LSEs. Who has no obligation is not known, and no party. Tells the divisions.
 pub fn credit_lses(year: &Cells, work: &mut Work) -> u64
-    requires { ⌜ Held (now year) ⌝ }
+    requires { ⌜ ValidCells (now year) ⌝ }
     requires { ⌜ Covered (now work) ⌝ }
     requires { ⌜ net (now work) * sumTo 16 (obligation (facts (now year) .terms)) < 2 ^ 64 ⌝ }
     requires { ⌜ (length (now work) ≡ size) × Row (now work) lseRow 16 none ⌝ }

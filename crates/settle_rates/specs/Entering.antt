@@ -6,13 +6,13 @@ use native.Mathlib.Omega.{arith}
 use lib.ListN.{length, replicate, length-replicate}
 use Rattle.ids.specs.Sets.{getD-replicate-same}
 use Rattle.year.specs.Year as year
-use Rattle.year_cells.specs.Layout.{placeIn}
+use Rattle.year_cells.specs.Layout.{groupIn}
 use Rattle.owed.specs.Facts.{Facts}
 use Rattle.owed.specs.Owed as owed
-use Rattle.settle_facts.specs.Looks.{facts}
-use Rattle.settle_table.specs.Places.{size, sellerRow, productRow, committedRow, rateRow, capRow, callsRow, placeRow, areaRow, lentRow, worthRow, freshPlaces}
+use Rattle.settle_facts.specs.CellFacts.{facts}
+use Rattle.settle_table.specs.Places.{size, sellerRow, productRow, committedRow, rateRow, capRow, dispatchCountRow, groupRow, areaRow, areaKwRow, areaWorthRow, freshPlaces}
 use Rattle.settle_table.specs.Rows.{Stored, Aside, Row, none, row-aside, row-kept, row-first, row-more, grown-first}
-use Rattle.settle_rates.specs.Lent.{lentAt, worthAt, Lending, lending-kept}
+use Rattle.settle_rates.specs.AreaSums.{averagedKw, worthAt, AreaSums, sums-kept}
 
 -- registration i's cap by its own rate
 module _ (F : Facts) where
@@ -24,7 +24,7 @@ pub record Entered (c : List ℕ) (i : ℕ) (w : List ℕ) : Type 0 where
   pub seller : Row w sellerRow i (facts c .seller)
   pub product : Row w productRow i (year.product (facts c .terms))
   pub committed : Row w committedRow i (year.committed (facts c .terms))
-  pub place : Row w placeRow i (placeIn c)
+  pub group : Row w groupRow i (groupIn c)
   pub area : Row w areaRow i (year.area (facts c .terms))
 
 -- both stand in the table, with their own rates and the caps by these, and nothing else
@@ -33,8 +33,8 @@ pub record Begun (c : List ℕ) (i : ℕ) (w : List ℕ) : Type 0 where
   pub entered : Entered c i w
   pub own : Row w rateRow i (owed.own (facts c))
   pub cap : Row w capRow i (ownCap (facts c))
-  pub lending : Lending (facts c) i w
-  pub fresh : Row w callsRow freshPlaces none
+  pub sums : AreaSums (facts c) i w
+  pub fresh : Row w dispatchCountRow freshPlaces none
 
 pub begun-first : (c : List ℕ) → Begun c 0 (replicate size 0)
 begun-first c =
@@ -43,19 +43,19 @@ begun-first c =
     let zeros : (p n : ℕ) → Row w p n none = λ p n. record { is = λ j m. getD-replicate-same {A = ℕ} size (p + j) 0 } in
     record {
       long = length-replicate {A = ℕ} size 0;
-      entered = record { seller = row-first w sellerRow (F .seller); product = row-first w productRow (year.product (F .terms)); committed = row-first w committedRow (year.committed (F .terms)); place = row-first w placeRow (placeIn c); area = row-first w areaRow (year.area (F .terms)) };
+      entered = record { seller = row-first w sellerRow (F .seller); product = row-first w productRow (year.product (F .terms)); committed = row-first w committedRow (year.committed (F .terms)); group = row-first w groupRow (groupIn c); area = row-first w areaRow (year.area (F .terms)) };
       own = row-first w rateRow (owed.own F);
       cap = row-first w capRow (ownCap F);
-      lending = record { lent = grown-first (year.area (F .terms)) (lentAt F) (zeros lentRow 8); worth = grown-first (year.area (F .terms)) (worthAt F) (zeros worthRow 8) };
-      fresh = zeros callsRow freshPlaces;
+      sums = record { kw = grown-first (year.area (F .terms)) (averagedKw F) (zeros areaKwRow 8); worth = grown-first (year.area (F .terms)) (worthAt F) (zeros areaWorthRow 8) };
+      fresh = zeros dispatchCountRow freshPlaces;
     }
 
 -- and its terms are entered
 pub begun-more : {c : List ℕ} {i : ℕ} {w w₀ w₁ w₂ w₃ w₄ w₅ w₆ v : List ℕ} → Begun c i w → i < 64 → let F = facts c in
-    Lending F (i + 1) w₀ → Aside lentRow 16 w w₀
+    AreaSums F (i + 1) w₀ → Aside areaKwRow 16 w w₀
     → Stored (sellerRow + i) (F .seller i) w₀ w₁ → Stored (productRow + i) (year.product (F .terms) i) w₁ w₂ → Stored (committedRow + i) (year.committed (F .terms) i) w₂ w₃
     → Stored (rateRow + i) (owed.own F i) w₃ w₄ → Stored (capRow + i) (ownCap F i) w₄ w₅
-    → Stored (placeRow + i) (placeIn c i) w₅ w₆ → Stored (areaRow + i) (year.area (F .terms) i) w₆ v → Begun c (i + 1) v
+    → Stored (groupRow + i) (groupIn c i) w₅ w₆ → Stored (areaRow + i) (year.area (F .terms) i) w₆ v → Begun c (i + 1) v
 begun-more h l n a s₁ s₂ s₃ s₄ s₅ s₆ s₇ =
     record {
       long = s₇ .long ∙ s₆ .long ∙ s₅ .long ∙ s₄ .long ∙ s₃ .long ∙ s₂ .long ∙ s₁ .long ∙ a .long ∙ h .long;
@@ -63,11 +63,11 @@ begun-more h l n a s₁ s₂ s₃ s₄ s₅ s₆ s₇ =
         seller = row-kept (row-kept (row-kept (row-kept (row-kept (row-kept (row-more (row-aside (h .entered .seller) a (λ j m x y. omega arith)) s₁ refl) s₂ (λ a b. omega arith)) s₃ (λ a b. omega arith)) s₄ (λ a b. omega arith)) s₅ (λ a b. omega arith)) s₆ (λ a b. omega arith)) s₇ (λ a b. omega arith);
         product = row-kept (row-kept (row-kept (row-kept (row-kept (row-more (row-kept (row-aside (h .entered .product) a (λ j m x y. omega arith)) s₁ (λ a b. omega arith)) s₂ refl) s₃ (λ a b. omega arith)) s₄ (λ a b. omega arith)) s₅ (λ a b. omega arith)) s₆ (λ a b. omega arith)) s₇ (λ a b. omega arith);
         committed = row-kept (row-kept (row-kept (row-kept (row-more (row-kept (row-kept (row-aside (h .entered .committed) a (λ j m x y. omega arith)) s₁ (λ a b. omega arith)) s₂ (λ a b. omega arith)) s₃ refl) s₄ (λ a b. omega arith)) s₅ (λ a b. omega arith)) s₆ (λ a b. omega arith)) s₇ (λ a b. omega arith);
-        place = row-kept (row-more (row-kept (row-kept (row-kept (row-kept (row-kept (row-aside (h .entered .place) a (λ j m x y. omega arith)) s₁ (λ a b. omega arith)) s₂ (λ a b. omega arith)) s₃ (λ a b. omega arith)) s₄ (λ a b. omega arith)) s₅ (λ a b. omega arith)) s₆ refl) s₇ (λ a b. omega arith);
+        group = row-kept (row-more (row-kept (row-kept (row-kept (row-kept (row-kept (row-aside (h .entered .group) a (λ j m x y. omega arith)) s₁ (λ a b. omega arith)) s₂ (λ a b. omega arith)) s₃ (λ a b. omega arith)) s₄ (λ a b. omega arith)) s₅ (λ a b. omega arith)) s₆ refl) s₇ (λ a b. omega arith);
         area = row-more (row-kept (row-kept (row-kept (row-kept (row-kept (row-kept (row-aside (h .entered .area) a (λ j m x y. omega arith)) s₁ (λ a b. omega arith)) s₂ (λ a b. omega arith)) s₃ (λ a b. omega arith)) s₄ (λ a b. omega arith)) s₅ (λ a b. omega arith)) s₆ (λ a b. omega arith)) s₇ refl;
       };
       own = row-kept (row-kept (row-kept (row-more (row-kept (row-kept (row-kept (row-aside (h .own) a (λ j m x y. omega arith)) s₁ (λ a b. omega arith)) s₂ (λ a b. omega arith)) s₃ (λ a b. omega arith)) s₄ refl) s₅ (λ a b. omega arith)) s₆ (λ a b. omega arith)) s₇ (λ a b. omega arith);
       cap = row-kept (row-kept (row-more (row-kept (row-kept (row-kept (row-kept (row-aside (h .cap) a (λ j m x y. omega arith)) s₁ (λ a b. omega arith)) s₂ (λ a b. omega arith)) s₃ (λ a b. omega arith)) s₄ (λ a b. omega arith)) s₅ refl) s₆ (λ a b. omega arith)) s₇ (λ a b. omega arith);
-      lending = lending-kept (lending-kept (lending-kept (lending-kept (lending-kept (lending-kept (lending-kept n s₁ (omega arith)) s₂ (omega arith)) s₃ (omega arith)) s₄ (omega arith)) s₅ (omega arith)) s₆ (omega arith)) s₇ (omega arith);
+      sums = sums-kept (sums-kept (sums-kept (sums-kept (sums-kept (sums-kept (sums-kept n s₁ (omega arith)) s₂ (omega arith)) s₃ (omega arith)) s₄ (omega arith)) s₅ (omega arith)) s₆ (omega arith)) s₇ (omega arith);
       fresh = row-kept (row-kept (row-kept (row-kept (row-kept (row-kept (row-kept (row-aside (h .fresh) a (λ j m x y. omega arith)) s₁ (λ a b. omega arith)) s₂ (λ a b. omega arith)) s₃ (λ a b. omega arith)) s₄ (λ a b. omega arith)) s₅ (λ a b. omega arith)) s₆ (λ a b. omega arith)) s₇ (λ a b. omega arith);
     }

@@ -7,27 +7,27 @@ use native.Mathlib.Nat.{zero-add}
 use lib.ListN.{length}
 use Rattle.ids.specs.Ids.{at}
 use Rattle.year.specs.Year as year
-use Rattle.year_cells.specs.Layout.{placeIn}
+use Rattle.year_cells.specs.Layout.{groupIn}
 use Rattle.year_cells.specs.Rows.{Off}
 use Rattle.owed.specs.Owed.{ofArea, areaRate}
 use Rattle.owed.specs.Owed as owed
-use Rattle.settle_facts.specs.Looks.{facts}
+use Rattle.settle_facts.specs.CellFacts.{facts}
 use Rattle.settle_table.specs.Columns.{Columns}
-use Rattle.settle_table.specs.Places.{size, sellerRow, productRow, committedRow, rateRow, capRow, callsRow, placeRow, areaRow, lentRow, worthRow, areaRateRow, freshPlaces}
+use Rattle.settle_table.specs.Places.{size, sellerRow, productRow, committedRow, rateRow, capRow, dispatchCountRow, groupRow, areaRow, areaKwRow, areaWorthRow, areaRateRow, freshPlaces}
 use Rattle.settle_table.specs.Rows.{Stored, Aside, Row, Renewed, none, aside-none, aside-more, row-aside, row-same, renewed-first, renewed-kept, renewed-more, renewed-none}
-use Rattle.settle_rates.specs.Lent.{lentAt, worthAt, Lending}
+use Rattle.settle_rates.specs.AreaSums.{averagedKw, worthAt, AreaSums}
 use Rattle.settle_rates.specs.Entering.{ownCap, Entered, Begun}
 
 -- the average of what is lent in an area
 abbrev pub averageIn : List ℕ → ℕ → ℕ
-averageIn w a = at w (worthRow + a) / at w (lentRow + a)
+averageIn w a = at w (areaWorthRow + a) / at w (areaKwRow + a)
 
 -- it is the area's rate
-area-rate-is : (c : List ℕ) {w : List ℕ} → Lending (facts c) 64 w → (a : ℕ) → a < 8 → averageIn w a ≡ areaRate (facts c) a
+area-rate-is : (c : List ℕ) {w : List ℕ} → AreaSums (facts c) 64 w → (a : ℕ) → a < 8 → averageIn w a ≡ areaRate (facts c) a
 unfolding ofArea areaRate
 area-rate-is c h a m =
     let F = facts c in
-    rw (h .worth .row .is a m, h .lent .row .is a m, zero-add (ofArea F a (worthAt F)), zero-add (ofArea F a (lentAt F)))
+    rw (h .worth .row .is a m, h .kw .row .is a m, zero-add (ofArea F a (worthAt F)), zero-add (ofArea F a (averagedKw F)))
 
 -- the first i registrations' rates in force and their caps stand in it, the others' own ones still
 pub record Rating (c : List ℕ) (i : ℕ) (w : List ℕ) : Type 0 where
@@ -37,22 +37,22 @@ pub record Rating (c : List ℕ) (i : ℕ) (w : List ℕ) : Type 0 where
   pub rate : Renewed w rateRow 64 (owed.rate (facts c)) (owed.own (facts c)) i
   pub cap : Renewed w capRow 64 (owed.cap (facts c)) (ownCap (facts c)) i
   pub areas : Row w areaRateRow 8 (areaRate (facts c))
-  pub fresh : Row w callsRow freshPlaces none
+  pub fresh : Row w dispatchCountRow freshPlaces none
 
 -- all registrations' terms, and nothing else that the passes read
 pub record Rated (c : List ℕ) (w : List ℕ) : Type 0 where
   pub columns : Columns (facts c) 64 w
-  pub place : Row w placeRow 64 (placeIn c)
-  pub fresh : Row w callsRow freshPlaces none
+  pub group : Row w groupRow 64 (groupIn c)
+  pub fresh : Row w dispatchCountRow freshPlaces none
 
 -- what is stored beside the terms leaves them as they are
-entered-aside : {c w v : List ℕ} {q m : ℕ} → Entered c 64 w → Aside q m w v → ((j : ℕ) → j < rateRow → Off q m j) → ((j : ℕ) → placeRow ≤ j → j < lentRow → Off q m j) → Entered c 64 v
+entered-aside : {c w v : List ℕ} {q m : ℕ} → Entered c 64 w → Aside q m w v → ((j : ℕ) → j < rateRow → Off q m j) → ((j : ℕ) → groupRow ≤ j → j < areaKwRow → Off q m j) → Entered c 64 v
 entered-aside h a o p =
     record {
       seller = row-aside (h .seller) a (λ j l. o (sellerRow + j) (omega arith));
       product = row-aside (h .product) a (λ j l. o (productRow + j) (omega arith));
       committed = row-aside (h .committed) a (λ j l. o (committedRow + j) (omega arith));
-      place = row-aside (h .place) a (λ j l. p (placeRow + j) (omega arith) (omega arith));
+      group = row-aside (h .group) a (λ j l. p (groupRow + j) (omega arith) (omega arith));
       area = row-aside (h .area) a (λ j l. p (areaRow + j) (omega arith) (omega arith));
     }
 
@@ -64,7 +64,7 @@ rating-first {c} h r a =
       entered = entered-aside (h .entered) a (λ j l x y. omega arith) (λ j k l x y. omega arith);
       rate = renewed-first (owed.rate (facts c)) (row-aside (h .own) a (λ j l x y. omega arith));
       cap = renewed-first (owed.cap (facts c)) (row-aside (h .cap) a (λ j l x y. omega arith));
-      areas = row-same r (area-rate-is c (h .lending));
+      areas = row-same r (area-rate-is c (h .sums));
       fresh = row-aside (h .fresh) a (λ j l x y. omega arith);
     }
 
@@ -101,6 +101,6 @@ rating-all h =
     let t = h .entered in
     record {
       columns = record { long = h .long; seller = t .seller; product = t .product; committed = t .committed; rate = h .rate .done; cap = h .cap .done };
-      place = t .place;
+      group = t .group;
       fresh = h .fresh;
     }

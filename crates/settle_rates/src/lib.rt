@@ -2,7 +2,7 @@
 ghost use mathlib.Core.Path.{_≡_};
 ghost use Prim.Native.Nat.{_+_, _<_};
 ghost use lib.ListN.{length};
-ghost use Rattle.year_cells.specs.Layout.{Held};
+ghost use Rattle.year_cells.specs.Layout.{ValidCells};
 ghost use Rattle.settle_table.specs.Places.{size, areaRateRow};
 ghost use Rattle.settle_table.specs.Rows.{Aside, Row};
 ghost use Rattle.settle_rates.specs.Entering.{Begun};
@@ -25,9 +25,9 @@ fn average(work: &mut Work)
 {
     let mut a: usize = 0;
     while a < 8 {
-        let lent = Nominated(settle_table::get(work, settle_table::LENT, a));
-        let worth = settle_table::get(work, settle_table::WORTH, a);
-        let rate = lent.average(worth);
+        let kw = Nominated(settle_table::get(work, settle_table::AREA_KW, a));
+        let worth = settle_table::get(work, settle_table::AREA_WORTH, a);
+        let rate = kw.average(worth);
         settle_table::put(work, settle_table::AREA_RATE, a, rate);
         a += 1;
     }
@@ -35,7 +35,7 @@ fn average(work: &mut Work)
 
 // A registration without a rate of its own has its area's, and the cap by that. One that is not known has committed nothing, and has none.
 fn borrow(year: &Cells, work: &mut Work, i: usize)
-    requires { ⌜ Held (now year) ⌝ }
+    requires { ⌜ ValidCells (now year) ⌝ }
     requires { ⌜ i < 64 ⌝ }
     requires { ⌜ Rating (now year) i (now work) ⌝ }
     ensures { λ _. ⌜ Rating (now (year .entry)) (i + 1) (now (work .exit)) ⌝ }
@@ -58,7 +58,7 @@ fn borrow(year: &Cells, work: &mut Work, i: usize)
 
 // The rates in force of all registrations, once all are entered, and their caps.
 pub fn rate(year: &Cells, work: &mut Work)
-    requires { ⌜ Held (now year) ⌝ }
+    requires { ⌜ ValidCells (now year) ⌝ }
     requires { ⌜ Begun (now year) 64 (now work) ⌝ }
     ensures { λ _. ⌜ Rated (now (year .entry)) (now (work .exit)) ⌝ }
 {

@@ -2,15 +2,15 @@
 ghost use mathlib.Core.Path.{_≡_};
 ghost use Prim.Native.Nat.{_<_};
 ghost use Rattle.year.specs.Year.{registration};
-ghost use Rattle.year_cells.specs.Layout.{yearIn, Held};
+ghost use Rattle.year_cells.specs.Layout.{yearIn, ValidCells};
 ghost use Rattle.owed.specs.Owed.{own};
-ghost use Rattle.settle_facts.specs.Looks.{facts};
+ghost use Rattle.settle_facts.specs.CellFacts.{facts};
 use year::Registration;
 use year_cells::Cells;
 
 // A registration's own rate: what its clearings say, where it has any, else its field; 0 where it is not known.
 pub fn own_rate(year: &Cells, i: usize, r: Registration) -> u64
-    requires { ⌜ Held (now year) ⌝ }
+    requires { ⌜ ValidCells (now year) ⌝ }
     requires { ⌜ i < 64 ⌝ }
     requires { ⌜ r ≡ registration (yearIn (now year) .terms) i ⌝ }
     ensures { λ rate. ⌜ rate ≡ own (facts (now (year .entry))) i ⌝ }

@@ -9,24 +9,24 @@ use lib.Dec.{lit≤, eqb}
 use Rattle.ids.specs.Ids.{at}
 use Rattle.ids.specs.Sums.{sum-zero}
 use Rattle.ids.specs.Tests.{and-parts, cond-le}
-use Rattle.settle_table.specs.Allotments.{Abreast, Shared, stepper, shared-aside, abreast-first, abreast-asks, abreast-value, abreast-more, abreast-none, abreast-all, abreast-kept}
+use Rattle.settle_table.specs.Allotments.{SellerAllotments, Shared, stepper, shared-aside, allotments-first, allotments-asks, allotments-value, allotments-more, allotments-none, allotments-all, allotments-kept}
 use Rattle.allotment.specs.Stepper.{Asks}
 use Rattle.allotment.specs.Divisions.{divisions}
 use Rattle.calendar.specs.Calendar.{limited}
 use Rattle.year.specs.Year as year
 use Rattle.owed.specs.Facts.{Facts, registrations}
 use Rattle.owed.specs.Divisions.{divisionsOf, offDivisions}
-use Rattle.owed.specs.Owed.{ofSeller, unforced, measured, offShortfall, offLack, offU}
+use Rattle.owed.specs.Owed.{ofSeller, unforced, measured, offShortfall, offShort, offU}
 use Rattle.owed_laws.specs.Limits.{Limits}
 use Rattle.owed_laws.specs.Sellers.{ofSeller-le}
-use Rattle.owed_laws.specs.Bounds.{lack-le, shortfall-le}
+use Rattle.owed_laws.specs.Bounds.{short-le, shortfall-le}
 use Rattle.owed_laws.specs.Unlisted.{off-none}
 use Rattle.settle_shortfalls.specs.Sharing.{secondOf, Shares, shares-aside}
 use Rattle.settle_table.specs.Columns.{Columns, columns-aside}
-use Rattle.settle_table.specs.Places.{offURow, offLackRow, offMoreRow, testRow, apartPlaces}
+use Rattle.settle_table.specs.Places.{offURow, offShortRow, offOverRow, testRow, offPeakPlaces}
 use Rattle.settle_table.specs.Rows.{Stored, Aside, Row, Renewed, none, mark, aside-none, aside-of, aside-more, aside-then, row-same, row-kept, row-within, row-first, row-more, renewed-first, renewed-aside, renewed-more, renewed-none}
 use Rattle.settle_shortfalls.specs.Sums.{Sums, Summed, sums-first, sums-none, sums-more, sums-all, summed-kept, shortfall-is}
-use Rattle.settle_shortfalls.specs.declared.off_peak.Entry.{Entry}
+use Rattle.settle_shortfalls.specs.declared.off_peak.OffPeakEntry.{OffPeakEntry}
 
 -- what the table has of an event's entries
 pub record Entries (F : Facts) (ev : ℕ) (w : List ℕ) : Type 0 where
@@ -38,18 +38,18 @@ entries-aside h a l =
     record { columns = columns-aside (h .columns) a (lit≤ tt) (omega arith); shares = shares-aside (h .shares) a (λ k x y c d. omega arith) }
 
 -- an entry as the rules have it
-abbrev pub entryAt : Facts → ℕ → ℕ → Entry
+abbrev pub entryAt : Facts → ℕ → ℕ → OffPeakEntry
 entryAt F ev i =
-    record { measured = measured F ev i; seller = F .seller i; lack = record { 0 = year.committed (F .terms) i - secondOf F ev i }; more = record { 0 = secondOf F ev i - year.committed (F .terms) i } }
+    record { measured = measured F ev i; seller = F .seller i; short = record { 0 = year.committed (F .terms) i - secondOf F ev i }; over = record { 0 = secondOf F ev i - year.committed (F .terms) i } }
 
 marked : (b : Bool) → not (eqb (mark b) 0) ≡ b
 marked true = refl
 marked false = refl
 
 -- made of its parts
-pub entry-is : (F : Facts) (ev i : ℕ) {a : Bool} {l p s x y : ℕ} → a ≡ F .event ev .apart → l ≡ mark (year.listed (F .event ev .listing) i) → p ≡ year.product (F .terms) i → s ≡ F .seller i
+pub entry-is : (F : Facts) (ev i : ℕ) {a : Bool} {l p s x y : ℕ} → a ≡ F .event ev .dual → l ≡ mark (year.listed (F .event ev .listing) i) → p ≡ year.product (F .terms) i → s ≡ F .seller i
     → x ≡ year.committed (F .terms) i - secondOf F ev i → y ≡ secondOf F ev i - year.committed (F .terms) i
-    → _≡_ {A = Entry} (record { measured = a && (not (eqb l 0) && not (eqb p limited)); seller = s; lack = record { 0 = x }; more = record { 0 = y } }) (entryAt F ev i)
+    → _≡_ {A = OffPeakEntry} (record { measured = a && (not (eqb l 0) && not (eqb p limited)); seller = s; short = record { 0 = x }; over = record { 0 = y } }) (entryAt F ev i)
 unfolding measured
 entry-is F ev i a l p s x y = rw (a, l, p, s, x, y, marked (year.listed (F .event ev .listing) i))
 
@@ -57,7 +57,7 @@ entry-is F ev i a l p s x y = rw (a, l, p, s, x, y, marked (year.listed (F .even
 pub second-is : (F : Facts) (ev i : ℕ) → measured F ev i ≡ true → secondOf F ev i ≡ year.second (F .event ev .listing) i
 unfolding measured
 second-is F ev i on =
-    let a = and-parts (F .event ev .apart) (year.listed (F .event ev .listing) i && not (eqb (year.product (F .terms) i) limited)) on in
+    let a = and-parts (F .event ev .dual) (year.listed (F .event ev .listing) i && not (eqb (year.product (F .terms) i) limited)) on in
     rw (and-parts (year.listed (F .event ev .listing) i) (not (eqb (year.product (F .terms) i) limited)) (a .1) .0)
 
 -- and it is small
@@ -66,30 +66,30 @@ second-small {F} L ev i = cond-le (year.listed (F .event ev .listing) i) (L .off
 
 -- how many places there are of the third allotment and of what is given more
 abbrev pub sumPlaces : ℕ
-sumPlaces = testRow - offLackRow
+sumPlaces = testRow - offShortRow
 
 -- the sums of the measured entries, and nothing allotted yet
 pub record Weighed (F : Facts) (ev : ℕ) (w : List ℕ) : Type 0 where
   pub entries : Entries F ev w
-  pub sums : Summed F (measured F ev) (year.second (F .event ev .listing)) offLackRow offMoreRow w
-  pub fresh : Row w (offLackRow + 32) 48 none
+  pub sums : Summed F (measured F ev) (year.second (F .event ev .listing)) offShortRow offOverRow w
+  pub fresh : Row w (offShortRow + 32) 48 none
 
 -- before entry i; w₀ is the table before the loop
 pub record Weighing (F : Facts) (ev i : ℕ) (w₀ w : List ℕ) : Type 0 where
   pub upto : i ≤ 64
   pub entries : Entries F ev w
-  pub aside : Aside offLackRow sumPlaces w₀ w
-  pub sums : Sums F (measured F ev) (year.second (F .event ev .listing)) offLackRow offMoreRow i w
-  pub fresh : Row w (offLackRow + 32) 48 none
+  pub aside : Aside offShortRow sumPlaces w₀ w
+  pub sums : Sums F (measured F ev) (year.second (F .event ev .listing)) offShortRow offOverRow i w
+  pub fresh : Row w (offShortRow + 32) 48 none
 
-pub weighing-first : {F : Facts} (ev : ℕ) {w : List ℕ} → Entries F ev w → Row w offLackRow sumPlaces none → Weighing F ev 0 w w
+pub weighing-first : {F : Facts} (ev : ℕ) {w : List ℕ} → Entries F ev w → Row w offShortRow sumPlaces none → Weighing F ev 0 w w
 weighing-first {F} ev h r =
     record {
       upto = omega arith;
       entries = h;
       aside = aside-none;
-      sums = sums-first F (measured F ev) (year.second (F .event ev .listing)) offLackRow offMoreRow (row-within offLackRow 16 r (omega arith) (omega arith)) (row-within offMoreRow 16 r (omega arith) (omega arith));
-      fresh = row-within (offLackRow + 32) 48 r (omega arith) (omega arith);
+      sums = sums-first F (measured F ev) (year.second (F .event ev .listing)) offShortRow offOverRow (row-within offShortRow 16 r (omega arith) (omega arith)) (row-within offOverRow 16 r (omega arith) (omega arith));
+      fresh = row-within (offShortRow + 32) 48 r (omega arith) (omega arith);
     }
 
 module _ {F : Facts} {ev i : ℕ} {w₀ w : List ℕ} (h : Weighing F ev i w₀ w) where
@@ -97,10 +97,10 @@ module _ {F : Facts} {ev i : ℕ} {w₀ w : List ℕ} (h : Weighing F ev i w₀ 
   weighing-none l z = record { upto = omega arith; entries = h .entries; aside = h .aside; sums = sums-none (h .sums) z; fresh = h .fresh }
 
   pub weighing-more : {m y : List ℕ} → i < 64 → measured F ev i ≡ true → F .seller i < 16 → let x = entryAt F ev i in
-      Stored (offLackRow + F .seller i) (at w (offLackRow + F .seller i) + x .lack .0) w m
-      → Stored (offMoreRow + F .seller i) (at m (offMoreRow + F .seller i) + x .more .0) m y → Weighing F ev (i + 1) w₀ y
+      Stored (offShortRow + F .seller i) (at w (offShortRow + F .seller i) + x .short .0) w m
+      → Stored (offOverRow + F .seller i) (at m (offOverRow + F .seller i) + x .over .0) m y → Weighing F ev (i + 1) w₀ y
   weighing-more u on l s1 s2 =
-      let stores : Aside offLackRow sumPlaces w _ = aside-more (aside-more aside-none s1 (omega arith) (omega arith)) s2 (omega arith) (omega arith) in
+      let stores : Aside offShortRow sumPlaces w _ = aside-more (aside-more aside-none s1 (omega arith) (omega arith)) s2 (omega arith) (omega arith) in
       let second = second-is F ev i on in
       record {
         upto = omega arith;
@@ -117,15 +117,15 @@ module _ {F : Facts} {ev i : ℕ} {w₀ w : List ℕ} (h : Weighing F ev i w₀ 
 pub record Netted (F : Facts) (ev s : ℕ) (w : List ℕ) : Type 0 where
   pub upto : s ≤ 16
   pub weighed : Weighed F ev w
-  pub shortfall : Row w (offLackRow + 16) s (offShortfall F ev)
+  pub shortfall : Row w (offShortRow + 16) s (offShortfall F ev)
 
 pub netted-first : {F : Facts} {ev : ℕ} {w : List ℕ} → Weighed F ev w → Netted F ev 0 w
-netted-first {F} {ev} {w} h = record { upto = omega arith; weighed = h; shortfall = row-first w (offLackRow + 16) (offShortfall F ev) }
+netted-first {F} {ev} {w} h = record { upto = omega arith; weighed = h; shortfall = row-first w (offShortRow + 16) (offShortfall F ev) }
 
-pub netted-more : {F : Facts} {ev s lack more a : ℕ} {w v : List ℕ} → Netted F ev s w → s < 16 → lack ≡ at w (offLackRow + s) → more ≡ at w (offMoreRow + s)
-    → a ≡ unforced F (lack - more) - year.deficit (F .event ev .listing) s → Stored (offLackRow + 16 + s) a w v → Netted F ev (s + 1) v
+pub netted-more : {F : Facts} {ev s short over a : ℕ} {w v : List ℕ} → Netted F ev s w → s < 16 → short ≡ at w (offShortRow + s) → over ≡ at w (offOverRow + s)
+    → a ≡ unforced F (short - over) - year.deficit (F .event ev .listing) s → Stored (offShortRow + 16 + s) a w v → Netted F ev (s + 1) v
 netted-more {F} {ev} {s} {v = v} h l p q f st =
-    let stores : Aside offLackRow sumPlaces _ v = aside-more aside-none st (omega arith) (omega arith) in
+    let stores : Aside offShortRow sumPlaces _ v = aside-more aside-none st (omega arith) (omega arith) in
     record {
       upto = omega arith;
       weighed = record {
@@ -139,58 +139,58 @@ netted-more {F} {ev} {s} {v = v} h l p q f st =
 -- the allotment may begin; no entry has its off-peak u yet
 pub record Ready (F : Facts) (ev : ℕ) (w : List ℕ) : Type 0 where
   pub entries : Entries F ev w
-  pub lack : Abreast F (measured F ev) (offLack F ev) (offShortfall F ev) offLackRow 0 w
+  pub short : SellerAllotments F (measured F ev) (offShort F ev) (offShortfall F ev) offShortRow 0 w
   pub fresh : Row w offURow 64 none
 
 pub netted-all : {F : Facts} {ev : ℕ} {w : List ℕ} → Netted F ev 16 w → Row w offURow 64 none → Ready F ev w
 netted-all h z =
-    record { entries = h .weighed .entries; lack = abreast-first (h .weighed .sums .lack) (h .shortfall) (h .weighed .fresh); fresh = z }
+    record { entries = h .weighed .entries; short = allotments-first (h .weighed .sums .short) (h .shortfall) (h .weighed .fresh); fresh = z }
 
 -- before entry i; w₀ is the table before the loop
 pub record Sharing (F : Facts) (ev i : ℕ) (w₀ w : List ℕ) : Type 0 where
   pub upto : i ≤ 64
   pub entries : Entries F ev w
-  pub aside : Aside offURow apartPlaces w₀ w
-  pub lack : Abreast F (measured F ev) (offLack F ev) (offShortfall F ev) offLackRow i w
+  pub aside : Aside offURow offPeakPlaces w₀ w
+  pub short : SellerAllotments F (measured F ev) (offShort F ev) (offShortfall F ev) offShortRow i w
   pub u : Renewed w offURow 64 (offU F ev) none i
 
 pub sharing-first : {F : Facts} {ev : ℕ} {w : List ℕ} → Ready F ev w → Sharing F ev 0 w w
 sharing-first {F} {ev} r =
-    record { upto = omega arith; entries = r .entries; aside = aside-none; lack = r .lack; u = renewed-first (offU F ev) (r .fresh) }
+    record { upto = omega arith; entries = r .entries; aside = aside-none; short = r .short; u = renewed-first (offU F ev) (r .fresh) }
 
 module _ {F : Facts} {ev i : ℕ} {w₀ w : List ℕ} (h : Sharing F ev i w₀ w) where
   pub sharing-none : i < 64 → measured F ev i ≡ false → Sharing F ev (i + 1) w₀ w
   sharing-none l off =
-      record { upto = omega arith; entries = h .entries; aside = h .aside; lack = abreast-none (h .lack) off (rw off); u = renewed-none (h .u) l (sym (off-none F ev i off)) }
+      record { upto = omega arith; entries = h .entries; aside = h .aside; short = allotments-none (h .short) off (rw off); u = renewed-none (h .u) l (sym (off-none F ev i off)) }
 
-  pub sharing-all : i ≡ 64 → Row w offURow 64 (offU F ev) × Row w (offLackRow + 64) 16 (offDivisions F ev)
-  sharing-all q = (rw q at (h .u .done), abreast-all (h .lack) q)
+  pub sharing-all : i ≡ 64 → Row w offURow 64 (offU F ev) × Row w (offShortRow + 64) 16 (offDivisions F ev)
+  sharing-all q = (rw q at (h .u .done), allotments-all (h .short) q)
 
   -- a measured entry
   module _ (L : Limits F) (l : i < 64) (on : measured F ev i ≡ true) where
-    lack-is : entryAt F ev i .lack .0 ≡ offLack F ev i
-    lack-is = rw (on, second-is F ev i on)
+    short-is : entryAt F ev i .short .0 ≡ offShort F ev i
+    short-is = rw (on, second-is F ev i on)
 
-    pub u-asks : Asks (stepper offLackRow w (F .seller i)) (entryAt F ev i .lack .0)
+    pub u-asks : Asks (stepper offShortRow w (F .seller i)) (entryAt F ev i .short .0)
     u-asks =
-        abreast-asks (h .lack) (L .seller i) lack-is l
-        (omega (arith, mul-le-mul (shortfall-le L (measured F ev) (year.second (F .event ev .listing)) (year.deficit (F .event ev .listing)) (F .seller i)) (ofSeller-le F (F .seller i) 100000 (lack-le L (measured F ev) (year.second (F .event ev .listing))))))
+        allotments-asks (h .short) (L .seller i) short-is l
+        (omega (arith, mul-le-mul (shortfall-le L (measured F ev) (year.second (F .event ev .listing)) (year.deficit (F .event ev .listing)) (F .seller i)) (ofSeller-le F (F .seller i) 100000 (short-le L (measured F ev) (year.second (F .event ev .listing))))))
 
-    pub sharing-more : {m v : List ℕ} {u : ℕ} → Shared offLackRow (F .seller i) (entryAt F ev i .lack .0) w m u → Stored (offURow + i) u m v → Sharing F ev (i + 1) w₀ v
+    pub sharing-more : {m v : List ℕ} {u : ℕ} → Shared offShortRow (F .seller i) (entryAt F ev i .short .0) w m u → Stored (offURow + i) u m v → Sharing F ev (i + 1) w₀ v
     unfolding offU
     sharing-more {m} {v} g st =
-        let moved : Aside (offLackRow + 32) 48 w m = shared-aside (L .seller i) g in
-        let stores : Aside offURow apartPlaces w v = aside-then moved (aside-of st) (omega arith) (omega arith) (omega arith) (omega arith) in
+        let moved : Aside (offShortRow + 32) 48 w m = shared-aside (L .seller i) g in
+        let stores : Aside offURow offPeakPlaces w v = aside-then moved (aside-of st) (omega arith) (omega arith) (omega arith) (omega arith) in
         record {
           upto = omega arith;
           entries = entries-aside (h .entries) stores (lit≤ tt);
           aside = aside-then (h .aside) stores (omega arith) (omega arith) (omega arith) (omega arith);
-          lack = abreast-kept (abreast-more (h .lack) (L .seller i) lack-is g on) st (λ c d. omega arith);
-          u = renewed-more (renewed-aside (h .u) moved (h .upto) (λ j k c d. omega arith)) st (abreast-value (h .lack) (L .seller i) lack-is g);
+          short = allotments-kept (allotments-more (h .short) (L .seller i) short-is g on) st (λ c d. omega arith);
+          u = renewed-more (renewed-aside (h .u) moved (h .upto) (λ j k c d. omega arith)) st (allotments-value (h .short) (L .seller i) short-is g);
         }
 
 -- where nothing is measured apart there is no off-peak u, and nothing is divided
-module _ (F : Facts) (ev : ℕ) (off : F .event ev .apart ≡ false) where
+module _ (F : Facts) (ev : ℕ) (off : F .event ev .dual ≡ false) where
   unmeasured : (i : ℕ) → measured F ev i ≡ false
   unfolding measured
   unmeasured i = rw off
@@ -198,11 +198,11 @@ module _ (F : Facts) (ev : ℕ) (off : F .event ev .apart ≡ false) where
   none-divided : (s : ℕ) → offDivisions F ev s ≡ 0
   unfolding divisionsOf divisions ofSeller
   none-divided s =
-      let none : ofSeller F s (offLack F ev) ≡ 0 = sum-zero registrations (λ i l. rw (unmeasured i) (let le = cond-le (eqb (F .seller i) s) {x = 0} {b = 0} (lit≤ tt) in omega arith)) in
+      let none : ofSeller F s (offShort F ev) ≡ 0 = sum-zero registrations (λ i l. rw (unmeasured i) (let le = cond-le (eqb (F .seller i) s) {x = 0} {b = 0} (lit≤ tt) in omega arith)) in
       rw none
 
-  pub measured-none : {w : List ℕ} → Row w offURow apartPlaces none → Row w offURow 64 (offU F ev) × Row w (offLackRow + 64) 16 (offDivisions F ev)
+  pub measured-none : {w : List ℕ} → Row w offURow offPeakPlaces none → Row w offURow 64 (offU F ev) × Row w (offShortRow + 64) 16 (offDivisions F ev)
   measured-none r = (
     row-same (row-within offURow 64 r (omega arith) (omega arith)) (λ i l. sym (off-none F ev i (unmeasured i))),
-    row-same (row-within (offLackRow + 64) 16 r (omega arith) (omega arith)) (λ s l. sym (none-divided s)),
+    row-same (row-within (offShortRow + 64) 16 r (omega arith) (omega arith)) (λ s l. sym (none-divided s)),
   )

@@ -6,7 +6,7 @@ use mathlib.Core.List.{List}
 use native.Mathlib.Omega.{arith}
 use native.Mathlib.Nat.{mul-le-mul}
 use Rattle.ids.specs.Ids.{at, only}
-use Rattle.settle_table.specs.Allotments.{Abreast, Shared, stepper, shared-aside, abreast-asks, abreast-value, abreast-more, abreast-none, abreast-all, abreast-kept, abreast-aside}
+use Rattle.settle_table.specs.Allotments.{SellerAllotments, Shared, stepper, shared-aside, allotments-asks, allotments-value, allotments-more, allotments-none, allotments-all, allotments-kept, allotments-aside}
 use Rattle.allotment.specs.Stepper.{Asks}
 use Rattle.year.specs.Year as year
 use Rattle.owed.specs.Facts.{Facts}
@@ -14,13 +14,13 @@ use Rattle.owed.specs.Divisions.{uDivisions, eDivisions}
 use Rattle.owed.specs.Owed as owed
 use Rattle.owed_laws.specs.Limits.{Limits}
 use Rattle.owed_laws.specs.Sellers.{ofSeller-le}
-use Rattle.owed_laws.specs.Bounds.{lack-le, more-le, shortfall-le, excess-le}
+use Rattle.owed_laws.specs.Bounds.{short-le, over-le, shortfall-le, excess-le}
 use Rattle.owed_laws.specs.Unlisted.{u-unlisted, e-unlisted}
 use Rattle.year_cells.specs.Rows.{Off}
 use Rattle.settle_table.specs.Columns.{Columns, columns-aside}
-use Rattle.settle_table.specs.Places.{lackRow, moreRow, uRow, eRow, listedRow, secondRow, offURow, sharedPlaces}
+use Rattle.settle_table.specs.Places.{shortRow, overRow, uRow, eRow, listedRow, secondRow, offURow, sharedPlaces}
 use Rattle.settle_table.specs.Rows.{Stored, Aside, Row, Renewed, none, mark, aside-none, aside-more, aside-then, row-aside, row-within, renewed-first, renewed-kept, renewed-aside, renewed-more, renewed-none}
-use Rattle.settle_shortfalls.specs.declared.Entry.{Entry}
+use Rattle.settle_shortfalls.specs.declared.MeasuredEntry.{MeasuredEntry}
 use Rattle.settle_shortfalls.specs.Weighing.{entryAt, Ready}
 
 -- the second reductions of an event's entries
@@ -46,16 +46,16 @@ shares-aside h a o =
 
 -- how many divisions each seller's two allotments made
 pub record Divided (F : Facts) (ev : ℕ) (w : List ℕ) : Type 0 where
-  pub u : Row w (lackRow + 64) 16 (uDivisions F ev)
-  pub e : Row w (moreRow + 64) 16 (eDivisions F ev)
+  pub u : Row w (shortRow + 64) 16 (uDivisions F ev)
+  pub e : Row w (overRow + 64) 16 (eDivisions F ev)
 
 -- before entry i; w₀ is the table before the pass
 pub record Sharing (F : Facts) (ev i : ℕ) (w₀ w : List ℕ) : Type 0 where
   pub upto : i ≤ 64
   pub columns : Columns F 64 w
-  pub aside : Aside lackRow sharedPlaces w₀ w
-  pub lack : Abreast F (year.listed (F .event ev .listing)) (owed.lack F ev) (owed.shortfall F ev) lackRow i w
-  pub more : Abreast F (year.listed (F .event ev .listing)) (owed.more F ev) (owed.excess F ev) moreRow i w
+  pub aside : Aside shortRow sharedPlaces w₀ w
+  pub short : SellerAllotments F (year.listed (F .event ev .listing)) (owed.short F ev) (owed.shortfall F ev) shortRow i w
+  pub over : SellerAllotments F (year.listed (F .event ev .listing)) (owed.over F ev) (owed.excess F ev) overRow i w
   pub u : Renewed w uRow 64 (owed.u F ev) none i
   pub e : Renewed w eRow 64 (owed.e F ev) none i
   pub listed : Renewed w listedRow 64 (λ i. mark (year.listed (F .event ev .listing) i)) none i
@@ -67,8 +67,8 @@ sharing-first {F} {ev} h r =
       upto = omega arith;
       columns = h;
       aside = aside-none;
-      lack = r .lack;
-      more = r .more;
+      short = r .short;
+      over = r .over;
       u = renewed-first (owed.u F ev) (row-within uRow 64 (r .fresh) (omega arith) (omega arith));
       e = renewed-first (owed.e F ev) (row-within eRow 64 (r .fresh) (omega arith) (omega arith));
       listed = renewed-first (λ i. mark (year.listed (F .event ev .listing) i)) (row-within listedRow 64 (r .fresh) (omega arith) (omega arith));
@@ -82,8 +82,8 @@ module _ {F : Facts} {ev i : ℕ} {w₀ w : List ℕ} (h : Sharing F ev i w₀ w
         upto = omega arith;
         columns = h .columns;
         aside = h .aside;
-        lack = abreast-none (h .lack) off (rw off);
-        more = abreast-none (h .more) off (rw off);
+        short = allotments-none (h .short) off (rw off);
+        over = allotments-none (h .over) off (rw off);
         u = renewed-none (h .u) l (sym (u-unlisted F ev i off));
         e = renewed-none (h .e) l (sym (e-unlisted F ev i off));
         listed = renewed-none (h .listed) l (rw off);
@@ -94,41 +94,41 @@ module _ {F : Facts} {ev i : ℕ} {w₀ w : List ℕ} (h : Sharing F ev i w₀ w
   sharing-all q = record { u = rw q at (h .u .done); e = rw q at (h .e .done); listed = rw q at (h .listed .done); second = rw q at (h .second .done) }
 
   pub sharing-divided : i ≡ 64 → Divided F ev w
-  sharing-divided q = record { u = abreast-all (h .lack) q; e = abreast-all (h .more) q }
+  sharing-divided q = record { u = allotments-all (h .short) q; e = allotments-all (h .over) q }
 
   -- a listed entry
   module _ (L : Limits F) (l : i < 64) (on : year.listed (F .event ev .listing) i ≡ true) where
-    abbrev x : Entry
+    abbrev x : MeasuredEntry
     x = entryAt F ev i
 
-    lack-is : x .lack .0 ≡ owed.lack F ev i
-    lack-is = rw on
+    short-is : x .short .0 ≡ owed.short F ev i
+    short-is = rw on
 
-    more-is : x .more .0 ≡ owed.more F ev i
-    more-is = rw on
+    over-is : x .over .0 ≡ owed.over F ev i
+    over-is = rw on
 
-    pub u-asks : Asks (stepper lackRow w (x .seller)) (x .lack .0)
+    pub u-asks : Asks (stepper shortRow w (x .seller)) (x .short .0)
     u-asks =
-        abreast-asks (h .lack) (L .seller i) lack-is l
-        (omega (arith, mul-le-mul (shortfall-le L (year.listed (F .event ev .listing)) (year.reduction (F .event ev .listing)) (year.deficit (F .event ev .listing)) (F .seller i)) (ofSeller-le F (F .seller i) 100000 (lack-le L (year.listed (F .event ev .listing)) (year.reduction (F .event ev .listing))))))
+        allotments-asks (h .short) (L .seller i) short-is l
+        (omega (arith, mul-le-mul (shortfall-le L (year.listed (F .event ev .listing)) (year.reduction (F .event ev .listing)) (year.deficit (F .event ev .listing)) (F .seller i)) (ofSeller-le F (F .seller i) 100000 (short-le L (year.listed (F .event ev .listing)) (year.reduction (F .event ev .listing))))))
 
     -- u is allotted
-    module _ {m : List ℕ} {u : ℕ} (g : Shared lackRow (x .seller) (x .lack .0) w m u) where
-      u-aside : Aside (lackRow + 32) 48 w m
+    module _ {m : List ℕ} {u : ℕ} (g : Shared shortRow (x .seller) (x .short .0) w m u) where
+      u-aside : Aside (shortRow + 32) 48 w m
       u-aside = shared-aside (L .seller i) g
 
-      u-more : Abreast F (year.listed (F .event ev .listing)) (owed.more F ev) (owed.excess F ev) moreRow i m
-      u-more = abreast-aside (h .more) u-aside (λ k a b c d. omega arith)
+      u-over : SellerAllotments F (year.listed (F .event ev .listing)) (owed.over F ev) (owed.excess F ev) overRow i m
+      u-over = allotments-aside (h .over) u-aside (λ k a b c d. omega arith)
 
-      pub e-asks : Asks (stepper moreRow m (x .seller)) (x .more .0)
+      pub e-asks : Asks (stepper overRow m (x .seller)) (x .over .0)
       e-asks =
-          let most = ofSeller-le F (F .seller i) 100000 (more-le L (year.listed (F .event ev .listing)) (L .reduction ev)) in
+          let most = ofSeller-le F (F .seller i) 100000 (over-le L (year.listed (F .event ev .listing)) (L .reduction ev)) in
           let less : owed.excess F ev (F .seller i) ≤ 6400000 = omega (arith, excess-le L ev (F .seller i)) in
-          abreast-asks u-more (L .seller i) more-is l (omega (arith, mul-le-mul less most))
+          allotments-asks u-over (L .seller i) over-is l (omega (arith, mul-le-mul less most))
 
       -- e too, and both are kept
-      module _ {m' : List ℕ} {e : ℕ} (g' : Shared moreRow (x .seller) (x .more .0) m m' e) where
-        e-aside : Aside (moreRow + 32) 48 m m'
+      module _ {m' : List ℕ} {e : ℕ} (g' : Shared overRow (x .seller) (x .over .0) m m' e) where
+        e-aside : Aside (overRow + 32) 48 m m'
         e-aside = shared-aside (L .seller i) g'
 
         elsewhere : {p : ℕ} {f : ℕ → ℕ} → Renewed w p 64 f none i → ((j : ℕ) → j < 64 → uRow ≤ p + j) → Renewed m' p 64 f none i
@@ -137,15 +137,15 @@ module _ {F : Facts} {ev i : ℕ} {w₀ w : List ℕ} (h : Sharing F ev i w₀ w
         pub sharing-more : {m1 m2 m3 v : List ℕ} → Stored (uRow + i) u m' m1 → Stored (eRow + i) e m1 m2 → Stored (listedRow + i) 1 m2 m3 → Stored (secondRow + i) (x .second .0) m3 v → Sharing F ev (i + 1) w₀ v
         unfolding owed.u owed.e
         sharing-more s1 s2 s3 s4 =
-            let stores : Aside lackRow sharedPlaces w _ = aside-more (aside-more (aside-more (aside-more (aside-then u-aside e-aside (omega arith) (omega arith) (omega arith) (omega arith)) s1 (omega arith) (omega arith)) s2 (omega arith) (omega arith)) s3 (omega arith) (omega arith)) s4 (omega arith) (omega arith) in
+            let stores : Aside shortRow sharedPlaces w _ = aside-more (aside-more (aside-more (aside-more (aside-then u-aside e-aside (omega arith) (omega arith) (omega arith) (omega arith)) s1 (omega arith) (omega arith)) s2 (omega arith) (omega arith)) s3 (omega arith) (omega arith)) s4 (omega arith) (omega arith) in
             record {
               upto = omega arith;
               columns = columns-aside (h .columns) stores (omega arith) (omega arith);
               aside = aside-then (h .aside) stores (omega arith) (omega arith) (omega arith) (omega arith);
-              lack = abreast-kept (abreast-kept (abreast-kept (abreast-kept (abreast-aside (abreast-more (h .lack) (L .seller i) lack-is g on) e-aside (λ k a b c d. omega arith)) s1 (λ c d. omega arith)) s2 (λ c d. omega arith)) s3 (λ c d. omega arith)) s4 (λ c d. omega arith);
-              more = abreast-kept (abreast-kept (abreast-kept (abreast-kept (abreast-more u-more (L .seller i) more-is g' on) s1 (λ c d. omega arith)) s2 (λ c d. omega arith)) s3 (λ c d. omega arith)) s4 (λ c d. omega arith);
-              u = renewed-kept (renewed-kept (renewed-kept (renewed-more (elsewhere (h .u) (λ j k. omega arith)) s1 (abreast-value (h .lack) (L .seller i) lack-is g)) s2 (omega arith) (λ c d. omega arith)) s3 (omega arith) (λ c d. omega arith)) s4 (omega arith) (λ c d. omega arith);
-              e = renewed-kept (renewed-kept (renewed-more (renewed-kept (elsewhere (h .e) (λ j k. omega arith)) s1 (h .upto) (λ c d. omega arith)) s2 (abreast-value u-more (L .seller i) more-is g')) s3 (omega arith) (λ c d. omega arith)) s4 (omega arith) (λ c d. omega arith);
+              short = allotments-kept (allotments-kept (allotments-kept (allotments-kept (allotments-aside (allotments-more (h .short) (L .seller i) short-is g on) e-aside (λ k a b c d. omega arith)) s1 (λ c d. omega arith)) s2 (λ c d. omega arith)) s3 (λ c d. omega arith)) s4 (λ c d. omega arith);
+              over = allotments-kept (allotments-kept (allotments-kept (allotments-kept (allotments-more u-over (L .seller i) over-is g' on) s1 (λ c d. omega arith)) s2 (λ c d. omega arith)) s3 (λ c d. omega arith)) s4 (λ c d. omega arith);
+              u = renewed-kept (renewed-kept (renewed-kept (renewed-more (elsewhere (h .u) (λ j k. omega arith)) s1 (allotments-value (h .short) (L .seller i) short-is g)) s2 (omega arith) (λ c d. omega arith)) s3 (omega arith) (λ c d. omega arith)) s4 (omega arith) (λ c d. omega arith);
+              e = renewed-kept (renewed-kept (renewed-more (renewed-kept (elsewhere (h .e) (λ j k. omega arith)) s1 (h .upto) (λ c d. omega arith)) s2 (allotments-value u-over (L .seller i) over-is g')) s3 (omega arith) (λ c d. omega arith)) s4 (omega arith) (λ c d. omega arith);
               listed = renewed-kept (renewed-more (renewed-kept (renewed-kept (elsewhere (h .listed) (λ j k. omega arith)) s1 (h .upto) (λ c d. omega arith)) s2 (h .upto) (λ c d. omega arith)) s3 (rw on)) s4 (omega arith) (λ c d. omega arith);
               second = renewed-more (renewed-kept (renewed-kept (renewed-kept (elsewhere (h .second) (λ j k. omega arith)) s1 (h .upto) (λ c d. omega arith)) s2 (h .upto) (λ c d. omega arith)) s3 (h .upto) (λ c d. omega arith)) s4 (rw on);
             }

@@ -8,47 +8,47 @@ use lib.Dec.{lit≤}
 use lib.ListN.{length}
 use Rattle.ids.specs.Ids.{at}
 use Rattle.year.specs.Year as year
-use Rattle.settle_table.specs.Allotments.{Abreast, abreast-first}
+use Rattle.settle_table.specs.Allotments.{SellerAllotments, allotments-first}
 use Rattle.owed.specs.Facts.{Facts}
 use Rattle.owed.specs.Owed as owed
 use Rattle.owed.specs.Owed.{unforced, excess}
 use Rattle.owed_laws.specs.Sellers.{excess-is}
 use Rattle.settle_table.specs.Columns.{Columns, columns-aside}
-use Rattle.settle_table.specs.Places.{size, lackRow, moreRow, uRow, abreastPlaces, laterPlaces}
-use Rattle.settle_shortfalls.specs.declared.Entry.{Entry}
+use Rattle.settle_table.specs.Places.{size, shortRow, overRow, uRow, allotmentPlaces, laterPlaces}
+use Rattle.settle_shortfalls.specs.declared.MeasuredEntry.{MeasuredEntry}
 use Rattle.settle_shortfalls.specs.Sums.{Sums, Summed, sums-first, sums-none, sums-more, sums-all, summed-kept, shortfall-is}
 use Rattle.settle_table.specs.Rows.{Stored, Aside, Row, none, aside-none, aside-of, aside-more, row-kept, row-within, row-first, row-more}
 
 -- an entry as the rules have it
-abbrev pub entryAt : Facts → ℕ → ℕ → Entry
+abbrev pub entryAt : Facts → ℕ → ℕ → MeasuredEntry
 entryAt F ev i =
-    record { listed = year.listed (F .event ev .listing) i; seller = F .seller i; lack = record { 0 = year.committed (F .terms) i - year.reduction (F .event ev .listing) i }; more = record { 0 = year.reduction (F .event ev .listing) i - year.committed (F .terms) i }; second = record { 0 = year.second (F .event ev .listing) i } }
+    record { listed = year.listed (F .event ev .listing) i; seller = F .seller i; short = record { 0 = year.committed (F .terms) i - year.reduction (F .event ev .listing) i }; over = record { 0 = year.reduction (F .event ev .listing) i - year.committed (F .terms) i }; second = record { 0 = year.second (F .event ev .listing) i } }
 
 -- the sums of an event's entries, and nothing allotted yet
 pub record Weighed (F : Facts) (ev : ℕ) (w : List ℕ) : Type 0 where
   pub long : length w ≡ size
-  pub sums : Summed F (year.listed (F .event ev .listing)) (year.reduction (F .event ev .listing)) lackRow moreRow w
-  pub freshLack : Row w (lackRow + 32) 48 none
-  pub freshMore : Row w (moreRow + 32) 48 none
+  pub sums : Summed F (year.listed (F .event ev .listing)) (year.reduction (F .event ev .listing)) shortRow overRow w
+  pub freshLack : Row w (shortRow + 32) 48 none
+  pub freshMore : Row w (overRow + 32) 48 none
 
 -- before entry i; w₀ is the table before the pass
 pub record Weighing (F : Facts) (ev i : ℕ) (w₀ w : List ℕ) : Type 0 where
   pub upto : i ≤ 64
   pub columns : Columns F 64 w
-  pub aside : Aside lackRow abreastPlaces w₀ w
-  pub sums : Sums F (year.listed (F .event ev .listing)) (year.reduction (F .event ev .listing)) lackRow moreRow i w
-  pub freshLack : Row w (lackRow + 32) 48 none
-  pub freshMore : Row w (moreRow + 32) 48 none
+  pub aside : Aside shortRow allotmentPlaces w₀ w
+  pub sums : Sums F (year.listed (F .event ev .listing)) (year.reduction (F .event ev .listing)) shortRow overRow i w
+  pub freshLack : Row w (shortRow + 32) 48 none
+  pub freshMore : Row w (overRow + 32) 48 none
 
-pub weighing-first : {F : Facts} (ev : ℕ) {w : List ℕ} → Columns F 64 w → Row w lackRow abreastPlaces none → Weighing F ev 0 w w
+pub weighing-first : {F : Facts} (ev : ℕ) {w : List ℕ} → Columns F 64 w → Row w shortRow allotmentPlaces none → Weighing F ev 0 w w
 weighing-first {F} ev h r =
     record {
       upto = omega arith;
       columns = h;
       aside = aside-none;
-      sums = sums-first F (year.listed (F .event ev .listing)) (year.reduction (F .event ev .listing)) lackRow moreRow (row-within lackRow 16 r (omega arith) (omega arith)) (row-within moreRow 16 r (omega arith) (omega arith));
-      freshLack = row-within (lackRow + 32) 48 r (omega arith) (omega arith);
-      freshMore = row-within (moreRow + 32) 48 r (omega arith) (omega arith);
+      sums = sums-first F (year.listed (F .event ev .listing)) (year.reduction (F .event ev .listing)) shortRow overRow (row-within shortRow 16 r (omega arith) (omega arith)) (row-within overRow 16 r (omega arith) (omega arith));
+      freshLack = row-within (shortRow + 32) 48 r (omega arith) (omega arith);
+      freshMore = row-within (overRow + 32) 48 r (omega arith) (omega arith);
     }
 
 module _ {F : Facts} {ev i : ℕ} {w₀ w : List ℕ} (h : Weighing F ev i w₀ w) where
@@ -65,8 +65,8 @@ module _ {F : Facts} {ev i : ℕ} {w₀ w : List ℕ} (h : Weighing F ev i w₀ 
 
   -- a listed entry
   pub weighing-more : {m y : List ℕ} → i < 64 → year.listed (F .event ev .listing) i ≡ true → F .seller i < 16 → let x = entryAt F ev i in
-      Stored (lackRow + F .seller i) (at w (lackRow + F .seller i) + x .lack .0) w m
-      → Stored (moreRow + F .seller i) (at m (moreRow + F .seller i) + x .more .0) m y → Weighing F ev (i + 1) w₀ y
+      Stored (shortRow + F .seller i) (at w (shortRow + F .seller i) + x .short .0) w m
+      → Stored (overRow + F .seller i) (at m (overRow + F .seller i) + x .over .0) m y → Weighing F ev (i + 1) w₀ y
   weighing-more u on l s1 s2 =
       record {
         upto = omega arith;
@@ -84,20 +84,20 @@ module _ {F : Facts} {ev i : ℕ} {w₀ w : List ℕ} (h : Weighing F ev i w₀ 
 pub record Netted (F : Facts) (ev s : ℕ) (w : List ℕ) : Type 0 where
   pub upto : s ≤ 16
   pub weighed : Weighed F ev w
-  pub shortfall : Row w (lackRow + 16) s (owed.shortfall F ev)
-  pub excess : Row w (moreRow + 16) s (owed.excess F ev)
+  pub shortfall : Row w (shortRow + 16) s (owed.shortfall F ev)
+  pub excess : Row w (overRow + 16) s (owed.excess F ev)
 
 pub netted-first : {F : Facts} {ev : ℕ} {w : List ℕ} → Weighed F ev w → Netted F ev 0 w
 netted-first {F} {ev} {w} h =
-    record { upto = omega arith; weighed = h; shortfall = row-first w (lackRow + 16) (owed.shortfall F ev); excess = row-first w (moreRow + 16) (owed.excess F ev) }
+    record { upto = omega arith; weighed = h; shortfall = row-first w (shortRow + 16) (owed.shortfall F ev); excess = row-first w (overRow + 16) (owed.excess F ev) }
 
 module _ {F : Facts} {ev s : ℕ} {w : List ℕ} (h : Netted F ev s w) where
-  module _ {lack more : ℕ} (l : s < 16) (p : lack ≡ at w (lackRow + s)) (q : more ≡ at w (moreRow + s)) where
-    excess-of : more - lack ≡ owed.excess F ev s
-    excess-of = let sums = h .weighed .sums in rw (p, q, sums .lack .is s l, sums .more .is s l) (sym (excess-is F s ev))
+  module _ {short over : ℕ} (l : s < 16) (p : short ≡ at w (shortRow + s)) (q : over ≡ at w (overRow + s)) where
+    excess-of : over - short ≡ owed.excess F ev s
+    excess-of = let sums = h .weighed .sums in rw (p, q, sums .short .is s l, sums .over .is s l) (sym (excess-is F s ev))
 
-    pub netted-more : {a b : ℕ} {m v : List ℕ} → a ≡ unforced F (lack - more) - year.deficit (F .event ev .listing) s → b ≡ more - lack
-        → Stored (lackRow + 16 + s) a w m → Stored (moreRow + 16 + s) b m v → Netted F ev (s + 1) v
+    pub netted-more : {a b : ℕ} {m v : List ℕ} → a ≡ unforced F (short - over) - year.deficit (F .event ev .listing) s → b ≡ over - short
+        → Stored (shortRow + 16 + s) a w m → Stored (overRow + 16 + s) b m v → Netted F ev (s + 1) v
     netted-more f g s1 s2 =
         record {
           upto = omega arith;
@@ -113,14 +113,14 @@ module _ {F : Facts} {ev s : ℕ} {w : List ℕ} (h : Netted F ev s w) where
 
 -- both allotments may begin; all that comes behind them is still 0
 pub record Ready (F : Facts) (ev : ℕ) (w : List ℕ) : Type 0 where
-  pub lack : Abreast F (year.listed (F .event ev .listing)) (owed.lack F ev) (owed.shortfall F ev) lackRow 0 w
-  pub more : Abreast F (year.listed (F .event ev .listing)) (owed.more F ev) (owed.excess F ev) moreRow 0 w
+  pub short : SellerAllotments F (year.listed (F .event ev .listing)) (owed.short F ev) (owed.shortfall F ev) shortRow 0 w
+  pub over : SellerAllotments F (year.listed (F .event ev .listing)) (owed.over F ev) (owed.excess F ev) overRow 0 w
   pub fresh : Row w uRow laterPlaces none
 
 pub netted-all : {F : Facts} {ev : ℕ} {w : List ℕ} → Netted F ev 16 w → Row w uRow laterPlaces none → Ready F ev w
 netted-all h z =
     record {
-      lack = abreast-first (h .weighed .sums .lack) (h .shortfall) (h .weighed .freshLack);
-      more = abreast-first (h .weighed .sums .more) (h .excess) (h .weighed .freshMore);
+      short = allotments-first (h .weighed .sums .short) (h .shortfall) (h .weighed .freshLack);
+      over = allotments-first (h .weighed .sums .over) (h .excess) (h .weighed .freshMore);
       fresh = z;
     }

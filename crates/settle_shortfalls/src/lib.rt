@@ -1,11 +1,11 @@
 // Pass 2 over an event's entries: what each seller's entries lack and give more, and its shortfall and excess from these.
 ghost use mathlib.Core.Path.{_≡_};
 ghost use Prim.Native.Nat.{_+_, _≤_, _<_};
-ghost use Rattle.year_cells.specs.Layout.{Held};
-ghost use Rattle.settle_facts.specs.Looks.{facts};
+ghost use Rattle.year_cells.specs.Layout.{ValidCells};
+ghost use Rattle.settle_facts.specs.CellFacts.{facts};
 ghost use Rattle.settle_table.specs.Columns.{Columns};
 ghost use Rattle.ids.specs.Ids.{at};
-ghost use Rattle.settle_table.specs.Places.{size, lackRow, abreastPlaces, eventPlaces};
+ghost use Rattle.settle_table.specs.Places.{size, shortRow, allotmentPlaces, eventPlaces};
 ghost use Rattle.settle_table.specs.Rows.{Aside, Row, none};
 ghost use Rattle.settle_shortfalls.specs.Sums.{netOf};
 ghost use Rattle.settle_shortfalls.specs.Weighing.{entryAt, Weighed, Netted, Ready};
@@ -21,17 +21,17 @@ pub use off_peak::measure;
 pub use shares::share;
 
 // An entry of an event: whether it is listed, its seller, what it lacks and what it gives more, and its second reduction.
-pub struct Entry {
+pub struct MeasuredEntry {
     pub listed: bool,
     pub seller: usize,
-    pub lack: Nominated,
-    pub more: Nominated,
+    pub short: Nominated,
+    pub over: Nominated,
     pub second: Nominated,
 }
 
 // One look at an entry, held against what its registration committed.
-pub fn entry_at(year: &Cells, work: &Work, ev: usize, i: usize) -> Entry
-    requires { ⌜ Held (now year) ⌝ }
+pub fn entry_at(year: &Cells, work: &Work, ev: usize, i: usize) -> MeasuredEntry
+    requires { ⌜ ValidCells (now year) ⌝ }
     requires { ⌜ (ev < 16) × (i < 64) ⌝ }
     requires { ⌜ Columns (facts (now year)) 64 (now work) ⌝ }
     ensures { λ r. ⌜ r ≡ entryAt (facts (now (year .entry))) ev i ⌝ }
@@ -40,32 +40,32 @@ pub fn entry_at(year: &Cells, work: &Work, ev: usize, i: usize) -> Entry
     let reduction = x.reduction;
     let second = x.second;
     let committed = Nominated::new(settle_table::get(work, settle_table::COMMITTED, i));
-    let lack = committed.less(reduction);
-    let more = reduction.less(committed);
-    Entry {
+    let short = committed.less(reduction);
+    let over = reduction.less(committed);
+    MeasuredEntry {
         listed: x.listed,
         seller: settle_table::get(work, settle_table::SELLER, i) as usize,
-        lack: lack,
-        more: more,
+        short: short,
+        over: over,
         second: second,
     }
 }
 
 // What each seller's entries lack, and what they give more.
 fn sums(year: &Cells, work: &mut Work, ev: usize)
-    requires { ⌜ Held (now year) ⌝ }
+    requires { ⌜ ValidCells (now year) ⌝ }
     requires { ⌜ ev < 16 ⌝ }
     requires { ⌜ Columns (facts (now year)) 64 (now work) ⌝ }
-    requires { ⌜ Row (now work) lackRow abreastPlaces none ⌝ }
+    requires { ⌜ Row (now work) shortRow allotmentPlaces none ⌝ }
     ensures weighed { λ _. ⌜ Weighed (facts (now (year .entry))) ev (now (work .exit)) ⌝ }
-    ensures aside { λ _. ⌜ Aside lackRow abreastPlaces (now (work .entry)) (now (work .exit)) ⌝ }
+    ensures aside { λ _. ⌜ Aside shortRow allotmentPlaces (now (work .entry)) (now (work .exit)) ⌝ }
 {
     let mut i: usize = 0;
     while i < 64 {
         let x = entry_at(year, work, ev, i);
         if x.listed {
-            settle_table::add_at(work, settle_table::LACK, x.seller, x.lack.0);
-            settle_table::add_at(work, settle_table::MORE, x.seller, x.more.0);
+            settle_table::add_at(work, settle_table::SHORT, x.seller, x.short.0);
+            settle_table::add_at(work, settle_table::OVER, x.seller, x.over.0);
         }
         i += 1;
     }
@@ -73,63 +73,63 @@ fn sums(year: &Cells, work: &mut Work, ev: usize)
 
 // What a seller's entries lack and give more in an event, and its shortfall from these.
 pub struct Net {
-    pub lack: Nominated,
-    pub more: Nominated,
+    pub short: Nominated,
+    pub over: Nominated,
     pub shortfall: Unforced,
 }
 
 // A seller's, where the rows from p on have what entries lack and those from p + 80 on what they give more.
 pub fn net_of(year: &Cells, work: &Work, p: usize, s: usize, deficit: Unforced) -> Net
-    requires { ⌜ Held (now year) ⌝ }
+    requires { ⌜ ValidCells (now year) ⌝ }
     requires { ⌜ (p + 96 ≤ size) × (s < 16) ⌝ }
     requires { ⌜ (at (now work) (p + s) ≤ 6400000) × (at (now work) (p + 80 + s) ≤ 6400000) ⌝ }
     ensures { λ r. ⌜ r ≡ netOf (facts (now (year .entry))) (now (work .entry)) p s (deficit .0) ⌝ }
 {
-    let lack = Nominated::sum(settle_table::get(work, p, s));
-    let more = Nominated::sum(settle_table::get(work, p + 80, s));
-    let shortfall = settle_facts::shortfall(year, lack, more, deficit);
+    let short = Nominated::sum(settle_table::get(work, p, s));
+    let over = Nominated::sum(settle_table::get(work, p + 80, s));
+    let shortfall = settle_facts::shortfall(year, short, over, deficit);
     Net {
-        lack: lack,
-        more: more,
+        short: short,
+        over: over,
         shortfall: shortfall,
     }
 }
 
 // Each seller's net, and from it its shortfall and its excess.
 fn nets(year: &Cells, work: &mut Work, ev: usize)
-    requires { ⌜ Held (now year) ⌝ }
+    requires { ⌜ ValidCells (now year) ⌝ }
     requires { ⌜ ev < 16 ⌝ }
     requires { ⌜ Weighed (facts (now year)) ev (now work) ⌝ }
     ensures netted { λ _. ⌜ Netted (facts (now (year .entry))) ev 16 (now (work .exit)) ⌝ }
-    ensures aside { λ _. ⌜ Aside lackRow abreastPlaces (now (work .entry)) (now (work .exit)) ⌝ }
+    ensures aside { λ _. ⌜ Aside shortRow allotmentPlaces (now (work .entry)) (now (work .exit)) ⌝ }
 {
     let mut s: usize = 0;
     while s < 16 {
         let deficit = settle_facts::deficit_of(year, ev, s);
-        let net = net_of(year, work, settle_table::LACK, s, deficit);
-        let lack = net.lack;
-        let more = net.more;
-        let excess = more.less(lack);
+        let net = net_of(year, work, settle_table::SHORT, s, deficit);
+        let short = net.short;
+        let over = net.over;
+        let excess = over.less(short);
         settle_table::put(
             work,
-            settle_table::LACK + settle_table::AMOUNT,
+            settle_table::SHORT + settle_table::AMOUNT,
             s,
             net.shortfall.0,
         );
-        settle_table::put(work, settle_table::MORE + settle_table::AMOUNT, s, excess.0);
+        settle_table::put(work, settle_table::OVER + settle_table::AMOUNT, s, excess.0);
         s += 1;
     }
 }
 
 // The shortfalls and the excesses, ready to be allotted; u, e and the marks of the event's entries are still to come.
 pub fn weigh(year: &Cells, work: &mut Work, ev: usize)
-    requires { ⌜ Held (now year) ⌝ }
+    requires { ⌜ ValidCells (now year) ⌝ }
     requires { ⌜ ev < 16 ⌝ }
     requires { ⌜ Columns (facts (now year)) 64 (now work) ⌝ }
     ensures ready { λ _. ⌜ Ready (facts (now (year .entry))) ev (now (work .exit)) ⌝ }
-    ensures aside { λ _. ⌜ Aside lackRow eventPlaces (now (work .entry)) (now (work .exit)) ⌝ }
+    ensures aside { λ _. ⌜ Aside shortRow eventPlaces (now (work .entry)) (now (work .exit)) ⌝ }
 {
-    settle_table::clear(work, settle_table::LACK, settle_table::EVENT);
+    settle_table::zero(work, settle_table::SHORT, settle_table::EVENT);
     sums(year, work, ev);
     nets(year, work, ev);
 }

@@ -1,11 +1,11 @@
 // What is measured off-peak apart in an event, from what pass 3 left of its entries in the working table: no look at one.
 ghost use mathlib.Core.Path.{_≡_};
 ghost use Prim.Native.Nat.{_+_, _<_};
-ghost use Rattle.year_cells.specs.Layout.{Held};
-ghost use Rattle.settle_facts.specs.Looks.{facts};
+ghost use Rattle.year_cells.specs.Layout.{ValidCells};
+ghost use Rattle.settle_facts.specs.CellFacts.{facts};
 ghost use Rattle.owed.specs.Divisions.{offDivisions};
 ghost use Rattle.owed.specs.Owed.{offU};
-ghost use Rattle.settle_table.specs.Places.{offURow, offLackRow, apartPlaces};
+ghost use Rattle.settle_table.specs.Places.{offURow, offShortRow, offPeakPlaces};
 ghost use Rattle.settle_table.specs.Rows.{Aside, Row, none};
 ghost use Rattle.settle_shortfalls.specs.OffPeak.{Entries, entryAt, sumPlaces, Weighed, Netted, Ready};
 use settle_table::Work;
@@ -14,50 +14,50 @@ use units::Unforced;
 use year_cells::Cells;
 
 // An entry: whether it is measured, its seller, what it lacks off-peak and what it gives more.
-pub struct Entry {
+pub struct OffPeakEntry {
     pub measured: bool,
     pub seller: usize,
-    pub lack: Nominated,
-    pub more: Nominated,
+    pub short: Nominated,
+    pub over: Nominated,
 }
 
 // An event's entry in the table. Limited ones are left out.
-fn entry_at(year: &Cells, work: &Work, ev: usize, i: usize) -> Entry
-    requires { ⌜ Held (now year) ⌝ }
+fn entry_at(year: &Cells, work: &Work, ev: usize, i: usize) -> OffPeakEntry
+    requires { ⌜ ValidCells (now year) ⌝ }
     requires { ⌜ (ev < 16) × (i < 64) ⌝ }
     requires { ⌜ Entries (facts (now year)) ev (now work) ⌝ }
     ensures { λ r. ⌜ r ≡ entryAt (facts (now (year .entry))) ev i ⌝ }
 {
-    let apart = settle_facts::is_apart(year, ev);
+    let dual = settle_facts::is_dual(year, ev);
     let listed = settle_table::get(work, settle_table::LISTED, i);
     let product = settle_table::get(work, settle_table::PRODUCT, i);
     let committed = Nominated::new(settle_table::get(work, settle_table::COMMITTED, i));
     let reduction = Nominated::new(settle_table::get(work, settle_table::SECOND, i));
-    let lack = committed.less(reduction);
-    let more = reduction.less(committed);
-    Entry {
-        measured: apart & ((listed != 0) & (product != calendar::LIMITED)),
+    let short = committed.less(reduction);
+    let over = reduction.less(committed);
+    OffPeakEntry {
+        measured: dual & ((listed != 0) & (product != calendar::LIMITED)),
         seller: settle_table::get(work, settle_table::SELLER, i) as usize,
-        lack: lack,
-        more: more,
+        short: short,
+        over: over,
     }
 }
 
 // What each seller's entries lack, and what they give more.
 fn sums(year: &Cells, work: &mut Work, ev: usize)
-    requires { ⌜ Held (now year) ⌝ }
+    requires { ⌜ ValidCells (now year) ⌝ }
     requires { ⌜ ev < 16 ⌝ }
     requires { ⌜ Entries (facts (now year)) ev (now work) ⌝ }
-    requires { ⌜ Row (now work) offLackRow sumPlaces none ⌝ }
+    requires { ⌜ Row (now work) offShortRow sumPlaces none ⌝ }
     ensures weighed { λ _. ⌜ Weighed (facts (now (year .entry))) ev (now (work .exit)) ⌝ }
-    ensures aside { λ _. ⌜ Aside offLackRow sumPlaces (now (work .entry)) (now (work .exit)) ⌝ }
+    ensures aside { λ _. ⌜ Aside offShortRow sumPlaces (now (work .entry)) (now (work .exit)) ⌝ }
 {
     let mut i: usize = 0;
     while i < 64 {
         let x = entry_at(year, work, ev, i);
         if x.measured {
-            settle_table::add_at(work, settle_table::OFF_LACK, x.seller, x.lack.0);
-            settle_table::add_at(work, settle_table::OFF_MORE, x.seller, x.more.0);
+            settle_table::add_at(work, settle_table::OFF_SHORT, x.seller, x.short.0);
+            settle_table::add_at(work, settle_table::OFF_OVER, x.seller, x.over.0);
         }
         i += 1;
     }
@@ -65,19 +65,19 @@ fn sums(year: &Cells, work: &mut Work, ev: usize)
 
 // Each seller's shortfall, the whole deficit taken off.
 fn nets(year: &Cells, work: &mut Work, ev: usize)
-    requires { ⌜ Held (now year) ⌝ }
+    requires { ⌜ ValidCells (now year) ⌝ }
     requires { ⌜ ev < 16 ⌝ }
     requires { ⌜ Weighed (facts (now year)) ev (now work) ⌝ }
     ensures netted { λ _. ⌜ Netted (facts (now (year .entry))) ev 16 (now (work .exit)) ⌝ }
-    ensures aside { λ _. ⌜ Aside offLackRow sumPlaces (now (work .entry)) (now (work .exit)) ⌝ }
+    ensures aside { λ _. ⌜ Aside offShortRow sumPlaces (now (work .entry)) (now (work .exit)) ⌝ }
 {
     let mut s: usize = 0;
     while s < 16 {
         let deficit = settle_facts::deficit_of(year, ev, s);
-        let net = crate::net_of(year, work, settle_table::OFF_LACK, s, deficit);
+        let net = crate::net_of(year, work, settle_table::OFF_SHORT, s, deficit);
         settle_table::put(
             work,
-            settle_table::OFF_LACK + settle_table::AMOUNT,
+            settle_table::OFF_SHORT + settle_table::AMOUNT,
             s,
             net.shortfall.0,
         );
@@ -87,18 +87,23 @@ fn nets(year: &Cells, work: &mut Work, ev: usize)
 
 // Each measured entry's share of its seller's shortfall; the table then tells each seller's divisions.
 fn share(year: &Cells, work: &mut Work, ev: usize)
-    requires { ⌜ Held (now year) ⌝ }
+    requires { ⌜ ValidCells (now year) ⌝ }
     requires { ⌜ ev < 16 ⌝ }
     requires { ⌜ Ready (facts (now year)) ev (now work) ⌝ }
     ensures shares { λ _. ⌜ Row (now (work .exit)) offURow 64 (offU (facts (now (year .entry))) ev) ⌝ }
-    ensures divisions { λ _. ⌜ Row (now (work .exit)) (offLackRow + 64) 16 (offDivisions (facts (now (year .entry))) ev) ⌝ }
-    ensures aside { λ _. ⌜ Aside offURow apartPlaces (now (work .entry)) (now (work .exit)) ⌝ }
+    ensures divisions { λ _. ⌜ Row (now (work .exit)) (offShortRow + 64) 16 (offDivisions (facts (now (year .entry))) ev) ⌝ }
+    ensures aside { λ _. ⌜ Aside offURow offPeakPlaces (now (work .entry)) (now (work .exit)) ⌝ }
 {
     let mut i: usize = 0;
     while i < 64 {
         let x = entry_at(year, work, ev, i);
         if x.measured {
-            let u = Unforced(settle_table::share(work, settle_table::OFF_LACK, x.seller, x.lack.0));
+            let u = Unforced(settle_table::share(
+                work,
+                settle_table::OFF_SHORT,
+                x.seller,
+                x.short.0,
+            ));
             settle_table::put(work, settle_table::OFF_U, i, u.0);
         }
         i += 1;
@@ -107,15 +112,15 @@ fn share(year: &Cells, work: &mut Work, ev: usize)
 
 // The off-peak u of an event's entries, 0 where nothing is measured apart.
 pub fn measure(year: &Cells, work: &mut Work, ev: usize)
-    requires { ⌜ Held (now year) ⌝ }
+    requires { ⌜ ValidCells (now year) ⌝ }
     requires { ⌜ ev < 16 ⌝ }
     requires { ⌜ Entries (facts (now year)) ev (now work) ⌝ }
-    requires { ⌜ Row (now work) offURow apartPlaces none ⌝ }
+    requires { ⌜ Row (now work) offURow offPeakPlaces none ⌝ }
     ensures shares { λ _. ⌜ Row (now (work .exit)) offURow 64 (offU (facts (now (year .entry))) ev) ⌝ }
-    ensures divisions { λ _. ⌜ Row (now (work .exit)) (offLackRow + 64) 16 (offDivisions (facts (now (year .entry))) ev) ⌝ }
-    ensures aside { λ _. ⌜ Aside offURow apartPlaces (now (work .entry)) (now (work .exit)) ⌝ }
+    ensures divisions { λ _. ⌜ Row (now (work .exit)) (offShortRow + 64) 16 (offDivisions (facts (now (year .entry))) ev) ⌝ }
+    ensures aside { λ _. ⌜ Aside offURow offPeakPlaces (now (work .entry)) (now (work .exit)) ⌝ }
 {
-    if settle_facts::is_apart(year, ev) {
+    if settle_facts::is_dual(year, ev) {
         sums(year, work, ev);
         nets(year, work, ev);
         share(year, work, ev);

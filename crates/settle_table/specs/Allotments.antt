@@ -14,7 +14,7 @@ use Rattle.allotment.specs.declared.Allotment.{Allotment}
 use Rattle.allotment.specs.declared.Share.{Share}
 use Rattle.allotment.specs.Stepper.{Asks, Gives, Before, before-first, share-asks, share-value, share-next, share-skip, divisions-made}
 use Rattle.owed.specs.Facts.{Facts}
-use Rattle.owed.specs.Divisions.{entryOf, divisionsOf}
+use Rattle.owed.specs.Divisions.{sellerEntry, divisionsOf}
 use Rattle.owed.specs.Owed.{ofSeller, shareOf}
 use Rattle.year_cells.specs.Rows.{Off}
 use Rattle.settle_table.specs.Rows.{Stored, Aside, aside-of, Row, none}
@@ -58,13 +58,13 @@ shared-aside l g =
     record { long = g .long; outside = λ k o. g .others k (λ e. o (omega arith) (omega arith)) (λ e. o (omega arith) (omega arith)) (λ e. o (omega arith) (omega arith)) }
 
 -- each seller's amount, before share i
-pub record Abreast (F : Facts) (listed : ℕ → Bool) (weight amount : ℕ → ℕ) (p i : ℕ) (w : List ℕ) : Type 0 where
-  pub before : (s : ℕ) → s < 16 → Before 64 (entryOf F listed s) (keyed (F .seller) weight s) (amount s) i (stepper p w s)
+pub record SellerAllotments (F : Facts) (listed : ℕ → Bool) (weight amount : ℕ → ℕ) (p i : ℕ) (w : List ℕ) : Type 0 where
+  pub before : (s : ℕ) → s < 16 → Before 64 (sellerEntry F listed s) (keyed (F .seller) weight s) (amount s) i (stepper p w s)
 
 -- weights summed up, amounts, and nothing passed
-pub abreast-first : {F : Facts} {listed : ℕ → Bool} {weight amount : ℕ → ℕ} {p : ℕ} {w : List ℕ} → Row w p 16 (λ s. ofSeller F s weight) → Row w (p + 16) 16 amount → Row w (p + 32) 48 none → Abreast F listed weight amount p 0 w
+pub allotments-first : {F : Facts} {listed : ℕ → Bool} {weight amount : ℕ → ℕ} {p : ℕ} {w : List ℕ} → Row w p 16 (λ s. ofSeller F s weight) → Row w (p + 16) 16 amount → Row w (p + 32) 48 none → SellerAllotments F listed weight amount p 0 w
 unfolding ofSeller
-abreast-first {amount = amount} {p} {w} t a z =
+allotments-first {amount = amount} {p} {w} t a z =
     record { before = λ s l. before-first {b = amount s} refl (t .is s l) (record { amount = a .is s l; total = refl; passed = z .is s (omega arith); quotient = last s l; divisions = made s l }) }
   where
     last : (s : ℕ) → s < 16 → at w (p + 48 + s) ≡ amount s * 0 / at w (p + s)
@@ -77,46 +77,46 @@ abreast-first {amount = amount} {p} {w} t a z =
         let q : p + 32 + (32 + s) ≡ p + 64 + s = omega arith in
         rw q at (z .is (32 + s) (omega arith))
 
-module _ {F : Facts} {listed : ℕ → Bool} {weight amount : ℕ → ℕ} {p i : ℕ} {w : List ℕ} (h : Abreast F listed weight amount p i w) where
+module _ {F : Facts} {listed : ℕ → Bool} {weight amount : ℕ → ℕ} {p i : ℕ} {w : List ℕ} (h : SellerAllotments F listed weight amount p i w) where
   -- what is stored elsewhere
-  pub abreast-aside : {q m : ℕ} {v : List ℕ} → Aside q m w v → ((k : ℕ) → p ≤ k → k < p + 80 → Off q m k) → Abreast F listed weight amount p i v
-  abreast-aside {v = v} a o = record { before = λ s l. rw (same s l) (h .before s l) }
+  pub allotments-aside : {q m : ℕ} {v : List ℕ} → Aside q m w v → ((k : ℕ) → p ≤ k → k < p + 80 → Off q m k) → SellerAllotments F listed weight amount p i v
+  allotments-aside {v = v} a o = record { before = λ s l. rw (same s l) (h .before s l) }
     where
       same : (s : ℕ) → s < 16 → stepper p v s ≡ stepper p w s
       same s l =
           let kept : (k : ℕ) → p ≤ k → k < p + 80 → at v k ≡ at w k = λ k x y. a .outside k (o k x y) in
           cc (kept (p + s) (omega arith) (omega arith), kept (p + 16 + s) (omega arith) (omega arith), kept (p + 32 + s) (omega arith) (omega arith), kept (p + 48 + s) (omega arith) (omega arith), kept (p + 64 + s) (omega arith) (omega arith))
 
-  pub abreast-kept : {q x : ℕ} {v : List ℕ} → Stored q x w v → Off p 80 q → Abreast F listed weight amount p i v
-  abreast-kept s o = abreast-aside (aside-of s) (λ k a b c d. o (omega arith) (omega arith))
+  pub allotments-kept : {q x : ℕ} {v : List ℕ} → Stored q x w v → Off p 80 q → SellerAllotments F listed weight amount p i v
+  allotments-kept s o = allotments-aside (aside-of s) (λ k a b c d. o (omega arith) (omega arith))
 
   -- past the last registration, each seller's divisions
-  pub abreast-all : i ≡ 64 → Row w (p + 64) 16 (divisionsOf F listed weight)
+  pub allotments-all : i ≡ 64 → Row w (p + 64) 16 (divisionsOf F listed weight)
   unfolding divisionsOf ofSeller
-  abreast-all q = record { is = λ s l. divisions-made (h .before s l) q }
+  allotments-all q = record { is = λ s l. divisions-made (h .before s l) q }
 
   -- a registration that is not listed, and has no weight
-  pub abreast-none : listed i ≡ false → weight i ≡ 0 → Abreast F listed weight amount p (i + 1) w
-  abreast-none off z =
+  pub allotments-none : listed i ≡ false → weight i ≡ 0 → SellerAllotments F listed weight amount p (i + 1) w
+  allotments-none off z =
       record { before = λ s l. share-skip (h .before s l) (and-false (eqb (F .seller i) s) (listed i) off) (omega (arith, cond-le (eqb (F .seller i) s) {x = weight i} {b = 0} (omega arith))) }
 
   module _ {x : ℕ} (l : F .seller i < 16) (e : x ≡ weight i) where
     own : x ≡ keyed (F .seller) weight (F .seller i) i
     own = rw (eq-eqb (F .seller i) (F .seller i) refl) e
 
-    pub abreast-asks : i < 64 → amount (F .seller i) * ofSeller F (F .seller i) weight < 2 ^ 64 → Asks (stepper p w (F .seller i)) x
+    pub allotments-asks : i < 64 → amount (F .seller i) * ofSeller F (F .seller i) weight < 2 ^ 64 → Asks (stepper p w (F .seller i)) x
     unfolding ofSeller
-    abreast-asks m f = share-asks (h .before (F .seller i) l) m (lit< tt) own f
+    allotments-asks m f = share-asks (h .before (F .seller i) l) m (lit< tt) own f
 
     module _ {v : List ℕ} {r : ℕ} (g : Shared p (F .seller i) x w v r) where
-      pub abreast-value : r ≡ shareOf F weight amount i
+      pub allotments-value : r ≡ shareOf F weight amount i
       unfolding shareOf
-      abreast-value = share-value (h .before (F .seller i) l) own (g .gives)
+      allotments-value = share-value (h .before (F .seller i) l) own (g .gives)
 
-      pub abreast-more : listed i ≡ true → Abreast F listed weight amount p (i + 1) v
-      abreast-more on = record { before = λ s m. go s m (eqb (F .seller i) s) refl }
+      pub allotments-more : listed i ≡ true → SellerAllotments F listed weight amount p (i + 1) v
+      allotments-more on = record { before = λ s m. go s m (eqb (F .seller i) s) refl }
         where
-          go : (s : ℕ) → s < 16 → (b : Bool) → eqb (F .seller i) s ≡ b → Before 64 (entryOf F listed s) (keyed (F .seller) weight s) (amount s) (i + 1) (stepper p v s)
+          go : (s : ℕ) → s < 16 → (b : Bool) → eqb (F .seller i) s ≡ b → Before 64 (sellerEntry F listed s) (keyed (F .seller) weight s) (amount s) (i + 1) (stepper p v s)
           go s m true q = let z = eqb-true (F .seller i) s q in rw (← z) (share-next (h .before (F .seller i) l) own (rw (eq-eqb (F .seller i) (F .seller i) refl) on) (g .gives))
           go s m false q =
               let o = eqb-false (F .seller i) s q in

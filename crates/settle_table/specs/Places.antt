@@ -21,11 +21,11 @@ abbrev pub capRow : ℕ
 capRow = 256
 
 -- the calls of a registration (n), and 1 where any event lists it
-abbrev pub callsRow : ℕ
-callsRow = 320
+abbrev pub dispatchCountRow : ℕ
+dispatchCountRow = 320
 
-abbrev pub calledRow : ℕ
-calledRow = 384
+abbrev pub dispatchedRow : ℕ
+dispatchedRow = 384
 
 -- what is spent of a cap; a seller's charges and credits to date
 abbrev pub spentRow : ℕ
@@ -38,11 +38,11 @@ abbrev pub creditRow : ℕ
 creditRow = 528
 
 -- one event: two allotments abreast, of shortfalls by lacks and of excesses by what is given more, five rows each; u, e, 1 where it is listed, and its second reduction
-abbrev pub lackRow : ℕ
-lackRow = 544
+abbrev pub shortRow : ℕ
+shortRow = 544
 
-abbrev pub moreRow : ℕ
-moreRow = 624
+abbrev pub overRow : ℕ
+overRow = 624
 
 abbrev pub uRow : ℕ
 uRow = 704
@@ -60,11 +60,11 @@ secondRow = 896
 abbrev pub offURow : ℕ
 offURow = 960
 
-abbrev pub offLackRow : ℕ
-offLackRow = 1024
+abbrev pub offShortRow : ℕ
+offShortRow = 1024
 
-abbrev pub offMoreRow : ℕ
-offMoreRow = 1104
+abbrev pub offOverRow : ℕ
+offOverRow = 1104
 
 -- a seller's test charges to date, and an LSE's credit
 abbrev pub testRow : ℕ
@@ -74,40 +74,40 @@ abbrev pub lseRow : ℕ
 lseRow = 1136
 
 -- the place of a registration's test, and its area
-abbrev pub placeRow : ℕ
-placeRow = 1152
+abbrev pub groupRow : ℕ
+groupRow = 1152
 
 abbrev pub areaRow : ℕ
 areaRow = 1216
 
 -- what an area's registrations with a rate of their own committed, what that is worth, and the average
-abbrev pub lentRow : ℕ
-lentRow = 1280
+abbrev pub areaKwRow : ℕ
+areaKwRow = 1280
 
-abbrev pub worthRow : ℕ
-worthRow = 1288
+abbrev pub areaWorthRow : ℕ
+areaWorthRow = 1288
 
 abbrev pub areaRateRow : ℕ
 areaRateRow = 1296
 
 -- how many places there are: of one event's first two allotments, of these and what pass 3 makes of them, of what comes behind the two, of what is measured apart, and of all its rows; of what the passes over events store, and of what holds 0 before them
-abbrev pub abreastPlaces : ℕ
-abreastPlaces = uRow - lackRow
+abbrev pub allotmentPlaces : ℕ
+allotmentPlaces = uRow - shortRow
 
 abbrev pub sharedPlaces : ℕ
-sharedPlaces = offURow - lackRow
+sharedPlaces = offURow - shortRow
 
 abbrev pub laterPlaces : ℕ
 laterPlaces = testRow - uRow
 
-abbrev pub apartPlaces : ℕ
-apartPlaces = testRow - offURow
+abbrev pub offPeakPlaces : ℕ
+offPeakPlaces = testRow - offURow
 
 abbrev pub eventPlaces : ℕ
-eventPlaces = testRow - lackRow
+eventPlaces = testRow - shortRow
 
 abbrev pub passedPlaces : ℕ
-passedPlaces = testRow - callsRow
+passedPlaces = testRow - dispatchCountRow
 
 abbrev pub freshPlaces : ℕ
-freshPlaces = placeRow - callsRow
+freshPlaces = groupRow - dispatchCountRow

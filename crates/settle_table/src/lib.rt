@@ -26,9 +26,9 @@ pub const RATE: usize = 192;
 pub const CAP: usize = 256;
 
 // By registration: how many events of period 1 or 3 list it, and whether any event does (1).
-pub const CALLS: usize = 320;
+pub const DISPATCH_COUNT: usize = 320;
 
-pub const CALLED: usize = 384;
+pub const DISPATCHED: usize = 384;
 
 // By registration what the events so far took of its cap; by seller, 16 places each, their charges and credits to date.
 pub const SPENT: usize = 448;
@@ -42,9 +42,9 @@ pub const CREDIT: usize = 528;
 // whether it is listed (1), and its second reduction.
 pub const EVENT: usize = 576;
 
-pub const LACK: usize = 544;
+pub const SHORT: usize = 544;
 
-pub const MORE: usize = 624;
+pub const OVER: usize = 624;
 
 pub const U: usize = 704;
 
@@ -58,9 +58,9 @@ pub const SECOND: usize = 896;
 // seller what they give more.
 pub const OFF_U: usize = 960;
 
-pub const OFF_LACK: usize = 1024;
+pub const OFF_SHORT: usize = 1024;
 
-pub const OFF_MORE: usize = 1104;
+pub const OFF_OVER: usize = 1104;
 
 // By seller the test charges to date, and by LSE its credit.
 pub const TEST: usize = 1120;
@@ -68,14 +68,14 @@ pub const TEST: usize = 1120;
 pub const LSE: usize = 1136;
 
 // By registration the place of its test, 3 × zone + product, and its area.
-pub const PLACE: usize = 1152;
+pub const GROUP: usize = 1152;
 
 pub const AREA: usize = 1216;
 
 // By area, 8 places each: what those with a rate of their own committed, what that is worth at these rates, and its average.
-pub const LENT: usize = 1280;
+pub const AREA_KW: usize = 1280;
 
-pub const WORTH: usize = 1288;
+pub const AREA_WORTH: usize = 1288;
 
 pub const AREA_RATE: usize = 1296;
 
@@ -106,7 +106,7 @@ pub fn add_at(work: &mut [u64], row: usize, i: usize, x: u64)
 }
 
 // Zeros in the n places from p on.
-pub fn clear(work: &mut [u64], p: usize, n: usize)
+pub fn zero(work: &mut [u64], p: usize, n: usize)
     requires { ⌜ p + n ≤ length (now work) ⌝ }
     ensures zeros { λ _. ⌜ Row (now (work .exit)) p n none ⌝ }
     ensures aside { λ _. ⌜ Aside p n (now (work .entry)) (now (work .exit)) ⌝ }

@@ -15,15 +15,15 @@ use Rattle.ids.specs.Tables.{getD-tabulate}
 use Rattle.units.specs.Units.{convert-zero}
 use Rattle.year.specs.Year.{noTest, retestOf, deficit}
 use Rattle.year.specs.Year as year
-use Rattle.year_cells.specs.Layout.{flag, placeIn, yearIn, Held}
+use Rattle.year_cells.specs.Layout.{flag, groupIn, yearIn, ValidCells}
 use Rattle.year_cells.specs.Regions.{test-in}
 use Rattle.year_tested.specs.Tested.{tested-in, first-in}
-use Rattle.owed.specs.Owed.{D, raised, unforced, ofSeller, called, shortfallOver, testShortfall, B, testOf}
+use Rattle.owed.specs.Owed.{D, raised, unforced, ofSeller, dispatched, shortfallOver, testShortfall, B, testCharge}
 use Rattle.owed.specs.Owed as owed
 use Rattle.owed_laws.specs.Limits.{limits}
-use Rattle.settle_tests.specs.declared.sums.Entry.{Entry}
-use Rattle.settle_facts.specs.Looks.{facts}
-use Rattle.settle_table.specs.Places.{calledRow, placeRow}
+use Rattle.settle_tests.specs.declared.sums.TestEntry.{TestEntry}
+use Rattle.settle_facts.specs.CellFacts.{facts}
+use Rattle.settle_table.specs.Places.{dispatchedRow, groupRow}
 use Rattle.settle_table.specs.Rows.{Row, mark}
 use Rattle.settle_table.specs.Columns.{Columns}
 
@@ -37,12 +37,12 @@ module _ (c : List ℕ) where
   abbrev pub resultAt : ℕ → ℕ
   resultAt i = cond (retestOf (yearIn c) i .taken) (retestOf (yearIn c) i .reduction) (at c (4295 + (64 + i)))
 
-  abbrev pub lookAt : ℕ → Entry
+  abbrev pub lookAt : ℕ → TestEntry
   lookAt i = record { listed = flag (at c (4295 + i)); reduction = record { 0 = resultAt i } }
 
   -- does it stand: is it listed, and its registration by no event
   unfoldable pub stands : ℕ → Bool
-  stands i = lookAt i .listed && not (called (facts c) i)
+  stands i = lookAt i .listed && not (dispatched (facts c) i)
 
   -- is the test at a place taken
   abbrev pub takenAt : ℕ → Bool
@@ -51,16 +51,16 @@ module _ (c : List ℕ) where
   -- what the passes read of the working table
   pub record Ready (w : List ℕ) : Type 0 where
     pub columns : Columns (facts c) 64 w
-    pub called : Row w calledRow 64 (λ i. mark (called (facts c) i))
-    pub place : Row w placeRow 64 (placeIn c)
+    pub dispatched : Row w dispatchedRow 64 (λ i. mark (dispatched (facts c) i))
+    pub group : Row w groupRow 64 (groupIn c)
 
   pub stands-off : (i : ℕ) → lookAt i .listed ≡ false → false ≡ stands i
   unfolding stands
   stands-off i e = rw e
 
-  pub stands-on : (i : ℕ) {x : ℕ} → lookAt i .listed ≡ true → x ≡ mark (called (facts c) i) → eqb x 0 ≡ stands i
+  pub stands-on : (i : ℕ) {x : ℕ} → lookAt i .listed ≡ true → x ≡ mark (dispatched (facts c) i) → eqb x 0 ≡ stands i
   unfolding stands
-  stands-on i e f = rw (e, f) (go (called (facts c) i))
+  stands-on i e f = rw (e, f) (go (dispatched (facts c) i))
     where
       go : (b : Bool) → eqb (mark b) 0 ≡ not b
       go true = refl
@@ -73,11 +73,11 @@ module _ (c : List ℕ) where
     deficit-in {s} m = rw (test-in c noTest l) (getD-tabulate (λ j. at c (3863 + 18 * p + (2 + j))) 16 s 0 m)
 
     -- a test that was not taken charges nothing
-    module _ (h : Held c) (off : takenAt p ≡ false) where
+    module _ (h : ValidCells c) (off : takenAt p ≡ false) where
       none-stands : (s : ℕ) (f : ℕ → ℕ) → ofSeller (facts c) s (only (owed.stands (facts c) p) f) ≡ 0
       unfolding ofSeller
       none-stands s f =
-          sum-zero 64 (λ i m. go (eqb (facts c .seller i) s) (not (called (facts c) i)) (f i) (h .sound .tests p l .untaken off i m))
+          sum-zero 64 (λ i m. go (eqb (facts c .seller i) s) (not (dispatched (facts c) i)) (f i) (h .sound .tests p l .untaken off i m))
         where
           go : (a d : Bool) (x : ℕ) {t : Bool} → t ≡ false → cond a (cond (t && d) x 0) 0 ≡ 0
           go true d x e = rw e
@@ -90,17 +90,17 @@ module _ (c : List ℕ) where
           let net : ofSeller F s (only (owed.stands F p) (year.committed (F .terms))) - ofSeller F s (only (owed.stands F p) (owed.result F p)) ≡ 0 = omega (arith, none-stands s (year.committed (F .terms))) in
           rw (net, convert-zero (F .terms .factor) (F .terms .requirement)) (zero-sub (year.deficit (F .test p .listing) s))
 
-      pub untaken : (k s : ℕ) → testOf (facts c) k p s ≡ 0
-      unfolding testOf
+      pub untaken : (k s : ℕ) → testCharge (facts c) k p s ≡ 0
+      unfolding testCharge
       untaken k s = rw (none-short s, zero-mul (raised (B (facts c) p s)), zero-mul (D (facts c) k))
 
 -- without any test
-pub none-taken : {c : List ℕ} → Held c → (k s : ℕ) → anyTo 24 (takenAt c) ≡ false → 0 ≡ owed.test (facts c) k s
+pub none-taken : {c : List ℕ} → ValidCells c → (k s : ℕ) → anyTo 24 (takenAt c) ≡ false → 0 ≡ owed.test (facts c) k s
 unfolding owed.test
 none-taken {c} h k s e = sym (sum-zero 24 (λ p l. untaken c l h (none-at 24 (takenAt c) e p l) k s))
 
-module _ {c : List ℕ} (h : Held c) where
-  pub tested-at : (p : ℕ) {i : ℕ} → i < 64 → year.listed (facts c .test p .listing) i ≡ (lookAt c i .listed && eqb (placeIn c i) p)
+module _ {c : List ℕ} (h : ValidCells c) where
+  pub tested-at : (p : ℕ) {i : ℕ} → i < 64 → year.listed (facts c .test p .listing) i ≡ (lookAt c i .listed && eqb (groupIn c i) p)
   tested-at p m = tested-in c (h .sound) p m
 
   -- the result of an entry that the test lists
@@ -111,13 +111,13 @@ module _ {c : List ℕ} (h : Held c) where
   -- within limits
   listed-le : (i : ℕ) → i < 64 → lookAt c i .listed ≡ true → lookAt c i .reduction .0 ≤ 100000
   listed-le i m on =
-      let p = placeIn c i in
+      let p = groupIn c i in
       let here : year.listed (facts c .test p .listing) i ≡ true = tested-at p m ∙ rw on (eq-eqb p p refl) in
       rw (result-at p m here) (limits (h .sound) .result p i)
 
   pub reduction-le : (i : ℕ) → i < 64 → only (stands c) (λ j. lookAt c j .reduction .0) i ≤ 100000
   unfolding stands
-  reduction-le i m = go (lookAt c i .listed) (not (called (facts c) i)) (listed-le i m)
+  reduction-le i m = go (lookAt c i .listed) (not (dispatched (facts c) i)) (listed-le i m)
     where
       go : (t d : Bool) {x : ℕ} → (t ≡ true → x ≤ 100000) → cond (t && d) x 0 ≤ 100000
       go true d f = cond-le d (f refl)

@@ -12,15 +12,15 @@ use Rattle.ids.specs.Ids.{at, sumTo, only, keyed}
 use Rattle.ids.specs.Sums.{sum-same}
 use Rattle.ids.specs.Tests.{cond-le}
 use Rattle.year.specs.Year as year
-use Rattle.year_cells.specs.Layout.{placeIn, Held}
-use Rattle.year_tested.specs.Tested.{place-below}
+use Rattle.year_cells.specs.Layout.{groupIn, ValidCells}
+use Rattle.year_tested.specs.Tested.{group-below}
 use Rattle.owed.specs.Facts.{Facts}
-use Rattle.owed.specs.Owed.{unforced, ofSeller, called, shortfallOver, testShortfall, B}
+use Rattle.owed.specs.Owed.{unforced, ofSeller, dispatched, shortfallOver, testShortfall, B}
 use Rattle.owed.specs.Owed as owed
 use Rattle.owed_laws.specs.Limits.{limits}
 use Rattle.owed_laws.specs.Sellers.{ofSeller-le}
 use Rattle.owed_laws.specs.Bounds.{committed-le, worth-le}
-use Rattle.settle_facts.specs.Looks.{facts}
+use Rattle.settle_facts.specs.CellFacts.{facts}
 use Rattle.settle_table.specs.Rows.{Stored, Row, Grown, none, row-within, grown-first, grown-kept, grown-none, grown-more, grown-most}
 use Rattle.settle_tests.specs.declared.sums.Addend.{Addend}
 use Rattle.settle_tests.specs.Entries.{lookAt, stands, tested-at, result-at, reduction-le}
@@ -37,7 +37,7 @@ key-eqb p q {s} {t} l m = go (eqb s t) (eqb p q) refl refl
 module _ (c : List ℕ) where
   -- an entry's place and seller, and what it adds: committed kilowatts, its reduction, and committed kilowatts times their rate
   abbrev pub keyAt : ℕ → ℕ
-  keyAt i = 16 * placeIn c i + facts c .seller i
+  keyAt i = 16 * groupIn c i + facts c .seller i
 
   abbrev pub committedAt : ℕ → ℕ
   committedAt = only (stands c) (year.committed (facts c .terms))
@@ -92,11 +92,11 @@ module _ (c : List ℕ) where
           worth = grown-more (grown-kept (grown-kept (h .worth) s₁ (λ a b. omega arith)) s₂ (λ a b. omega arith)) s₃ l refl (rw on);
         }
 
-pub key-below : {c : List ℕ} → Held c → (i : ℕ) → keyAt c i < 384
-key-below {c} H i = omega (arith, place-below c (H .sound) i, limits (H .sound) .seller i)
+pub key-below : {c : List ℕ} → ValidCells c → (i : ℕ) → keyAt c i < 384
+key-below {c} H i = omega (arith, group-below c (H .sound) i, limits (H .sound) .seller i)
 
 -- room for one more
-module _ {c : List ℕ} (H : Held c) {i : ℕ} (b : i ≤ 64) {w : List ℕ} (h : Summing c i w) (k : ℕ) (m : k < 384) where
+module _ {c : List ℕ} (H : ValidCells c) {i : ℕ} (b : i ≤ 64) {w : List ℕ} (h : Summing c i w) (k : ℕ) (m : k < 384) where
   pub committed-room : at w (0 + k) ≤ 6400000
   committed-room =
       grown-most (h .committed) 0 100000 b (λ j l. le-refl 0) (λ j l. cond-le (stands c j) (limits (H .sound) .committed j)) k m
@@ -111,7 +111,7 @@ module _ {c : List ℕ} (H : Held c) {i : ℕ} (b : i ≤ 64) {w : List ℕ} (h 
       (λ j l. cond-le (stands c j) (mul-le-mul (limits (H .sound) .committed j) (limits (H .sound) .rate j))) k m
 
 -- the sums are those of each test's entries
-module _ {c : List ℕ} (H : Held c) {p s : ℕ} (l : p < 24) (m : s < 16) where
+module _ {c : List ℕ} (H : ValidCells c) {p s : ℕ} (l : p < 24) (m : s < 16) where
   abbrev F : Facts
   F = facts c
 
@@ -119,8 +119,8 @@ module _ {c : List ℕ} (H : Held c) {p s : ℕ} (l : p < 24) (m : s < 16) where
       → sumTo 64 (keyed (keyAt c) (only (stands c) h) (16 * p + s)) ≡ ofSeller F s (only (owed.stands F p) g)
   unfolding ofSeller stands
   sums-same g h e =
-      sum-same 64 (λ i b. rw (key-eqb (placeIn c i) p (limits (H .sound) .seller i) m)
-      (go (eqb (F .seller i) s) (eqb (placeIn c i) p) (lookAt c i .listed) (called F i) (year.listed (F .test p .listing) i) (tested-at H p b) (g i) (h i) (e i b)))
+      sum-same 64 (λ i b. rw (key-eqb (groupIn c i) p (limits (H .sound) .seller i) m)
+      (go (eqb (F .seller i) s) (eqb (groupIn c i) p) (lookAt c i .listed) (dispatched F i) (year.listed (F .test p .listing) i) (tested-at H p b) (g i) (h i) (e i b)))
     where
       parts : (a b m d : Bool) (x y : ℕ) → ((m && b) ≡ true → y ≡ x) → cond (a && b) (cond (m && not d) y 0) 0 ≡ cond a (cond ((m && b) && not d) x 0) 0
       parts false b m d x y e = refl

@@ -3,9 +3,9 @@ ghost use mathlib.Core.Path.{_≡_};
 ghost use Prim.Native.Nat.{_*_, _/_, _≤_, _<_};
 ghost use Rattle.ids.specs.Ids.{anyTo};
 ghost use Rattle.year.specs.Year.{deficit};
-ghost use Rattle.year_cells.specs.Layout.{Held};
+ghost use Rattle.year_cells.specs.Layout.{ValidCells};
 ghost use Rattle.owed.specs.Owed.{testShortfall, B, raised, test};
-ghost use Rattle.settle_facts.specs.Looks.{facts};
+ghost use Rattle.settle_facts.specs.CellFacts.{facts};
 ghost use Rattle.settle_table.specs.Places.{testRow};
 ghost use Rattle.settle_table.specs.Rows.{Aside, Row, none};
 ghost use Rattle.settle_tests.specs.Entries.{takenAt, Ready};
@@ -20,12 +20,12 @@ use year_cells::Cells;
 mod sums;
 
 // A seller's deficit in the test at a place, 0 where it is absent.
-fn deficit_of(year: &Cells, place: usize, s: usize) -> Unforced
-    requires { ⌜ Held (now year) ⌝ }
-    requires { ⌜ (place < 24) × (s < 16) ⌝ }
-    ensures { λ r. ⌜ r .0 ≡ deficit (facts (now (year .entry)) .test place .listing) s ⌝ }
+fn deficit_of(year: &Cells, group: usize, s: usize) -> Unforced
+    requires { ⌜ ValidCells (now year) ⌝ }
+    requires { ⌜ (group < 24) × (s < 16) ⌝ }
+    ensures { λ r. ⌜ r .0 ≡ deficit (facts (now (year .entry)) .test group .listing) s ⌝ }
 {
-    let p = year_cells::TESTS + year_cells::TEST * place;
+    let p = year_cells::TESTS + year_cells::TEST * group;
     Unforced::sum(year[p + (year_cells::TEST_DEFICITS + s)])
 }
 
@@ -44,16 +44,16 @@ fn rate_of(worth: u64, committed: Nominated) -> u64
 }
 
 // A seller's charge of the test at a place: its shortfall at the test's rate, and the days before the rounding.
-fn charge_of(year: &Cells, sums: &Sums, place: usize, s: usize, days: u64) -> u64
-    requires { ⌜ Held (now year) ⌝ }
+fn charge_of(year: &Cells, sums: &Sums, group: usize, s: usize, days: u64) -> u64
+    requires { ⌜ ValidCells (now year) ⌝ }
     requires { ⌜ Summed (now year) (now sums) ⌝ }
-    requires { ⌜ (place < 24) × (s < 16) × (days ≤ 366) ⌝ }
-    ensures { λ r. ⌜ r ≡ testShortfall (facts (now (year .entry))) place s * raised (B (facts (now (year .entry))) place s) * days / 1000 ⌝ }
+    requires { ⌜ (group < 24) × (s < 16) × (days ≤ 366) ⌝ }
+    ensures { λ r. ⌜ r ≡ testShortfall (facts (now (year .entry))) group s * raised (B (facts (now (year .entry))) group s) * days / 1000 ⌝ }
 {
-    let key = 16 * place + s;
+    let key = 16 * group + s;
     let committed = Nominated::sum(sums[sums::COMMITTED + key]);
     let reduction = Nominated::sum(sums[sums::REDUCTION + key]);
-    let deficit = deficit_of(year, place, s);
+    let deficit = deficit_of(year, group, s);
     let shortfall = settle_facts::shortfall(year, committed, reduction, deficit);
     let rate = rate_of(sums[sums::WORTH + key], committed);
     shortfall.0 * rate * days / 1000
@@ -61,19 +61,19 @@ fn charge_of(year: &Cells, sums: &Sums, place: usize, s: usize, days: u64) -> u6
 
 // A seller's test charges to date. A place without a test costs nothing.
 fn test_of(year: &Cells, sums: &Sums, s: usize, k: u64) -> u64
-    requires { ⌜ Held (now year) ⌝ }
+    requires { ⌜ ValidCells (now year) ⌝ }
     requires { ⌜ Summed (now year) (now sums) ⌝ }
     requires { ⌜ (s < 16) × (1 ≤ k) × (k ≤ 15) ⌝ }
     ensures { λ r. ⌜ r ≡ test (facts (now (year .entry))) k s ⌝ }
 {
     let days = settle_facts::days_to(year, k);
     let mut sum: u64 = 0;
-    let mut place: usize = 0;
-    while place < 24 {
-        if year_tested::test_taken(year, place) {
-            sum += charge_of(year, sums, place, s, days);
+    let mut group: usize = 0;
+    while group < 24 {
+        if year_tested::test_taken(year, group) {
+            sum += charge_of(year, sums, group, s, days);
         }
-        place += 1;
+        group += 1;
     }
     sum
 }
@@ -82,19 +82,19 @@ fn test_of(year: &Cells, sums: &Sums, s: usize, k: u64) -> u64
 fn any_taken(year: &Cells) -> bool
     ensures { λ r. ⌜ r ≡ anyTo 24 (takenAt (now (year .entry))) ⌝ }
 {
-    let mut place: usize = 0;
-    while place < 24 {
-        if year_tested::test_taken(year, place) {
+    let mut group: usize = 0;
+    while group < 24 {
+        if year_tested::test_taken(year, group) {
             return true;
         }
-        place += 1;
+        group += 1;
     }
     false
 }
 
 // The test charges to date of each seller.
 pub fn charge_tests(year: &Cells, work: &mut Work, k: u64)
-    requires { ⌜ Held (now year) ⌝ }
+    requires { ⌜ ValidCells (now year) ⌝ }
     requires { ⌜ Ready (now year) (now work) ⌝ }
     requires { ⌜ Row (now work) testRow 16 none ⌝ }
     requires { ⌜ (1 ≤ k) × (k ≤ 15) ⌝ }

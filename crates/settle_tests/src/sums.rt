@@ -4,7 +4,7 @@ ghost use mathlib.Core.Bool.{cond};
 ghost use Prim.Native.Nat.{_<_};
 ghost use lib.ListN.{length};
 ghost use Rattle.ids.specs.Ids.{tabulate};
-ghost use Rattle.year_cells.specs.Layout.{Held};
+ghost use Rattle.year_cells.specs.Layout.{ValidCells};
 ghost use Rattle.settle_table.specs.Rows.{Row, none};
 ghost use Rattle.settle_tests.specs.Entries.{lookAt, stands, Ready};
 ghost use Rattle.settle_tests.specs.Sums.{addendAt, Summed};
@@ -22,7 +22,7 @@ pub const REDUCTION: usize = 384;
 
 pub const WORTH: usize = 768;
 
-pub struct Entry {
+pub struct TestEntry {
     pub listed: bool,
     pub reduction: Nominated,
 }
@@ -39,14 +39,14 @@ fn result(first: u64, retest: Retest) -> Nominated
 }
 
 // One look at an entry of a test and at that of its retest: nothing else in the closing reads them.
-fn look(year: &Cells, i: usize) -> Entry
+fn look(year: &Cells, i: usize) -> TestEntry
     requires { ⌜ i < 64 ⌝ }
     ensures { λ r. ⌜ r ≡ lookAt (now (year .entry)) i ⌝ }
 {
     let listed = year[year_cells::TESTED + i] != 0;
     let retest = year_tested::retest_at(year, i);
     let reduction = result(year[year_cells::TESTED + (64 + i)], retest);
-    Entry { listed, reduction }
+    TestEntry { listed, reduction }
 }
 
 // Pass 1: which entries stand, since no event lists their registrations.
@@ -59,7 +59,7 @@ fn standing(year: &Cells, work: &Work) -> [bool; 64]
     while i < 64 {
         let x = look(year, i);
         if x.listed {
-            r[i] = settle_table::get(work, settle_table::CALLED, i) == 0;
+            r[i] = settle_table::get(work, settle_table::DISPATCHED, i) == 0;
         }
         i += 1;
     }
@@ -76,7 +76,7 @@ pub struct Addend {
 
 // Pass 2: one look at an entry, with its registration's terms.
 fn addend_of(year: &Cells, work: &Work, i: usize) -> Addend
-    requires { ⌜ Held (now year) ⌝ }
+    requires { ⌜ ValidCells (now year) ⌝ }
     requires { ⌜ Ready (now year) (now work) ⌝ }
     requires { ⌜ i < 64 ⌝ }
     ensures { λ r. ⌜ r ≡ addendAt (now (year .entry)) i ⌝ }
@@ -84,7 +84,7 @@ fn addend_of(year: &Cells, work: &Work, i: usize) -> Addend
     let x = look(year, i);
     let reduction = x.reduction;
     let committed = Nominated::new(settle_table::get(work, settle_table::COMMITTED, i));
-    let key = 16 * settle_table::get(work, settle_table::PLACE, i)
+    let key = 16 * settle_table::get(work, settle_table::GROUP, i)
         + settle_table::get(work, settle_table::SELLER, i);
     Addend {
         key: key as usize,
@@ -96,7 +96,7 @@ fn addend_of(year: &Cells, work: &Work, i: usize) -> Addend
 
 // The sums of all entries that stand.
 pub fn sum_up(year: &Cells, work: &Work, sums: &mut Sums)
-    requires { ⌜ Held (now year) ⌝ }
+    requires { ⌜ ValidCells (now year) ⌝ }
     requires { ⌜ Ready (now year) (now work) ⌝ }
     requires { ⌜ (length (now sums) ≡ 1152) × Row (now sums) 0 1152 none ⌝ }
     ensures { λ _. ⌜ Summed (now (year .entry)) (now (sums .exit)) ⌝ }

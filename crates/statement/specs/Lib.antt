@@ -9,4 +9,4 @@ pub mod ReadBack
 pub mod Reading
 pub mod Starts
 pub mod ReadBackLaws
-pub mod Laid
+pub mod WrittenFields

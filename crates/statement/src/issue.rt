@@ -8,7 +8,7 @@ ghost use Rattle.year.specs.Sound.{SoundTerms, SoundAmounts};
 ghost use Rattle.bits_write.specs.Written.{writtenBits, Ready};
 ghost use Rattle.statement.specs.Statement.{difference, sellerColumns, lineFields, sellerFields, lseFields, linesTo, statementOf};
 ghost use Rattle.statement.specs.Columns.{Columns};
-ghost use Rattle.statement.specs.Laid.{Laid};
+ghost use Rattle.statement.specs.WrittenFields.{WrittenFields};
 use crate::count;
 use crate::obliged;
 use crate::present;
@@ -58,7 +58,7 @@ fn put_line(
     requires { ⌜ id < 16 ⌝ }
     requires { ⌜ Columns n (now owed) × Columns n (now billed) ⌝ }
     requires { ⌜ writtenBits w + (4 + 42 * n) ≤ 8 * length (now bytes) ⌝ }
-    ensures { λ r. ⌜ Laid (now (bytes .entry)) (now (bytes .exit)) w r (lineFields n (now (owed .entry)) (now (billed .entry)) id) ⌝ }
+    ensures { λ r. ⌜ WrittenFields (now (bytes .entry)) (now (bytes .exit)) w r (lineFields n (now (owed .entry)) (now (billed .entry)) id) ⌝ }
 {
     let mut r = w.put(bytes, 4, id as u64);
     let mut k: usize = 0;
@@ -82,7 +82,7 @@ fn put_lines(
     requires { ⌜ Ready w ⌝ }
     requires { ⌜ Columns n (now owed) × Columns n (now billed) ⌝ }
     requires { ⌜ writtenBits w + (4 + 42 * n) * 16 ≤ 8 * length (now bytes) ⌝ }
-    ensures { λ r. ⌜ Laid (now (bytes .entry)) (now (bytes .exit)) w r (linesTo 16 (holds marks) (lineFields n (now (owed .entry)) (now (billed .entry)))) ⌝ }
+    ensures { λ r. ⌜ WrittenFields (now (bytes .entry)) (now (bytes .exit)) w r (linesTo 16 (holds marks) (lineFields n (now (owed .entry)) (now (billed .entry)))) ⌝ }
 {
     let mut r = w;
     let mut id: usize = 0;
@@ -107,7 +107,7 @@ fn put_parties(
     requires { ⌜ Ready w ⌝ }
     requires { ⌜ SoundAmounts owed × SoundAmounts billed ⌝ }
     requires { ⌜ writtenBits w + 2816 ≤ 8 * length (now bytes) ⌝ }
-    ensures { λ r. ⌜ Laid (now (bytes .entry)) (now (bytes .exit)) w r (linesTo 16 (holds sellers) (sellerFields owed billed) ++ linesTo 16 (holds lses) (lseFields owed billed)) ⌝ }
+    ensures { λ r. ⌜ WrittenFields (now (bytes .entry)) (now (bytes .exit)) w r (linesTo 16 (holds sellers) (sellerFields owed billed) ++ linesTo 16 (holds lses) (lseFields owed billed)) ⌝ }
 {
     let lines = put_lines(w, bytes, sellers, 3, &columns(owed), &columns(billed));
     put_lines(lines, bytes, lses, 1, &owed.lse, &billed.lse)

@@ -26,18 +26,18 @@ abbrev pub kwIn : Sample → ℕ
 kwIn s = eighthsIn s / 8
 
 -- more than 100,000 kW are too much
-unfoldable pub limited : ℕ → Reduced
-limited kw = cond (leb kw 100000) (Kw kw) TooMuch
+unfoldable pub withinLimit : ℕ → Reduced
+withinLimit kw = cond (leb kw 100000) (Kw kw) TooMuch
 
 -- a value that doesn't count comes first
 unfoldable pub reductionOf : Sample → Reduced
-reductionOf s = cond (allCount s) (limited (kwIn s)) NotCounted
+reductionOf s = cond (allCount s) (withinLimit (kwIn s)) NotCounted
 
 -- the number of an answer, and its kW, 0 where it is refused
-abbrev pub numberOf : Reduced → ℕ
-numberOf (Kw k) = 0
-numberOf NotCounted = 18
-numberOf TooMuch = 19
+abbrev pub sampleNumber : Reduced → ℕ
+sampleNumber (Kw k) = 0
+sampleNumber NotCounted = 18
+sampleNumber TooMuch = 19
 
 abbrev pub kwOf : Reduced → ℕ
 kwOf (Kw k) = k
@@ -46,7 +46,7 @@ kwOf TooMuch = 0
 
 -- what a call on a sample answers: its number and its kW
 pub record Answers (s : Sample) (number kw : ℕ) : Type 0 where
-  pub numbers : number ≡ numberOf (reductionOf s)
+  pub numbers : number ≡ sampleNumber (reductionOf s)
   pub kilowatts : kw ≡ kwOf (reductionOf s)
 
 -- Worked by hand, each value by its bit pattern.
@@ -57,7 +57,7 @@ abbrev pair : ℕ → ℕ → Sample
 pair expected metered = Pair (ofBits binary32 expected) (ofBits binary32 metered)
 
 abbrev answer : Sample → ℕ × ℕ
-answer s = (numberOf (reductionOf s), kwOf (reductionOf s))
+answer s = (sampleNumber (reductionOf s), kwOf (reductionOf s))
 
 figures : map answer (
     -- minus zero; 0.875 and 100,000.875, whose eighths are dropped; 100,001 and 131,071.875; 0.0625 and 131,072; a NaN
@@ -75,5 +75,5 @@ figures : map answer (
     ∷ (0, 100000) ∷ (19, 0)
     ∷ (18, 0) ∷ (18, 0) ∷ (18, 0) ∷ (18, 0) ∷ (18, 0) ∷ (18, 0)
     ∷ [])
-unfolding counts eighthsOf limited reductionOf ofBits
+unfolding counts eighthsOf withinLimit reductionOf ofBits
 figures = refl

@@ -1,6 +1,6 @@
 // A sample of telemetry answered by its number and its kW.
 ghost use mathlib.Core.Path.{_≡_};
-ghost use Rattle.telemetry.specs.Reduction.{numberOf, kwOf, Answers};
+ghost use Rattle.telemetry.specs.Reduction.{sampleNumber, kwOf, Answers};
 use crate::Reduced;
 use crate::Sample;
 use crate::reduction;
@@ -15,7 +15,7 @@ pub fn answer(sample: Sample, kw: &mut u64) -> u64
 }
 
 fn number_of(reduced: Reduced) -> u64
-    ensures { λ r. ⌜ r ≡ numberOf reduced ⌝ }
+    ensures { λ r. ⌜ r ≡ sampleNumber reduced ⌝ }
 {
     match reduced {
         Reduced::Kw(_) => 0,

@@ -1,6 +1,6 @@
 // Reductions from telemetry: a sample of binary32 kilowatts becomes the kW of an entry, exactly, or a number.
 ghost use mathlib.Core.Path.{_≡_};
-ghost use Rattle.telemetry.specs.Reduction.{limited, reductionOf};
+ghost use Rattle.telemetry.specs.Reduction.{withinLimit, reductionOf};
 ghost use Rattle.telemetry.specs.declared.Sample.the-variants.{Pair};
 use telemetry_eighths::Loads;
 use telemetry_eighths::counts;
@@ -43,15 +43,15 @@ fn of_loads(l: Loads) -> Reduced
 {
     if counts(l.expected) {
         if counts(l.metered) {
-            return limited(whole_kw(less(l)));
+            return within_limit(whole_kw(less(l)));
         }
     }
     Reduced::NotCounted
 }
 
 // The answer with these kW, unless they are too much for an entry.
-fn limited(kw: u64) -> Reduced
-    ensures { λ r. ⌜ r ≡ limited kw ⌝ }
+fn within_limit(kw: u64) -> Reduced
+    ensures { λ r. ⌜ r ≡ withinLimit kw ⌝ }
 {
     if kw > 100000 {
         return Reduced::TooMuch;

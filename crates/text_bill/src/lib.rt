@@ -72,7 +72,7 @@ fn put_amounts(statement: &[u8], n: usize, out: &mut [u8], from: Place) -> Place
     let mut place = from;
     let mut i: usize = 0;
     while i < n {
-        let amount = place.next.take(statement, 42);
+        let amount = place.next.read_field(statement, 42);
         let at = put_amount(amount.value, out, place.at);
         let next = amount.next;
         place = Place { at: at, next: next };
@@ -89,7 +89,7 @@ fn put_party(statement: &[u8], sort: Sort, out: &mut [u8], from: Place) -> Place
     ensures { λ r. ⌜ Pasted (now (out .entry)) (now (out .exit)) (from .at) (partyLine (now (statement .entry)) (sort .letter) (sort .amounts) (from .next .at)) (r .at) ⌝ }
     ensures { λ r. ⌜ (r .at ≤ from .at + (23 + 22 * sort .amounts)) × (r .next .at ≡ from .next .at + (4 + 42 * sort .amounts)) ⌝ }
 {
-    let id = from.next.take(statement, 4);
+    let id = from.next.read_field(statement, 4);
     let mut p = put_byte(out, from.at, sort.letter);
     p = put_number(out, p, id.value);
     let next = id.next;
@@ -125,9 +125,9 @@ fn statement_lines(statement: &[u8], out: &mut [u8], at: usize) -> usize
     requires { ⌜ at + room ≤ length (now out) ⌝ }
     ensures { λ r. ⌜ Pasted (now (out .entry)) (now (out .exit)) at (statementLines (now (statement .entry))) r ⌝ }
 {
-    let month = Cursor::first().take(statement, 4);
-    let sellers = month.next.take(statement, 5);
-    let lses = sellers.next.take(statement, 5);
+    let month = Cursor::first().read_field(statement, 4);
+    let sellers = month.next.read_field(statement, 5);
+    let lses = sellers.next.read_field(statement, 5);
     let p = put_month(month.value, out, at);
     let seller = Sort {
         letter: b'S',

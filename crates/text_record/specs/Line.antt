@@ -7,7 +7,7 @@ use native.Mathlib.Omega.{arith}
 use lib.Dec.{eqb}
 use lib.ListN.{length, take, replicate, length-append}
 use lib.Seq.{take-append-seam}
-use Rattle.record_layouts.specs.Layout.{most}
+use Rattle.record_layouts.specs.Layout.{mostNumbers}
 use Rattle.record_layouts.specs.Questions.{numbersOf, recordNumber, row}
 use Rattle.record_numbers.specs.Calls.{Fills}
 use Rattle.record_numbers.specs.Accepted.{accepted, taken-numbers, numbers-few}
@@ -20,7 +20,7 @@ recordLine position bytes = cond (eqb (recordNumber bytes) 0) (numbersLine (numb
 
 -- room for it: a number has at most 20 digits and one character beside it, and there is a newline
 abbrev pub lineRoom : ℕ
-lineRoom = 21 * most + 1
+lineRoom = 21 * mostNumbers + 1
 
 module _ (bytes : List ℕ) {number used count : ℕ} {values : List ℕ} (p : Fills bytes number used count values) (e : number ≡ 0) where
   zero : recordNumber bytes ≡ 0
@@ -32,13 +32,13 @@ module _ (bytes : List ℕ) {number used count : ℕ} {values : List ℕ} (p : F
   rows : values ≡ row (numbersOf bytes)
   rows = p .rows zero
 
-  pub count-few : count ≤ most
+  pub count-few : count ≤ mostNumbers
   count-few = omega (arith, counts, numbers-few bytes (accepted bytes zero))
 
   pub count-within : count ≤ length values
   unfolding row
-  count-within = omega (arith, counts, ap length rows, length-append (numbersOf bytes) (replicate (most - length (numbersOf bytes)) 0))
+  count-within = omega (arith, counts, ap length rows, length-append (numbersOf bytes) (replicate (mostNumbers - length (numbersOf bytes)) 0))
 
   pub values-front : take count values ≡ numbersOf bytes
   unfolding row
-  values-front = rw (counts, rows) (take-append-seam (numbersOf bytes) (replicate (most - length (numbersOf bytes)) 0))
+  values-front = rw (counts, rows) (take-append-seam (numbersOf bytes) (replicate (mostNumbers - length (numbersOf bytes)) 0))

@@ -13,7 +13,7 @@ use lib.Seq.{length-take-le, take-all, take-at, drop-drop}
 use Rattle.ids.specs.Ids.{at}
 use Rattle.ids.specs.Tests.{and-parts}
 use Rattle.bits.specs.PackLaws.{length-encode}
-use Rattle.record_layouts.specs.Layout.{widths, sizeOf, longestPermitted, most}
+use Rattle.record_layouts.specs.Layout.{widths, sizeOf, longestPermitted, mostNumbers}
 use Rattle.record_layouts.specs.LayoutLaws.{length-widths}
 use Rattle.record_layouts.specs.Questions.{firstFailed, rulesBy, permitted}
 use Rattle.record_layouts.specs.QuestionLaws.{head-permitted, permitted-bits}
@@ -24,7 +24,7 @@ use Rattle.text.specs.Words.{numbers}
 
 -- the numbers that are kept of a line: one more than a record has is a wrong count
 abbrev pub kept : List ℕ → List ℕ
-kept line = take (most + 1) (numbers line)
+kept line = take (mostNumbers + 1) (numbers line)
 
 -- a line's number, with room for any record: one of which the start is cut off is longer than any record's
 unfoldable pub lineNumber : Bool → List ℕ → ℕ
@@ -48,13 +48,13 @@ enough vs room h = go (eqb (length vs) (length (rulesBy vs)) && permitted (rules
         rw (le-leb (sizeOf (rulesBy vs)) room (omega arith), le-leb (sizeOf (rulesBy vs)) longestPermitted size)
 
 -- the numbers that a line leaves in the front of a row
-pub kept-front : (line old : List ℕ) (n : ℕ) → n ≡ min (length (numbers line)) (length old) → length old ≡ most + 1 → take n (take n (numbers line) ++ drop n old) ≡ kept line
+pub kept-front : (line old : List ℕ) (n : ℕ) → n ≡ min (length (numbers line)) (length old) → length old ≡ mostNumbers + 1 → take n (take n (numbers line) ++ drop n old) ≡ kept line
 kept-front line old n e l =
     let ns = numbers line in
     take-at (take n ns) (drop n old) n (length-take-le n ns (omega arith))
-    ∙ elim (decLt (length ns) (most + 1)) [
-      | yes h ↦ take-all n ns (omega arith) ∙ sym (take-all (most + 1) ns (omega arith))
-      | no h ↦ let m : n ≡ most + 1 = omega arith in rw m
+    ∙ elim (decLt (length ns) (mostNumbers + 1)) [
+      | yes h ↦ take-all n ns (omega arith) ∙ sym (take-all (mostNumbers + 1) ns (omega arith))
+      | no h ↦ let m : n ≡ mostNumbers + 1 = omega arith in rw m
     ]
 
 -- a line that is cut leaves nothing

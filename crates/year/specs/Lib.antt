@@ -2,6 +2,6 @@ pub mod Year
 pub mod Steps
 pub mod Listing
 pub mod Sound
-pub mod Kept
+pub mod StaysSound
 pub mod ListingLaws
 pub mod Limits

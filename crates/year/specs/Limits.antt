@@ -15,7 +15,7 @@ use Rattle.year.specs.declared.Terms.{Terms}
 use Rattle.year.specs.declared.Year.{Year}
 use Rattle.year.specs.Year.{registration, clearingsOf, retestOf, known, seller, area, zone, product, committed, fieldRate, size, lses, reduction, second}
 use Rattle.year.specs.Sound.{SoundRegistration, SoundClearings, AtMost, SoundListing, SoundRetest, SoundTerms, Sound}
-use Rattle.year.specs.Kept.{sound-no-registration, sound-no-clearings}
+use Rattle.year.specs.StaysSound.{sound-no-registration, sound-no-clearings}
 
 -- what holds of the default and of each element holds of what is read anywhere
 module _ {A : Type 0} (P : A → Type 0) {d : A} (h : P d) where

@@ -48,9 +48,9 @@ pub record SoundEvent (e : Event) : Type 0 where
   pub listing : SoundListing (e .listing)
 
 -- a test at a place lists registrations of its zone and product alone, so that none is in two tests; one that was not taken lists none
-pub record SoundTest (T : Terms) (place : ℕ) (t : Test) : Type 0 where
+pub record SoundTest (T : Terms) (group : ℕ) (t : Test) : Type 0 where
   pub listing : SoundListing (t .listing)
-  pub own : (i : ℕ) → i < 64 → listed (t .listing) i ≡ true → 3 * zone T i + product T i ≡ place
+  pub own : (i : ℕ) → i < 64 → listed (t .listing) i ≡ true → 3 * zone T i + product T i ≡ group
   pub untaken : t .taken ≡ false → (i : ℕ) → i < 64 → listed (t .listing) i ≡ false
 
 abbrev pub SoundRetest : Retest → Type 0
@@ -79,12 +79,12 @@ pub record SoundAmounts (a : Amounts) : Type 0 where
 
 pub record Sound (y : Year) : Type 0 where
   pub closed : y .closed ≤ 15
-  pub held : y .held ≤ 16
+  pub accepted : y .accepted ≤ 16
   pub terms : SoundTerms (y .terms)
   pub clearings : Each SoundClearings noClearings 64 (y .clearings)
   pub events : Each SoundEvent noEvent 16 (y .events)
-  pub places : length (y .tests) ≡ 24
+  pub testGroups : length (y .tests) ≡ 24
   pub tests : (k : ℕ) → k < 24 → SoundTest (y .terms) k (getD (y .tests) k noTest)
   pub retests : Each SoundRetest noRetest 64 (y .retests)
   pub billed : SoundAmounts (y .billed)
-  pub fresh : y .started ≡ false → (y .held ≡ 0) × (y .closed ≡ 0) × (y .tests ≡ replicate 24 noTest) × (y .retests ≡ replicate 64 noRetest)
+  pub fresh : y .started ≡ false → (y .accepted ≡ 0) × (y .closed ≡ 0) × (y .tests ≡ replicate 24 noTest) × (y .retests ≡ replicate 64 noRetest)

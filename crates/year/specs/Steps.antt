@@ -18,7 +18,7 @@ use Rattle.year.specs.Year.{clearingsOf, retestOf, listed, reduction}
 -- antt has no record update: a setter for each part that changes
 abbrev pub withTerms : Year → Bool → Terms → List Clearings → Year
 withTerms y opened T cs =
-    record { opened = opened; started = y .started; closed = y .closed; terms = T; clearings = cs; events = y .events; held = y .held; tests = y .tests; retests = y .retests; billed = y .billed }
+    record { opened = opened; started = y .started; closed = y .closed; terms = T; clearings = cs; events = y .events; accepted = y .accepted; tests = y .tests; retests = y .retests; billed = y .billed }
 
 -- an opening
 abbrev pub withOpening : Year → ℕ → ℕ → ℕ → Year
@@ -55,17 +55,17 @@ withClearing y id price kw = withTerms y (y .opened) (y .terms) (set (y .clearin
 -- an event
 abbrev pub withEvent : Year → Event → Year
 withEvent y e =
-    record { opened = y .opened; started = true; closed = y .closed; terms = y .terms; clearings = y .clearings; events = set (y .events) (y .held) e; held = y .held + 1; tests = y .tests; retests = y .retests; billed = y .billed }
+    record { opened = y .opened; started = true; closed = y .closed; terms = y .terms; clearings = y .clearings; events = set (y .events) (y .accepted) e; accepted = y .accepted + 1; tests = y .tests; retests = y .retests; billed = y .billed }
 
 -- a test, at its place
 abbrev pub withTest : Year → ℕ → Test → Year
-withTest y place t =
-    record { opened = y .opened; started = true; closed = y .closed; terms = y .terms; clearings = y .clearings; events = y .events; held = y .held; tests = set (y .tests) place t; retests = y .retests; billed = y .billed }
+withTest y group t =
+    record { opened = y .opened; started = true; closed = y .closed; terms = y .terms; clearings = y .clearings; events = y .events; accepted = y .accepted; tests = set (y .tests) group t; retests = y .retests; billed = y .billed }
 
 -- a retest: each registration that it lists has one now, beside the test's entry
 abbrev pub withRetests : Year → List Retest → Year
 withRetests y rs =
-    record { opened = y .opened; started = y .started; closed = y .closed; terms = y .terms; clearings = y .clearings; events = y .events; held = y .held; tests = y .tests; retests = rs; billed = y .billed }
+    record { opened = y .opened; started = y .started; closed = y .closed; terms = y .terms; clearings = y .clearings; events = y .events; accepted = y .accepted; tests = y .tests; retests = rs; billed = y .billed }
 
 abbrev pub retestBy : Listing → ℕ → Retest
 retestBy l i = record { taken = true; reduction = reduction l i }
@@ -76,4 +76,4 @@ withRetest y l = withRetests y (tabulate 64 (λ i. cond (listed l i) (retestBy l
 -- a close, with the amounts to date
 abbrev pub withClose : Year → Amounts → Year
 withClose y billed =
-    record { opened = y .opened; started = true; closed = y .closed + 1; terms = y .terms; clearings = y .clearings; events = y .events; held = y .held; tests = y .tests; retests = y .retests; billed = billed }
+    record { opened = y .opened; started = true; closed = y .closed + 1; terms = y .terms; clearings = y .clearings; events = y .events; accepted = y .accepted; tests = y .tests; retests = y .retests; billed = billed }

@@ -25,7 +25,7 @@ abbrev pub noListing : Listing
 noListing = record { listed = replicate 64 false; reductions = replicate 64 0; second = replicate 64 0; deficits = replicate 16 0 }
 
 abbrev pub noEvent : Event
-noEvent = record { area = 0; month = 0; period = 0; apart = false; listing = noListing }
+noEvent = record { area = 0; month = 0; period = 0; dual = false; listing = noListing }
 
 abbrev pub noTest : Test
 noTest = record { taken = false; month = 0; listing = noListing }
@@ -43,11 +43,11 @@ noAmounts = record { compliance = replicate 16 0; test = replicate 16 0; credit 
 -- no year yet
 abbrev pub newYear : Year
 newYear =
-    record { opened = false; started = false; closed = 0; terms = noTerms; clearings = replicate 64 noClearings; events = replicate 16 noEvent; held = 0; tests = replicate 24 noTest; retests = replicate 64 noRetest; billed = noAmounts }
+    record { opened = false; started = false; closed = 0; terms = noTerms; clearings = replicate 64 noClearings; events = replicate 16 noEvent; accepted = 0; tests = replicate 24 noTest; retests = replicate 64 noRetest; billed = noAmounts }
 
 -- the accepted events, in order of acceptance
-abbrev pub accepted : Year → List Event
-accepted y = take (y .held) (y .events)
+abbrev pub acceptedEvents : Year → List Event
+acceptedEvents y = take (y .accepted) (y .events)
 
 -- event ev in order of acceptance, and the test at a place
 abbrev pub eventAt : Year → ℕ → Event
@@ -115,8 +115,8 @@ module _ (T : Terms) where
   lses = length (T .obligations)
 
 -- the place of the test of a zone and product
-abbrev pub testPlace : ℕ → ℕ → ℕ
-testPlace z p = 3 * z + p
+abbrev pub testGroup : ℕ → ℕ → ℕ
+testGroup z p = 3 * z + p
 
 -- the ids of sellers are below this
 abbrev pub sellers : ℕ

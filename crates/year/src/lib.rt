@@ -33,7 +33,7 @@ pub struct Event {
     pub area: u64,
     pub month: u64,
     pub period: u64,
-    pub apart: bool,
+    pub dual: bool,
     pub listing: Listing,
 }
 
@@ -77,7 +77,7 @@ pub struct Year {
     pub terms: Terms,
     pub clearings: [Clearings; 64],
     pub events: [Event; 16],
-    pub held: usize,
+    pub accepted: usize,
     pub tests: [Test; 24],
     pub retests: [Retest; 64],
     pub billed: Amounts,

@@ -35,7 +35,7 @@ listingAt g =
     record { listed = tabulate 64 (λ i. flag (g i)); reductions = tabulate 64 (λ i. g (64 + i)); second = tabulate 64 (λ i. g (144 + i)); deficits = tabulate 16 (λ j. g (128 + j)) }
 
 abbrev pub eventAt : (ℕ → ℕ) → Event
-eventAt g = record { area = g 0; month = g 1; period = g 2; apart = flag (g 3); listing = listingAt (λ k. g (4 + k)) }
+eventAt g = record { area = g 0; month = g 1; period = g 2; dual = flag (g 3); listing = listingAt (λ k. g (4 + k)) }
 
 -- the terms
 unfoldable pub cellRegistrations : List ℕ → List Registration
@@ -52,20 +52,20 @@ unfoldable pub cellEvents : List ℕ → List Event
 cellEvents c = rows eventAt 212 16 471 c
 
 -- the place of registration i's test
-unfoldable pub placeIn : List ℕ → ℕ → ℕ
-placeIn c i = 3 * zone (cellTerms c) i + product (cellTerms c) i
+unfoldable pub groupIn : List ℕ → ℕ → ℕ
+groupIn c i = 3 * zone (cellTerms c) i + product (cellTerms c) i
 
 -- the test at place k: a row of 18 cells, and of the entries of all tests those whose registrations have this place
-module _ (place : ℕ → ℕ) (entries : ℕ → ℕ) (k : ℕ) where
+module _ (group : ℕ → ℕ) (entries : ℕ → ℕ) (k : ℕ) where
   abbrev pub entryAt : ℕ → Bool
-  entryAt i = flag (entries i) && eqb (place i) k
+  entryAt i = flag (entries i) && eqb (group i) k
 
   abbrev pub testAt : (ℕ → ℕ) → Test
   testAt g =
       record { taken = flag (g 0); month = g 1; listing = record { listed = tabulate 64 entryAt; reductions = tabulate 64 (λ i. cond (entryAt i) (entries (64 + i)) 0); second = replicate 64 0; deficits = tabulate 16 (λ j. g (2 + j)) } }
 
 unfoldable pub cellTests : List ℕ → List Test
-cellTests c = tabulate 24 (λ k. testAt (placeIn c) (from 4295 c) k (from (3863 + 18 * k) c))
+cellTests c = tabulate 24 (λ k. testAt (groupIn c) (from 4295 c) k (from (3863 + 18 * k) c))
 
 unfoldable pub cellBilled : List ℕ → Amounts
 cellBilled c =
@@ -84,9 +84,9 @@ cellRetests c = tabulate 64 (retestAt (from 4679 c))
 -- the year in the cells
 abbrev pub yearIn : List ℕ → Year
 yearIn c =
-    record { opened = flag (at c 3); started = flag (at c 1); closed = at c 0; terms = cellTerms c; clearings = cellClearings c; events = cellEvents c; held = at c 2; tests = cellTests c; retests = cellRetests c; billed = cellBilled c }
+    record { opened = flag (at c 3); started = flag (at c 1); closed = at c 0; terms = cellTerms c; clearings = cellClearings c; events = cellEvents c; accepted = at c 2; tests = cellTests c; retests = cellRetests c; billed = cellBilled c }
 
 -- what is asked and kept of the cells: there are 4807, and their year is sound
-pub record Held (c : List ℕ) : Type 0 where
+pub record ValidCells (c : List ℕ) : Type 0 where
   pub long : length c ≡ 4807
   pub sound : Sound (yearIn c)

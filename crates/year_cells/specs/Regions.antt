@@ -17,7 +17,7 @@ use Rattle.year.specs.declared.Year.{Year}
 use Rattle.year.specs.Year.{newYear, noEvent, noTest, noRetest, listed, reduction, deficit, zone, product}
 use Rattle.year.specs.Sound.{Sound}
 use Rattle.year_cells.specs.Rows.{Same, same-in, from, View, numbers-kept, same-row, rows-kept, row-at, table-of}
-use Rattle.year_cells.specs.Layout.{flag, registrationAt, clearingsAt, listingAt, eventAt, cellRegistrations, cellObligations, cellTerms, cellEvents, placeIn, entryAt, testAt, cellTests, cellBilled, cellClearings, retestAt, cellRetests, yearIn, Held}
+use Rattle.year_cells.specs.Layout.{flag, registrationAt, clearingsAt, listingAt, eventAt, cellRegistrations, cellObligations, cellTerms, cellEvents, groupIn, entryAt, testAt, cellTests, cellBilled, cellClearings, retestAt, cellRetests, yearIn, ValidCells}
 
 pub registration-view : View 7 registrationAt
 registration-view g h e =
@@ -84,9 +84,9 @@ module _ (c : List ℕ) where
   unfolding listed
   listed-in {e} {i} l m = rw (event-in noEvent l) (getD-tabulate (λ k. flag (at c (471 + 212 * e + (4 + k)))) 64 i false m)
 
-  pub test-in : {k : ℕ} (d : Test) → k < 24 → getD (cellTests c) k d ≡ testAt (placeIn c) (from 4295 c) k (from (3863 + 18 * k) c)
+  pub test-in : {k : ℕ} (d : Test) → k < 24 → getD (cellTests c) k d ≡ testAt (groupIn c) (from 4295 c) k (from (3863 + 18 * k) c)
   unfolding cellTests
-  test-in {k} d l = getD-tabulate (λ k. testAt (placeIn c) (from 4295 c) k (from (3863 + 18 * k) c)) 24 k d l
+  test-in {k} d l = getD-tabulate (λ k. testAt (groupIn c) (from 4295 c) k (from (3863 + 18 * k) c)) 24 k d l
 
   pub retest-in : {i : ℕ} (d : Retest) → i < 64 → getD (cellRetests c) i d ≡ retestAt (from 4679 c) i
   unfolding cellRetests
@@ -97,9 +97,9 @@ module _ (c : List ℕ) where
   clearings-in {i} d l = row-at clearings-view 64 4487 i c d l
 
 -- what stays
-pub places-kept : (c d : List ℕ) → cellRegistrations d ≡ cellRegistrations c → (i : ℕ) → placeIn d i ≡ placeIn c i
-unfolding placeIn zone product
-places-kept c d e i = rw e
+pub groups-kept : (c d : List ℕ) → cellRegistrations d ≡ cellRegistrations c → (i : ℕ) → groupIn d i ≡ groupIn c i
+unfolding groupIn zone product
+groups-kept c d e i = rw e
 
 module _ {c d : List ℕ} where
   pub registrations-kept : Same 7 448 c d → cellRegistrations d ≡ cellRegistrations c
@@ -128,10 +128,10 @@ module _ {c d : List ℕ} where
   unfolding cellTests
   tests-kept e s =
       tabulate-same 24
-      (λ k l. test-same k (placeIn d) (placeIn c) (from 4295 d) (from 4295 c) (from (3863 + 18 * k) d) (from (3863 + 18 * k) c)
+      (λ k l. test-same k (groupIn d) (groupIn c) (from 4295 d) (from 4295 c) (from (3863 + 18 * k) d) (from (3863 + 18 * k) c)
       (same-row 3863 18 24 k l (same-in 3863 432 (lit≤ tt) (lit≤ tt) s) .cell)
       (λ i m. let kept = same-in 4295 128 (lit≤ tt) (lit≤ tt) s in
-      rw (places-kept c d e i, kept .cell i (omega arith), kept .cell (64 + i) (omega arith)) (refl, refl)))
+      rw (groups-kept c d e i, kept .cell i (omega arith), kept .cell (64 + i) (omega arith)) (refl, refl)))
 
   pub billed-kept : Same 4423 64 c d → cellBilled d ≡ cellBilled c
   unfolding cellBilled
@@ -168,7 +168,7 @@ new-year c z =
       zeros 16 455,
       table-of {f = λ i. clearingsAt (from (4487 + 3 * i) c)} 64 (λ i l. clearings-view (from (4487 + 3 * i) c) (λ k. 0) (λ k l. z (4487 + 3 * i + k))),
       table-of {f = λ i. eventAt (from (471 + 212 * i) c)} 16 (λ i l. event-view (from (471 + 212 * i) c) (λ k. 0) (λ k l. z (471 + 212 * i + k)) ∙ no-event),
-      table-of {f = λ k. testAt (placeIn c) (from 4295 c) k (from (3863 + 18 * k) c)} 24 (λ k l. no-test k),
+      table-of {f = λ k. testAt (groupIn c) (from 4295 c) k (from (3863 + 18 * k) c)} 24 (λ k l. no-test k),
       table-of {f = retestAt (from 4679 c)} {x = noRetest} 64 (λ i l. cc (z (4679 + i), z (4679 + (64 + i)))),
       zeros 16 4423,
       zeros 16 4439,
@@ -184,16 +184,16 @@ new-year c z =
         cc
         (table-of {f = λ i. flag 0} 64 (λ i l. refl), table-of {A = ℕ} {f = λ i. 0} 64 (λ i l. refl), table-of {A = ℕ} {f = λ i. 0} 16 (λ i l. refl))
 
-    no-test : (k : ℕ) → testAt (placeIn c) (from 4295 c) k (from (3863 + 18 * k) c) ≡ noTest
+    no-test : (k : ℕ) → testAt (groupIn c) (from 4295 c) k (from (3863 + 18 * k) c) ≡ noTest
     no-test k =
         cc (
           z (3863 + 18 * k + 0),
           z (3863 + 18 * k + 1),
-          table-of {f = entryAt (placeIn c) (from 4295 c) k} {x = false} 64 (λ i l. rw (z (4295 + i))),
-          table-of {A = ℕ} {f = λ i. cond (entryAt (placeIn c) (from 4295 c) k i) (from 4295 c (64 + i)) 0} {x = 0} 64 (λ i l. rw (z (4295 + i))),
+          table-of {f = entryAt (groupIn c) (from 4295 c) k} {x = false} 64 (λ i l. rw (z (4295 + i))),
+          table-of {A = ℕ} {f = λ i. cond (entryAt (groupIn c) (from 4295 c) k i) (from 4295 c (64 + i)) 0} {x = 0} 64 (λ i l. rw (z (4295 + i))),
           table-of {f = λ j. from (3863 + 18 * k) c (2 + j)} 16 (λ j l. z (3863 + 18 * k + (2 + j))),
         )
 
 -- a step on cells that hold a sound year
-pub stepped : {c d : List ℕ} {y : Year} → Held c → length d ≡ length c → yearIn d ≡ y → Sound y → (yearIn d ≡ y) × Held d
+pub stepped : {c d : List ℕ} {y : Year} → ValidCells c → length d ≡ length c → yearIn d ≡ y → Sound y → (yearIn d ≡ y) × ValidCells d
 stepped k l e s = (e, record { long = l ∙ k .long; sound = rw e s })

@@ -4,7 +4,7 @@ ghost use Prim.Native.Nat.{_+_, _≤_, _<_};
 ghost use lib.ListN.{length, getD};
 ghost use Rattle.year.specs.Year.{newYear, noEvent, clearingsOf, registration, obligation, listed};
 ghost use Rattle.year_cells.specs.Rows.{Laid};
-ghost use Rattle.year_cells.specs.Layout.{yearIn, Held};
+ghost use Rattle.year_cells.specs.Layout.{yearIn, ValidCells};
 use units::Nominated;
 use year::Clearings;
 use year::Registration;
@@ -16,7 +16,7 @@ pub const CLOSED: usize = 0;
 
 pub const STARTED: usize = 1;
 
-pub const HELD: usize = 2;
+pub const EVENTS_ACCEPTED: usize = 2;
 
 pub const OPENED: usize = 3;
 
@@ -60,7 +60,7 @@ pub const MONTH: usize = 1;
 
 pub const PERIOD: usize = 2;
 
-pub const APART: usize = 3;
+pub const DUAL: usize = 3;
 
 pub const LISTED: usize = 4;
 
@@ -89,7 +89,7 @@ pub fn lay(year: &mut Cells, place: usize, row: &[u64])
 // No year yet.
 pub fn new_year() -> Cells
     ensures equals { λ r. ⌜ yearIn r ≡ newYear ⌝ }
-    ensures held { λ r. ⌜ Held r ⌝ }
+    ensures valid { λ r. ⌜ ValidCells r ⌝ }
 {
     [0u64; 4807]
 }
@@ -115,10 +115,10 @@ pub fn closed(year: &Cells) -> u64
 }
 
 // How many events are accepted.
-pub fn held(year: &Cells) -> usize
-    ensures { λ r. ⌜ r ≡ yearIn (now (year .entry)) .held ⌝ }
+pub fn events_accepted(year: &Cells) -> usize
+    ensures { λ r. ⌜ r ≡ yearIn (now (year .entry)) .accepted ⌝ }
 {
-    year[HELD] as usize
+    year[EVENTS_ACCEPTED] as usize
 }
 
 pub fn registration_at(year: &Cells, i: usize) -> Registration

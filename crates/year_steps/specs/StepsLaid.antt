@@ -20,7 +20,7 @@ use Rattle.record_heads.specs.Events.{eventOf}
 
 -- the row of an event's head, with a mark for its bool, and of the whole event
 abbrev pub headRow : EventHead → List ℕ
-headRow e = e .area ∷ e .month ∷ e .period ∷ boolByte (e .apart) ∷ []
+headRow e = e .area ∷ e .month ∷ e .period ∷ boolByte (e .dual) ∷ []
 
 marked : (b : Bool) → flag (boolByte b) ≡ b
 marked true = refl
@@ -28,7 +28,7 @@ marked false = refl
 
 event-row : (e : EventHead) (l : List ℕ) → eventAt (at (headRow e ++ l)) ≡ eventOf e (listingAt (at l))
 event-row e l =
-    cc (marked (e .apart), listing-view (λ k. at (headRow e ++ l) (4 + k)) (at l) (λ k m. getD-append-add (headRow e) l k 0))
+    cc (marked (e .dual), listing-view (λ k. at (headRow e ++ l) (4 + k)) (at l) (λ k m. getD-append-add (headRow e) l k 0))
 
 -- an event is laid by three rows: its head, its listing, and the marks
 pub call-laid : {a b c d l : List ℕ} (n : ℕ) (event : EventHead) → n ≡ at a 2 → n < 16 → length l ≡ 208

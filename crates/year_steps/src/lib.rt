@@ -5,7 +5,7 @@ ghost use lib.ListN.{length};
 ghost use Rattle.ids.specs.Ids.{at};
 ghost use Rattle.year.specs.Steps.{withEvent, withClose};
 ghost use Rattle.year.specs.Sound.{SoundEvent, SoundAmounts};
-ghost use Rattle.year_cells.specs.Layout.{listingAt, yearIn, Held};
+ghost use Rattle.year_cells.specs.Layout.{listingAt, yearIn, ValidCells};
 ghost use Rattle.record_heads.specs.Events.{eventOf};
 use record_heads::EventHead;
 use year::Amounts;
@@ -20,38 +20,34 @@ use year_cells::lay;
 
 mod setup;
 
-pub use setup::clear;
-pub use setup::oblige;
-pub use setup::open;
-pub use setup::register;
+pub use setup::add_clearing;
+pub use setup::add_lse;
+pub use setup::add_opening;
+pub use setup::add_registration;
 
 // One more event; its listing is a row by id: 64 marks, 64 reductions, 16 deficits, 64 second reductions.
-pub fn call(year: &mut Cells, e: EventHead, listing: &[u64])
-    requires { ⌜ Held (now year) ⌝ }
-    requires { ⌜ yearIn (now year) .held < 16 ⌝ }
+pub fn add_event(year: &mut Cells, e: EventHead, listing: &[u64])
+    requires { ⌜ ValidCells (now year) ⌝ }
+    requires { ⌜ yearIn (now year) .accepted < 16 ⌝ }
     requires { ⌜ length (now listing) ≡ 208 ⌝ }
     requires { ⌜ SoundEvent (eventOf e (listingAt (at (now listing)))) ⌝ }
     ensures equals { λ r. ⌜ yearIn (now (year .exit)) ≡ withEvent (yearIn (now (year .entry))) (eventOf e (listingAt (at (now (listing .entry))))) ⌝ }
-    ensures held { λ r. ⌜ Held (now (year .exit)) ⌝ }
+    ensures valid { λ r. ⌜ ValidCells (now (year .exit)) ⌝ }
 {
-    let n = year_cells::held(year);
-    let apart = e.apart as u64;
-    lay(
-        year,
-        EVENTS + EVENT * n,
-        &[e.area, e.month, e.period, apart],
-    );
+    let n = year_cells::events_accepted(year);
+    let dual = e.dual as u64;
+    lay(year, EVENTS + EVENT * n, &[e.area, e.month, e.period, dual]);
     lay(year, EVENTS + EVENT * n + LISTED, listing);
     lay(year, STARTED, &[1, n as u64 + 1]);
 }
 
 // One more month closed, and what is billed by then.
-pub fn close(year: &mut Cells, billed: Amounts)
-    requires { ⌜ Held (now year) ⌝ }
+pub fn add_close(year: &mut Cells, billed: Amounts)
+    requires { ⌜ ValidCells (now year) ⌝ }
     requires { ⌜ yearIn (now year) .closed < 15 ⌝ }
     requires { ⌜ SoundAmounts billed ⌝ }
     ensures equals { λ r. ⌜ yearIn (now (year .exit)) ≡ withClose (yearIn (now (year .entry))) billed ⌝ }
-    ensures held { λ r. ⌜ Held (now (year .exit)) ⌝ }
+    ensures valid { λ r. ⌜ ValidCells (now (year .exit)) ⌝ }
 {
     let z = year_cells::closed(year);
     let compliance = billed.compliance;

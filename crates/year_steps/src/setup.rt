@@ -5,7 +5,7 @@ ghost use Prim.Native.Nat.{_≤_, _<_};
 ghost use Rattle.year.specs.Year.{clearingsOf};
 ghost use Rattle.year.specs.Steps.{withOpening, withRegistration, withLse, withClearing};
 ghost use Rattle.year.specs.Sound.{SoundRegistration, Factors};
-ghost use Rattle.year_cells.specs.Layout.{yearIn, Held};
+ghost use Rattle.year_cells.specs.Layout.{yearIn, ValidCells};
 use year::Registration;
 use year_cells::CLEARING;
 use year_cells::CLEARINGS;
@@ -17,24 +17,24 @@ use year_cells::REGISTRATIONS;
 use year_cells::lay;
 
 // An opening: the year's leap mark and factors.
-pub fn open(year: &mut Cells, leap: u64, factor: u64, requirement: u64)
-    requires { ⌜ Held (now year) ⌝ }
+pub fn add_opening(year: &mut Cells, leap: u64, factor: u64, requirement: u64)
+    requires { ⌜ ValidCells (now year) ⌝ }
     requires { ⌜ Factors leap factor requirement ⌝ }
     ensures equals { λ r. ⌜ yearIn (now (year .exit)) ≡ withOpening (yearIn (now (year .entry))) leap factor requirement ⌝ }
-    ensures held { λ r. ⌜ Held (now (year .exit)) ⌝ }
+    ensures valid { λ r. ⌜ ValidCells (now (year .exit)) ⌝ }
 {
     lay(year, OPENED, &[1, leap, factor, requirement]);
 }
 
 // One more registration, before any event, test or close.
-pub fn register(year: &mut Cells, id: usize, r: Registration)
-    requires { ⌜ Held (now year) ⌝ }
+pub fn add_registration(year: &mut Cells, id: usize, r: Registration)
+    requires { ⌜ ValidCells (now year) ⌝ }
     requires { ⌜ yearIn (now year) .started ≡ false ⌝ }
     requires { ⌜ id < 64 ⌝ }
     requires { ⌜ r .known ≡ true ⌝ }
     requires { ⌜ SoundRegistration r ⌝ }
     ensures equals { λ u. ⌜ yearIn (now (year .exit)) ≡ withRegistration (yearIn (now (year .entry))) id r ⌝ }
-    ensures held { λ u. ⌜ Held (now (year .exit)) ⌝ }
+    ensures valid { λ u. ⌜ ValidCells (now (year .exit)) ⌝ }
 {
     let committed = r.committed;
     let row = [1, r.seller, r.area, r.zone, r.product, committed.0, r.rate];
@@ -42,26 +42,26 @@ pub fn register(year: &mut Cells, id: usize, r: Registration)
 }
 
 // One more LSE's obligation.
-pub fn oblige(year: &mut Cells, id: usize, kw: u64)
-    requires { ⌜ Held (now year) ⌝ }
+pub fn add_lse(year: &mut Cells, id: usize, kw: u64)
+    requires { ⌜ ValidCells (now year) ⌝ }
     requires { ⌜ id < 16 ⌝ }
     requires { ⌜ kw ≤ 1000000 ⌝ }
     ensures equals { λ r. ⌜ yearIn (now (year .exit)) ≡ withLse (yearIn (now (year .entry))) id kw ⌝ }
-    ensures held { λ r. ⌜ Held (now (year .exit)) ⌝ }
+    ensures valid { λ r. ⌜ ValidCells (now (year .exit)) ⌝ }
 {
     lay(year, OBLIGATIONS + id, &[kw]);
 }
 
 // One more clearing of a registration that has fewer than four.
-pub fn clear(year: &mut Cells, id: usize, price: u64, kw: u64)
-    requires { ⌜ Held (now year) ⌝ }
+pub fn add_clearing(year: &mut Cells, id: usize, price: u64, kw: u64)
+    requires { ⌜ ValidCells (now year) ⌝ }
     requires { ⌜ id < 64 ⌝ }
     requires { ⌜ clearingsOf (yearIn (now year)) id .count < 4 ⌝ }
     requires { ⌜ price ≤ 100000 ⌝ }
     requires { ⌜ 1 ≤ kw ⌝ }
     requires { ⌜ kw ≤ 100000 ⌝ }
     ensures equals { λ r. ⌜ yearIn (now (year .exit)) ≡ withClearing (yearIn (now (year .entry))) id price kw ⌝ }
-    ensures held { λ r. ⌜ Held (now (year .exit)) ⌝ }
+    ensures valid { λ r. ⌜ ValidCells (now (year .exit)) ⌝ }
 {
     let old = year_cells::clearings_at(year, id);
     let count = old.count;

@@ -15,16 +15,16 @@ use Rattle.year.specs.Year.{noRetest, noTest, listed}
 use Rattle.year.specs.Steps.{retestBy, withTest, withRetest}
 use Rattle.year.specs.Sound.{SoundTest}
 use Rattle.year_cells.specs.Rows.{from, Laid, laid-on, Same, same-on, same-in, same-before, same-behind}
-use Rattle.year_cells.specs.Layout.{flag, listingAt, cellTerms, cellTests, retestAt, cellRetests, yearIn, Held}
-use Rattle.year_cells.specs.Regions.{row-listed, row-reduction, retest-in, registrations-kept, terms-kept, events-kept, places-kept, tests-kept, billed-kept, clearings-kept, retests-kept}
+use Rattle.year_cells.specs.Layout.{flag, listingAt, cellTerms, cellTests, retestAt, cellRetests, yearIn, ValidCells}
+use Rattle.year_cells.specs.Regions.{row-listed, row-reduction, retest-in, registrations-kept, terms-kept, events-kept, groups-kept, tests-kept, billed-kept, clearings-kept, retests-kept}
 use Rattle.year_test_steps.specs.Entered.{Entered}
-use Rattle.year_test_steps.specs.Tests.{testOf, untaken-free, Tested, tests-laid}
+use Rattle.year_test_steps.specs.Tests.{takenTest, untaken-free, Tested, tests-laid}
 
 -- a test is laid by the mark, its head and its deficits, then its entries among those of all tests
-module _ {a b c d f : List ℕ} (l : List ℕ) (place : ℕ) {month : ℕ} (p : place < 24) (n : length l ≡ 208)
-    (start : Laid 1 (1 ∷ []) a b) (head : Laid (3863 + 18 * place) (1 ∷ month ∷ []) b c) (deficits : Laid (3863 + 18 * place + 2) (take 16 (drop 128 l)) c d)
+module _ {a b c d f : List ℕ} (l : List ℕ) (group : ℕ) {month : ℕ} (p : group < 24) (n : length l ≡ 208)
+    (start : Laid 1 (1 ∷ []) a b) (head : Laid (3863 + 18 * group) (1 ∷ month ∷ []) b c) (deficits : Laid (3863 + 18 * group + 2) (take 16 (drop 128 l)) c d)
     (entries : Entered 4295 l d f) where
-  row : Laid (3863 + 18 * place) ((1 ∷ month ∷ []) ++ take 16 (drop 128 l)) b d
+  row : Laid (3863 + 18 * group) ((1 ∷ month ∷ []) ++ take 16 (drop 128 l)) b d
   row = laid-on head deficits
 
   eighteen : length ((1 ∷ month ∷ []) ++ take 16 (drop 128 l)) ≡ 18
@@ -39,24 +39,24 @@ module _ {a b c d f : List ℕ} (l : List ℕ) (place : ℕ) {month : ℕ} (p : 
   far : (q w : ℕ) → 4295 ≤ q → Same q w a d
   far q w x = same-on (same-behind start q w (omega arith)) (same-behind row q w (omega (arith, eighteen)))
 
-  laid : Tested place month l a f
+  laid : Tested group month l a f
   laid =
-      let here = entries .before (3863 + 18 * place) 18 (omega arith) in
+      let here = entries .before (3863 + 18 * group) 18 (omega arith) in
       record {
         taken = here .cell 0 (lit< tt) ∙ row .inside 0 (omega (arith, eighteen));
         month = here .cell 1 (lit< tt) ∙ row .inside 1 (omega (arith, eighteen));
         deficits = λ j m. here .cell (2 + j) (omega arith) ∙ row .inside (2 + j) (omega (arith, eighteen)) ∙ getD-append-add (1 ∷ month ∷ []) (take 16 (drop 128 l)) j 0 ∙ getD-take 16 (drop 128 l) j 0 m ∙ getD-drop 128 l j 0;
-        others = λ k m x. same-on (same-on (same-behind start (3863 + 18 * k) 18 (omega arith)) (apart k m x (decLt k place))) (entries .before (3863 + 18 * k) 18 (omega arith));
+        others = λ k m x. same-on (same-on (same-behind start (3863 + 18 * k) 18 (omega arith)) (apart k m x (decLt k group))) (entries .before (3863 + 18 * k) 18 (omega arith));
         marks = λ i m. rw (← (far 4295 128 (lit≤ tt) .cell i (omega arith))) (entries .marks i m);
         reductions = λ i m. rw (← (far 4295 128 (lit≤ tt) .cell (64 + i) (omega arith))) (entries .reductions i m);
       }
     where
-      apart : (k : ℕ) → k < 24 → k ≢ place → Dec (k < place) → Same (3863 + 18 * k) 18 b d
+      apart : (k : ℕ) → k < 24 → k ≢ group → Dec (k < group) → Same (3863 + 18 * k) 18 b d
       apart k m x (yes y) = same-before row (3863 + 18 * k) 18 (omega arith)
       apart k m x (no y) = same-behind row (3863 + 18 * k) 18 (omega (arith, eighteen))
 
-  pub test-laid : Held a → getD (cellTests a) place noTest .taken ≡ false → SoundTest (cellTerms a) place (testOf month (listingAt (at l)))
-      → yearIn f ≡ withTest (yearIn a) place (testOf month (listingAt (at l)))
+  pub test-laid : ValidCells a → getD (cellTests a) group noTest .taken ≡ false → SoundTest (cellTerms a) group (takenTest month (listingAt (at l)))
+      → yearIn f ≡ withTest (yearIn a) group (takenTest month (listingAt (at l)))
   test-laid k x s =
       let kept = between 2 3861 (lit≤ tt) (lit≤ tt) in
       let registrations = registrations-kept (same-in 7 448 (lit≤ tt) (lit≤ tt) kept) in
@@ -70,7 +70,7 @@ module _ {a b c d f : List ℕ} (l : List ℕ) (place : ℕ) {month : ℕ} (p : 
         terms-kept (same-in 4 467 (lit≤ tt) (lit≤ tt) kept),
         clearings-kept (same-in 4487 192 (lit≤ tt) (lit≤ tt) behind),
         events-kept (same-in 471 3392 (lit≤ tt) (lit≤ tt) kept),
-        tests-laid laid p (places-kept a f registrations) s (untaken-free a (k .sound) p x),
+        tests-laid laid p (groups-kept a f registrations) s (untaken-free a (k .sound) p x),
         retests-kept (same-in 4679 128 (lit≤ tt) (lit≤ tt) behind),
         billed-kept (same-in 4423 64 (lit≤ tt) (lit≤ tt) behind),
       )

@@ -7,8 +7,8 @@ ghost use Rattle.ids.specs.Ids.{at};
 ghost use Rattle.year.specs.Year.{noTest};
 ghost use Rattle.year.specs.Steps.{withTest, withRetest};
 ghost use Rattle.year.specs.Sound.{SoundListing, SoundTest};
-ghost use Rattle.year_cells.specs.Layout.{listingAt, yearIn, Held};
-ghost use Rattle.year_test_steps.specs.Tests.{testOf};
+ghost use Rattle.year_cells.specs.Layout.{listingAt, yearIn, ValidCells};
+ghost use Rattle.year_test_steps.specs.Tests.{takenTest};
 use crate::merging::enter;
 use year_cells::Cells;
 use year_cells::RETESTED;
@@ -22,33 +22,33 @@ use year_cells::lay;
 mod merging;
 
 // The test of a place that has none; its listing is a row by id: 64 marks, 64 reductions, 16 deficits, then what no test has.
-pub fn test(year: &mut Cells, place: usize, month: u64, listing: &[u64])
-    requires { ⌜ Held (now year) ⌝ }
-    requires { ⌜ place < 24 ⌝ }
-    requires { ⌜ getD (yearIn (now year) .tests) place noTest .taken ≡ false ⌝ }
+pub fn add_test(year: &mut Cells, group: usize, month: u64, listing: &[u64])
+    requires { ⌜ ValidCells (now year) ⌝ }
+    requires { ⌜ group < 24 ⌝ }
+    requires { ⌜ getD (yearIn (now year) .tests) group noTest .taken ≡ false ⌝ }
     requires { ⌜ length (now listing) ≡ 208 ⌝ }
-    requires { ⌜ SoundTest (yearIn (now year) .terms) place (testOf month (listingAt (at (now listing)))) ⌝ }
-    ensures equals { λ r. ⌜ yearIn (now (year .exit)) ≡ withTest (yearIn (now (year .entry))) place (testOf month (listingAt (at (now (listing .entry))))) ⌝ }
-    ensures held { λ r. ⌜ Held (now (year .exit)) ⌝ }
+    requires { ⌜ SoundTest (yearIn (now year) .terms) group (takenTest month (listingAt (at (now listing)))) ⌝ }
+    ensures equals { λ r. ⌜ yearIn (now (year .exit)) ≡ withTest (yearIn (now (year .entry))) group (takenTest month (listingAt (at (now (listing .entry))))) ⌝ }
+    ensures valid { λ r. ⌜ ValidCells (now (year .exit)) ⌝ }
 {
     lay(year, STARTED, &[1]);
-    lay(year, TESTS + TEST * place, &[1, month]);
+    lay(year, TESTS + TEST * group, &[1, month]);
     lay(
         year,
-        TESTS + TEST * place + TEST_DEFICITS,
+        TESTS + TEST * group + TEST_DEFICITS,
         &listing[128..144],
     );
     enter(year, TESTED, listing);
 }
 
 // A retest; its listing is such a row without deficits.
-pub fn retest(year: &mut Cells, listing: &[u64])
-    requires { ⌜ Held (now year) ⌝ }
+pub fn add_retest(year: &mut Cells, listing: &[u64])
+    requires { ⌜ ValidCells (now year) ⌝ }
     requires { ⌜ yearIn (now year) .started ≡ true ⌝ }
     requires { ⌜ length (now listing) ≡ 208 ⌝ }
     requires { ⌜ SoundListing (listingAt (at (now listing))) ⌝ }
     ensures equals { λ r. ⌜ yearIn (now (year .exit)) ≡ withRetest (yearIn (now (year .entry))) (listingAt (at (now (listing .entry)))) ⌝ }
-    ensures held { λ r. ⌜ Held (now (year .exit)) ⌝ }
+    ensures valid { λ r. ⌜ ValidCells (now (year .exit)) ⌝ }
 {
     enter(year, RETESTED, listing);
 }

@@ -14,29 +14,29 @@ use Rattle.year.specs.Year.{noTest, listed, reduction}
 use Rattle.year.specs.Sound.{Sound}
 use Rattle.year.specs.Limits.{zone-below, product-below}
 use Rattle.year_cells.specs.Rows.{from}
-use Rattle.year_cells.specs.Layout.{flag, placeIn, entryAt, cellTests, yearIn}
+use Rattle.year_cells.specs.Layout.{flag, groupIn, entryAt, cellTests, yearIn}
 use Rattle.year_cells.specs.Regions.{test-in}
 
 -- registration i's entry in the test at place p: its mark, and its reduction
 module _ (c : List ℕ) (p i : ℕ) where
   abbrev pub testedAt : Bool
-  testedAt = entryAt (placeIn c) (from 4295 c) p i
+  testedAt = entryAt (groupIn c) (from 4295 c) p i
 
   abbrev pub firstAt : ℕ
   firstAt = cond testedAt (at c (4295 + (64 + i))) 0
 
 module _ (c : List ℕ) (s : Sound (yearIn c)) where
-  pub place-below : (i : ℕ) → placeIn c i < 24
-  unfolding placeIn
-  place-below i = omega (arith, zone-below (s .terms) i, product-below (s .terms) i)
+  pub group-below : (i : ℕ) → groupIn c i < 24
+  unfolding groupIn
+  group-below i = omega (arith, zone-below (s .terms) i, product-below (s .terms) i)
 
   -- no registration has a place past the last test
   module _ {p : ℕ} (l : 24 ≤ p) where
     past : getD (cellTests c) p noTest ≡ noTest
-    past = List·getD-eq-default (cellTests c) noTest (omega (arith, s .places))
+    past = List·getD-eq-default (cellTests c) noTest (omega (arith, s .testGroups))
 
     off : (i : ℕ) → testedAt c p i ≡ false
-    off i = rw (ne-eqb (placeIn c i) p (λ q. omega (arith, place-below i))) (and-false (flag (at c (4295 + i))))
+    off i = rw (ne-eqb (groupIn c i) p (λ q. omega (arith, group-below i))) (and-false (flag (at c (4295 + i))))
 
   pub tested-in : (p : ℕ) {i : ℕ} → i < 64 → listed (getD (cellTests c) p noTest .listing) i ≡ testedAt c p i
   unfolding listed

@@ -3,7 +3,7 @@ ghost use mathlib.Core.Path.{_≡_};
 ghost use Prim.Native.Nat.{_<_};
 ghost use lib.ListN.{getD};
 ghost use Rattle.year.specs.Year.{noTest, retestOf, listed, reduction};
-ghost use Rattle.year_cells.specs.Layout.{yearIn, Held};
+ghost use Rattle.year_cells.specs.Layout.{yearIn, ValidCells};
 use year::Retest;
 use year_cells::Cells;
 use year_cells::RETESTED;
@@ -13,40 +13,40 @@ use year_cells::TESTS;
 use year_cells::registration_at;
 
 // Is the test of a place taken?
-pub fn test_taken(year: &Cells, place: usize) -> bool
-    requires { ⌜ place < 24 ⌝ }
-    ensures { λ r. ⌜ r ≡ getD (yearIn (now (year .entry)) .tests) place noTest .taken ⌝ }
+pub fn test_taken(year: &Cells, group: usize) -> bool
+    requires { ⌜ group < 24 ⌝ }
+    ensures { λ r. ⌜ r ≡ getD (yearIn (now (year .entry)) .tests) group noTest .taken ⌝ }
 {
-    let p = TESTS + TEST * place;
+    let p = TESTS + TEST * group;
     year[p + 0] != 0
 }
 
 // The month of a place's test, 0 where it has none.
-pub fn test_month(year: &Cells, place: usize) -> u64
-    requires { ⌜ place < 24 ⌝ }
-    ensures { λ r. ⌜ r ≡ getD (yearIn (now (year .entry)) .tests) place noTest .month ⌝ }
+pub fn test_month(year: &Cells, group: usize) -> u64
+    requires { ⌜ group < 24 ⌝ }
+    ensures { λ r. ⌜ r ≡ getD (yearIn (now (year .entry)) .tests) group noTest .month ⌝ }
 {
-    let p = TESTS + TEST * place;
+    let p = TESTS + TEST * group;
     year[p + 1]
 }
 
 // Does the test of a place list a registration?
-pub fn tested_in(year: &Cells, place: u64, i: usize) -> bool
-    requires { ⌜ Held (now year) ⌝ }
+pub fn tested_in(year: &Cells, group: u64, i: usize) -> bool
+    requires { ⌜ ValidCells (now year) ⌝ }
     requires { ⌜ i < 64 ⌝ }
-    ensures { λ r. ⌜ r ≡ listed (getD (yearIn (now (year .entry)) .tests) place noTest .listing) i ⌝ }
+    ensures { λ r. ⌜ r ≡ listed (getD (yearIn (now (year .entry)) .tests) group noTest .listing) i ⌝ }
 {
     let r = registration_at(year, i);
-    year[TESTED + i] != 0 && 3 * r.zone + r.product == place
+    year[TESTED + i] != 0 && 3 * r.zone + r.product == group
 }
 
 // With which reduction, 0 where it does not.
-pub fn first_in(year: &Cells, place: u64, i: usize) -> u64
-    requires { ⌜ Held (now year) ⌝ }
+pub fn first_in(year: &Cells, group: u64, i: usize) -> u64
+    requires { ⌜ ValidCells (now year) ⌝ }
     requires { ⌜ i < 64 ⌝ }
-    ensures { λ r. ⌜ r ≡ reduction (getD (yearIn (now (year .entry)) .tests) place noTest .listing) i ⌝ }
+    ensures { λ r. ⌜ r ≡ reduction (getD (yearIn (now (year .entry)) .tests) group noTest .listing) i ⌝ }
 {
-    if tested_in(year, place, i) {
+    if tested_in(year, group, i) {
         year[TESTED + (64 + i)]
     } else {
         0

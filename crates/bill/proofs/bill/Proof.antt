@@ -7,14 +7,14 @@ use lib.Seq.{length-take-le}
 use borrow.Author.Needs.{needs}
 use Rattle.record_layouts.specs.QuestionLaws.{consumed-within}
 use Rattle.text_bill.specs.Text.{room}
-use Rattle.year_cells.specs.Layout.{Held}
+use Rattle.year_cells.specs.Layout.{ValidCells}
 use Rattle.bill.proofs.bill.Statement.{statement}
 use Rattle.bill.proofs.bill.Tie as tie
 
 abbrev Inv-loop : tie.InvT-loop
 Inv-loop input buffer₀ out₀ statement₀ year₀ course₀ least window₀ buffer out statement year course window =
     ((length buffer ≡ length buffer₀) × (length out ≡ length out₀) × (length statement ≡ 684))
-    × (Held year × (window .start ≤ window .end) × (window .end ≤ length buffer) × (course .at + room ≤ length out))
+    × (ValidCells year × (window .start ≤ window .end) × (window .end ≤ length buffer) × (course .at + room ≤ length out))
 
 abbrev μ-loop : tie.MeasureT-loop
 μ-loop input buffer₀ out₀ statement₀ year₀ course₀ least window₀ buffer out statement year course window = 2 ^ 64 - course .position

@@ -5,7 +5,7 @@ use mathlib.Core.Path.{sym, _≡_, _∙_}
 use native.Mathlib.Omega.{arith}
 use lib.ListN.{length, take, drop, set, length-set}
 use borrow.Author.Needs.{needs}
-use Rattle.year_cells.specs.Layout.{yearIn, Held}
+use Rattle.year_cells.specs.Layout.{yearIn, ValidCells}
 use Rattle.book_outcome.specs.Outcome.{Posts}
 use Rattle.record_file.specs.Walk.{ends}
 use Rattle.bill_file.proofs.Along.{along-all}
@@ -15,7 +15,7 @@ use Rattle.bill_file.proofs.bill.Tie as tie
 
 abbrev Inv-loop : tie.InvT-loop
 Inv-loop records numbers₀ statements₀ year₀ answered₀ used₀ written₀ numbers statements year answered used written =
-    Held year × Going records numbers₀ statements₀ numbers statements (yearIn year) answered used written
+    ValidCells year × Going records numbers₀ statements₀ numbers statements (yearIn year) answered used written
 
 abbrev μ-loop : tie.MeasureT-loop
 μ-loop records numbers₀ statements₀ year₀ answered₀ used₀ written₀ numbers statements year answered used written =

@@ -4,7 +4,7 @@ use mathlib.Core.Path.{_≡_, refl, sym, ap, _∙_}
 use native.Mathlib.Omega.{arith}
 use lib.ListN.{length}
 use Rattle.ids.specs.Ids.{at}
-use Rattle.record_layouts.specs.Layout.{most}
+use Rattle.record_layouts.specs.Layout.{mostNumbers}
 use Rattle.record_layouts.specs.Questions.{firstFailed, numbersOf, recordNumber, row}
 use Rattle.record_numbers.specs.Accepted.{accepted}
 use Rattle.year.specs.Sound.{SoundListing}
@@ -20,11 +20,11 @@ use Rattle.book_accept.specs.Leaves.{bufferWith, writtenWith}
 use Rattle.book_outcome.specs.Outcome.{postNumber}
 use Rattle.book_outcome.specs.Numbers.{record-refused, record-accepted}
 use Rattle.book_outcome.specs.Made.{values-long, within, permits}
-use Rattle.book_outcome.specs.Kept.{suits}
+use Rattle.book_outcome.specs.StaysSound.{suits}
 use Rattle.book_outcome.specs.Posting.{refuses, accepts}
 use Rattle.book.proofs.post.Statement.{statement}
 use Rattle.book.proofs.post.Tie as tie
-use Rattle.book_accept.proofs.take.Reads as take-reads
+use Rattle.book_accept.proofs.accept.Reads as accept-reads
 use Rattle.record_heads.proofs.head_of.Reads as head-of-reads
 use Rattle.record_listing.proofs.spread.Reads as spread-reads
 use Rattle.question_number.proofs.number_of.Reads as number-of-reads
@@ -37,7 +37,7 @@ quiet c = sym (c .before .before .before .parse .ensures .numbers) ∙ c .if1 .l
 rows : (c : tie.Else1) → c .before .before .before .parse .last .1 .0 ≡ row (numbersOf (c .before .before .before .before .before .before .before .args .bytes .now))
 rows c = c .before .before .before .parse .ensures .rows (quiet c)
 
-long : (c : tie.Else1) → length (c .before .before .before .parse .last .1 .0) ≡ most
+long : (c : tie.Else1) → length (c .before .before .before .parse .last .1 .0) ≡ mostNumbers
 long c = rw (rows c) (values-long (c .before .before .before .before .before .before .before .args .bytes .now) (accepted _ (quiet c)))
 
 -- the later questions are put to it
@@ -79,8 +79,8 @@ returns-2 c =
     let posts = refuses (yearIn (a .year .now)) (a .bytes .now) (a .buffer .now) (answered (c .before)) (λ q. let t = c .if2 .taken in omega (arith, q, t)) (c .before .before .before .before .before .before .before .before .before .before .before .before .parse .ensures .uses) in
     (posts, ((λ n. refl), start .pre))
 
-take-requires : tie.Need-take-requires
-take-requires c κs =
+accept-requires : tie.Need-accept-requires
+accept-requires c κs =
     let spread = c .before .before .before .before .before .before .before .spread .ensures in
     let named = c .before .before .before .before .before .before .before .before .before .before .head-of in
     let one = c .before .before .before .before .before .before .before .before .before .before .before .before in
@@ -95,7 +95,7 @@ take-requires c κs =
 
 returns-3 : tie.Need-returns-3
 returns-3 c =
-    let taken = c .before .before .take .ensures in
+    let taken = c .before .before .accept .ensures in
     let spread = c .before .before .before .before .before .before .before .before .before .before .spread .ensures .lists in
     let named = c .before .before .before .before .before .before .before .before .before .before .before .before .before .head-of .ensures in
     let one = c .before .before .before .before .before .before .before .before .before .before .before .before .before .before .before in
@@ -124,6 +124,6 @@ post-spec =
     number-of-requires
     returns-2
     (λ c. search needs)
-    take-requires
+    accept-requires
     (λ c. search needs)
     returns-3)

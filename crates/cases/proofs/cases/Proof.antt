@@ -4,13 +4,13 @@ use Prim.Native.Nat.{_-_, _^_, _≤_}
 use native.Mathlib.Omega.{arith}
 use lib.ListN.{length}
 use borrow.Author.Needs.{needs}
-use Rattle.year_cells.specs.Layout.{Held}
+use Rattle.year_cells.specs.Layout.{ValidCells}
 use Rattle.cases.proofs.cases.Statement.{statement}
 use Rattle.cases.proofs.cases.Tie as tie
 
 abbrev Inv-loop : tie.InvT-loop
 Inv-loop input buffer₀ year₀ window₀ counter₀ buffer year window counter =
-    Held year × (length buffer ≡ length buffer₀) × (window .start ≤ window .end) × (window .end ≤ length buffer)
+    ValidCells year × (length buffer ≡ length buffer₀) × (window .start ≤ window .end) × (window .end ≤ length buffer)
 
 abbrev μ-loop : tie.MeasureT-loop
 μ-loop input buffer₀ year₀ window₀ counter₀ buffer year window counter = 2 ^ 64 - counter

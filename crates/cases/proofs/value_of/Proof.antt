@@ -8,7 +8,7 @@ use Rattle.cases.proofs.value_of.Tie as tie
 
 cast-from-pattern : tie.Need-cast-from-pattern
 cast-from-pattern c =
-    let small : c .before .take .result .value < 2 ^ 32 = rw (c .before .take .ensures .value) (field-lt _ _ 32) in
+    let small : c .before .read-field .result .value < 2 ^ 32 = rw (c .before .read-field .ensures .value) (field-lt _ _ 32) in
     omega (arith, small)
 
 pub value-of-spec : {M : Type 1} → statement M

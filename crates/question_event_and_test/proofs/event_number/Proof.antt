@@ -11,7 +11,7 @@ use Rattle.question_list.specs.Questions.{monthBegun, q6, q7, q8, q9, q10, q17,
 use Rattle.question_list.specs.Answers.{yes, no, both-pass, one-fails}
 use Rattle.question_event_and_test.proofs.event_number.Statement.{statement}
 use Rattle.question_event_and_test.proofs.event_number.Tie as tie
-use Rattle.year_cells.proofs.held.Reads as held-reads
+use Rattle.year_cells.proofs.events_accepted.Reads as events-accepted-reads
 use Rattle.question_listings.proofs.entries_pass.Reads as entries-pass-reads
 use Rattle.question_list.proofs.open_number.Reads as open-number-reads
 use Rattle.question_event_and_test.proofs.may_call.Reads as may-call-reads
@@ -54,14 +54,14 @@ unfolding firstFailed questions q7 q9 q17 q20 q21 q12 q13 q14 q15 q16
 returns-4 c room =
     let three = c .before .before in
     let both = opens (three .before .before .before .before) in
-    rw (both .0, both .1, ten-passes (three .before .before), eleven-passes three, sym (c .before .held .ensures), lt-ltb _ _ (c .if4 .taken))
+    rw (both .0, both .1, ten-passes (three .before .before), eleven-passes three, sym (c .before .events-accepted .ensures), lt-ltb _ _ (c .if4 .taken))
 
 returns-5 : tie.Need-returns-5
 unfolding firstFailed questions q7 q9 q17 q20 q21 q12
 returns-5 c room =
     let three = c .before .before in
     let both = opens (three .before .before .before .before) in
-    rw (both .0, both .1, ten-passes (three .before .before), eleven-passes three, sym (c .before .held .ensures), le-ltb _ _ (c .if4 .left))
+    rw (both .0, both .1, ten-passes (three .before .before), eleven-passes three, sym (c .before .events-accepted .ensures), le-ltb _ _ (c .if4 .left))
 
 pub event-number-spec : {M : Type 1} → statement M
 event-number-spec =

@@ -15,7 +15,7 @@ use Rattle.question_list.proofs.open_number.Reads as open-number-reads
 use Rattle.question_retest.proofs.in_time.Reads as in-time-reads
 use Rattle.question_retest.proofs.lists_own.Reads as lists-own-reads
 use Rattle.question_retest.proofs.retestable.may_retest.Reads as may-retest-reads
-use Rattle.question_retest.proofs.retestable.place_of.Reads as place-of-reads
+use Rattle.question_retest.proofs.retestable.group_of.Reads as group-of-reads
 
 -- the questions' answers, and that they pass further on
 opens : (c : tie.Else1) → let a = c .before .before .before .args in (q6 (yearIn (a .year .now)) (Retest (a .t)) ≡ true) × (q8 (yearIn (a .year .now)) (Retest (a .t)) ≡ true)
@@ -45,7 +45,7 @@ twenty-passes c = yes (twenty (c .before)) (c .if4 .left)
 
 twenty-one : (c : tie.After-lists-exactly) → let a = c .before .before .before .before .before .before .before .before .before .before .before .args in c .lists-exactly .result ≡ q21 (yearIn (a .year .now)) (listingAt (at (a .listing .now))) (Retest (a .t))
 unfolding q21
-twenty-one c = rw (c .before .place-of .ensures) at (c .lists-exactly .ensures)
+twenty-one c = rw (c .before .group-of .ensures) at (c .lists-exactly .ensures)
 
 returns : tie.Need-returns
 unfolding questions q6 q7 q8

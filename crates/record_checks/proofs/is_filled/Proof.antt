@@ -16,7 +16,7 @@ returns c =
     rw z
 
 returns-2 : tie.Need-returns-2
-returns-2 c = ap (λ (v : ℕ). eqb v 0) (c .before .take .ensures .value)
+returns-2 c = ap (λ (v : ℕ). eqb v 0) (c .before .read-field .ensures .value)
 
 pub is-filled-spec : {M : Type 1} → statement M
 is-filled-spec = tie.close (tie.spec (λ c. search needs) (λ c. search needs) (λ c. search needs) returns (λ c κs. search needs) returns-2)

@@ -8,12 +8,12 @@ use native.Mathlib.Omega.{arith}
 use borrow.Author.Tests.{eq-eqb, ne-eqb}
 use lib.ListN.{length}
 use Rattle.ids.specs.Ids.{at}
-use Rattle.record_layouts.specs.Layout.{listAt, itemsIn, itemAt, itemIn, most}
+use Rattle.record_layouts.specs.Layout.{listAt, itemsIn, itemAt, itemIn, mostNumbers}
 use Rattle.record_layouts.specs.LayoutLaws.{lists-few}
 use Rattle.record_layouts.specs.ListLaws.{length-list, item-some}
 use Rattle.record_heads.specs.Record.{withItems, listingTo}
 use Rattle.record_heads.specs.RecordLaws.{items-more, listing-more}
-use Rattle.record_listing.specs.Listed.{Entry, Deficit, stated, item-as, item-there}
+use Rattle.record_listing.specs.Listed.{EntryLimits, DeficitLimits, stated, item-as, item-there}
 use Rattle.record_listing.specs.Spread.{Spreads, spread-entry, spread-second, spread-deficit}
 use Rattle.record_listing.proofs.spread_list.Statement.{statement}
 use Rattle.record_listing.proofs.spread_list.Tie as tie
@@ -74,19 +74,19 @@ turn : (c : tie.In-loop Inv-loop μ-loop) → (let s = c .before .before .before
 turn c = omega (arith, counted (c .before .before .before), c .loop-test .taken)
 
 there : (c : tie.In-loop Inv-loop μ-loop) (f : ℕ) → (let s = c .before .before .before .before .before .before .before in
-    f < length (listAt (at (s .args .values .now) 0) (s .args .i) .fields) → c .before .loop .p + f < most)
+    f < length (listAt (at (s .args .values .now) 0) (s .args .i) .fields) → c .before .loop .p + f < mostNumbers)
 there c f h =
     let s = c .before .before .before .before .before .before .before in
     rw (c .before .loop .inv .1) (item-there (s .pre .1 .0) (s .args .i) (c .before .loop .k) (s .pre .1 .1 .0) (turn c) f h)
 
-first : (c : tie.In-loop Inv-loop μ-loop) → c .before .loop .p < most
+first : (c : tie.In-loop Inv-loop μ-loop) → c .before .loop .p < mostNumbers
 first c =
     let s = c .before .before .before .before .before .before .before in
     omega (arith, there c 0 (item-some (at (s .args .values .now) 0) (s .args .i) (s .pre .1 .1 .0)))
 
 deficit : (c : tie.Then1 Inv-loop μ-loop) → (let s = c .before .before .before .before .before .before .before .before .before in
     let k = at (s .args .values .now) 0 in
-    Deficit (listAt k (s .args .i) .reductions) (listAt k (s .args .i) .fields) (itemIn k (s .args .values .now) (s .args .i) (c .before .before .before .loop .k)))
+    DeficitLimits (listAt k (s .args .i) .reductions) (listAt k (s .args .i) .fields) (itemIn k (s .args .values .now) (s .args .i) (c .before .before .before .loop .k)))
 deficit c =
     let s = c .before .before .before .before .before .before .before .before .before in
     ⊎-elim (λ e. absurd (omega (arith, e .some, counted (c .before .before .before .before .before) .2, c .if1 .taken))) (λ d. d)
@@ -94,7 +94,7 @@ deficit c =
 
 entry : (c : tie.Else1 Inv-loop μ-loop) → (let s = c .before .before .before .before .before .before .before .before .before in
     let k = at (s .args .values .now) 0 in
-    Entry (listAt k (s .args .i) .reductions) (listAt k (s .args .i) .fields) (itemIn k (s .args .values .now) (s .args .i) (c .before .before .before .loop .k)))
+    EntryLimits (listAt k (s .args .i) .reductions) (listAt k (s .args .i) .fields) (itemIn k (s .args .values .now) (s .args .i) (c .before .before .before .loop .k)))
 entry c =
     let s = c .before .before .before .before .before .before .before .before .before in
     ⊎-elim (λ e. e) (λ d. absurd (c .if1 .left (counted (c .before .before .before .before .before) .2 ∙ rw (d .none))))
@@ -106,12 +106,12 @@ id-at : (c : tie.In-loop Inv-loop μ-loop) → (let s = c .before .before .befor
 id-at c = rw (c .before .loop .inv .1, add-zero)
 
 lacks : (c : tie.Then1 Inv-loop μ-loop) → (let l = c .before .before .before .loop in
-    (at (c .before .before .before .before .before .before .before .before .before .args .values .now) (l .p) < 16) × (l .p + 1 < most))
+    (at (c .before .before .before .before .before .before .before .before .before .args .values .now) (l .p) < 16) × (l .p + 1 < mostNumbers))
 lacks c = (rw (id-at (c .before .before)) at (deficit c .id), there (c .before .before) 1 (deficit c .inside))
 
 reduces : (c : tie.Else1 Inv-loop μ-loop) → (let l = c .before .before .before .loop in
     (at (c .before .before .before .before .before .before .before .before .before .args .values .now) (l .p) < 64)
-    × (l .p + c .before .before .before .before .before .part-at .result .reduction < most))
+    × (l .p + c .before .before .before .before .before .part-at .result .reduction < mostNumbers))
 reduces c =
     let e = entry c in
     (rw (id-at (c .before .before)) at (e .id), rw (counted (c .before .before .before .before .before) .2) (there (c .before .before) _ (e .inside)))
@@ -119,7 +119,7 @@ reduces c =
 -- one with a second reduction is an entry
 twice : (c : tie.Then2 Inv-loop μ-loop) → (let l = c .before .before .before .before .loop in
     (at (c .before .before .before .before .before .before .before .before .before .before .args .values .now) (l .p) < 64)
-    × (l .p + c .before .before .before .before .before .before .part-at .result .second < most))
+    × (l .p + c .before .before .before .before .before .before .part-at .result .second < mostNumbers))
 twice c =
     let n = counted (c .before .before .before .before .before .before) in
     ⊎-elim

@@ -5,7 +5,7 @@ use lib.ListN.{length}
 use Rattle.bits.specs.Table.{total}
 use Rattle.record_layouts.specs.Layout.{widths}
 use Rattle.bits.specs.Pack.{bytesFor}
-use Rattle.record_layouts.specs.Questions.{isKind, rulesOf, row, headOf}
+use Rattle.record_layouts.specs.Questions.{isKind, rulesOf, row, headNumbers}
 use Rattle.record_layouts.specs.QuestionLaws.{few-bits}
 use Rattle.record_shapes.specs.Shapes.{Shaped}
 use Rattle.record_numbers.specs.Parsing.{Known}
@@ -19,8 +19,8 @@ use Rattle.record_parse.proofs.parse.Tie as tie
 known-at : (c : tie.Else1) → Known (c .before .before .before .before .before .args .bytes .now) (c .before .before .kind-of .result .value)
 known-at c = let k = c .before .before .kind-of .ensures .0 in record { kind = k; first = ap isKind (sym k) ∙ sym (c .before .is-kind .ensures) ∙ not-false _ (c .if1 .left) }
 
-row-at : (c : tie.After-take-head) → c .take-head .last .1 .1 .1 .0 ≡ row (headOf (c .before .before .before .before .before .before .before .before .before .args .bytes .now))
-row-at c = row-first (known-at (c .before .before .before .before)) (c .take-head .ensures .1)
+row-at : (c : tie.After-read-head) → c .read-head .last .1 .1 .1 .0 ≡ row (headNumbers (c .before .before .before .before .before .before .before .before .before .args .bytes .now))
+row-at c = row-first (known-at (c .before .before .before .before)) (c .read-head .ensures .1)
 
 shaped-at : (c : tie.After-shape-of) → Shaped (rulesOf (c .before .before .before .before .before .before .before .before .before .before .before .before .before .args .bytes .now)) (c .shape-of .result)
 shaped-at c =
@@ -33,8 +33,8 @@ returns c =
     let none = ap isKind (sym (c .before .before .before .kind-of .ensures .0)) ∙ sym (c .before .before .is-kind .ensures) ∙ not-true _ (c .before .if1 .taken) in
     refuses (c .refused .ensures .0) (c .refused .ensures .2) (c .refused .ensures .1) (λ e. omega arith) (fails-1 _ none)
 
-take-head-requires : tie.Need-take-head-requires
-take-head-requires c κs =
+read-head-requires : tie.Need-read-head-requires
+read-head-requires c κs =
     let k = c .before .before .before .before .before .kind-of .ensures in
     (k .0, (k .1, (sym (c .before .before .before .before .is-kind .ensures) ∙ not-false _ (c .before .before .before .if1 .left), (c .before .before .widths-of-parts .ensures, c .before .before .before .before .before .before .before .before .pre))))
 
@@ -56,7 +56,7 @@ parse-whole-requires : tie.Need-parse-whole-requires
 parse-whole-requires c κs =
     let w = known-at (c .before .before .before .before .before .before .before .before .before .before .before .before) in
     let size = c .before .before .before .size-of .ensures ∙ ap bytesFor (shaped-at (c .before .before .before .before) .bits) in
-    (w, (whole-yes _ (rw size at (c .before .before .if2 .left)), (shaped-at (c .before .before .before .before), (c .before .before .before .before .before .before .before .before .before .before .before .widths-of-parts .ensures, (c .before .before .before .before .before .before .before .before .take-head .ensures .0, row-at (c .before .before .before .before .before .before .before .before))))))
+    (w, (whole-yes _ (rw size at (c .before .before .if2 .left)), (shaped-at (c .before .before .before .before), (c .before .before .before .before .before .before .before .before .before .before .before .widths-of-parts .ensures, (c .before .before .before .before .before .before .before .before .read-head .ensures .0, row-at (c .before .before .before .before .before .before .before .before))))))
 
 pub parse-spec : {M : Type 1} → statement M
 parse-spec =
@@ -68,7 +68,7 @@ parse-spec =
     returns
     (λ c κs. search needs)
     (λ c. search needs)
-    take-head-requires
+    read-head-requires
     shape-of-requires
     size-of-requires
     (λ c κs. search needs)

@@ -21,10 +21,10 @@ head-at : (c : tie.Else1) → permitted (head (c .before .before .before .before
 head-at c = let s = c .before .before .before .before .before .before .before .before .before .before .before in sym (row-permits (s .pre .0) 0 (row-start (s .pre .0) (s .pre .1 .1 .1 .1 .1))) ∙ sym (c .before .head-permitted .ensures) ∙ not-false _ (c .if1 .left)
 
 permits-at : (c : tie.Else2) → let bytes = c .before .before .before .before .before .before .before .before .before .before .before .before .before .before .before .before .before .before .before .before .args .bytes .now in permitted (rulesOf bytes) (numbersOf bytes) ≡ true
-permits-at c = sym (whole-permitted (c .before .before .before .before .before .before .before .before .before .before .before .before .before .before .before .before .before .before .before .before .pre .0) (c .before .before .before .before .before .before .before .take-lists .ensures .1)) ∙ sym (c .before .lists-permitted .ensures) ∙ not-false _ (c .if2 .left)
+permits-at c = sym (whole-permitted (c .before .before .before .before .before .before .before .before .before .before .before .before .before .before .before .before .before .before .before .before .pre .0) (c .before .before .before .before .before .before .before .read-lists .ensures .1)) ∙ sym (c .before .lists-permitted .ensures) ∙ not-false _ (c .if2 .left)
 
 filled-at : (c : tie.Else3) → isFilled (c .before .before .before .before .before .before .before .before .before .before .before .before .before .before .before .before .before .before .before .before .before .before .args .bytes .now) ≡ true
-filled-at c = sym (whole-filled (c .before .before .before .before .before .before .before .before .before .before .before .before .before .before .before .before .before .before .before .before .before .before .args .bytes .now) _ (c .before .before .before .before .before .before .before .before .before .take-lists .ensures .0)) ∙ sym (c .before .is-filled .ensures) ∙ not-false _ (c .if3 .left)
+filled-at c = sym (whole-filled (c .before .before .before .before .before .before .before .before .before .before .before .before .before .before .before .before .before .before .before .before .before .before .args .bytes .now) _ (c .before .before .before .before .before .before .before .before .before .read-lists .ensures .0)) ∙ sym (c .before .is-filled .ensures) ∙ not-false _ (c .if3 .left)
 
 size-of-requires : tie.Need-size-of-requires
 size-of-requires c κs = omega (arith, c .before .before .before .pre .1 .1 .0 .bits, few-bits (c .before .before .before .args .bytes .now))
@@ -44,8 +44,8 @@ returns c =
     let no = sym (row-permits w 0 (row-start w (s .pre .1 .1 .1 .1 .1))) ∙ sym (c .before .before .head-permitted .ensures) ∙ not-true _ (c .before .if1 .taken) in
     refuses (c .refused .ensures .0) (c .refused .ensures .2 ∙ size-is (c .before .before .before .before .before .before .before .before)) (c .refused .ensures .1) (λ e. omega arith) (fails-3 bytes (w .first) (s .pre .1 .0) (refused-of w no))
 
-take-lists-requires : tie.Need-take-lists-requires
-take-lists-requires c κs =
+read-lists-requires : tie.Need-read-lists-requires
+read-lists-requires c κs =
     let s = c .before .before .before .before .before .before .before .before .before .before .before .before in
     let w = s .pre .0 in
     let bytes = s .args .bytes .now in
@@ -56,7 +56,7 @@ lists-permitted-requires c κs =
     let s = c .before .before .before .before .before .before .before .before .before .before .before .before .before .before .before .before .before .before in
     let w = s .pre .0 in
     let bytes = s .args .bytes .now in
-    let v = c .before .before .before .before .before .take-lists .ensures .1 in
+    let v = c .before .before .before .before .before .read-lists .ensures .1 in
     (s .pre .1 .1 .1 .0, (c .before .before .before .before .before .before .before .before .before .before .before .before .before .lows-of-parts .ensures, (c .before .before .before .before .before .before .before .before .before .before .before .before .highs-of-parts .ensures, (whole-stated w v, (whole-long w v, (whole-head-permitted w v ∙ head-at (c .before .before .before .before .before .before .before), λ e. whole-valid w v))))))
 
 returns-2 : tie.Need-returns-2
@@ -64,7 +64,7 @@ returns-2 c =
     let s = c .before .before .before .before .before .before .before .before .before .before .before .before .before .before .before .before .before .before .before .before .before in
     let w = s .pre .0 in
     let bytes = s .args .bytes .now in
-    let no = sym (whole-permitted w (c .before .before .before .before .before .before .before .before .take-lists .ensures .1)) ∙ sym (c .before .before .lists-permitted .ensures) ∙ not-true _ (c .before .if2 .taken) in
+    let no = sym (whole-permitted w (c .before .before .before .before .before .before .before .before .read-lists .ensures .1)) ∙ sym (c .before .before .lists-permitted .ensures) ∙ not-true _ (c .before .if2 .taken) in
     refuses (c .refused2 .ensures .0) (c .refused2 .ensures .2 ∙ size-is (c .before .before .before .before .before .before .before .before .before .before .before .before .before .before .before .before .before)) (c .refused2 .ensures .1) (λ e. omega arith) (fails-3 bytes (w .first) (s .pre .1 .0) no)
 
 is-filled-requires : tie.Need-is-filled-requires
@@ -72,7 +72,7 @@ is-filled-requires c κs =
     let s = c .before .before .before .before .before .before .before .before .before .before .before .before .before .before .before .before .before .before .before .before in
     let w = s .pre .0 in
     let bytes = s .args .bytes .now in
-    let e = c .before .before .before .before .before .before .before .take-lists .ensures .0 in
+    let e = c .before .before .before .before .before .before .before .read-lists .ensures .0 in
     (rw e (whole-size bytes (s .pre .1 .0)), omega (arith, few-bits bytes))
 
 returns-3 : tie.Need-returns-3
@@ -80,7 +80,7 @@ returns-3 c =
     let s = c .before .before .before .before .before .before .before .before .before .before .before .before .before .before .before .before .before .before .before .before .before .before .before in
     let w = s .pre .0 in
     let bytes = s .args .bytes .now in
-    let no = sym (whole-filled bytes _ (c .before .before .before .before .before .before .before .before .before .before .take-lists .ensures .0)) ∙ sym (c .before .before .is-filled .ensures) ∙ not-true _ (c .before .if3 .taken) in
+    let no = sym (whole-filled bytes _ (c .before .before .before .before .before .before .before .before .before .before .read-lists .ensures .0)) ∙ sym (c .before .before .is-filled .ensures) ∙ not-true _ (c .before .if3 .taken) in
     refuses (c .refused3 .ensures .0) (c .refused3 .ensures .2 ∙ size-is (c .before .before .before .before .before .before .before .before .before .before .before .before .before .before .before .before .before .before .before)) (c .refused3 .ensures .1) (λ e. omega arith) (fails-4 bytes (w .first) (s .pre .1 .0) (permits-at (c .before .before .before)) no)
 
 lists-rise-requires : tie.Need-lists-rise-requires
@@ -88,7 +88,7 @@ lists-rise-requires c κs =
     let s = c .before .before .before .before .before .before .before .before .before .before .before .before .before .before .before .before .before .before .before .before .before .before .before in
     let w = s .pre .0 in
     let bytes = s .args .bytes .now in
-    let v = c .before .before .before .before .before .before .before .before .before .before .take-lists .ensures .1 in
+    let v = c .before .before .before .before .before .before .before .before .before .before .read-lists .ensures .1 in
     (whole-kind w v, (whole-stated w v, whole-long w v))
 
 returns-4 : tie.Need-returns-4
@@ -96,7 +96,7 @@ returns-4 c =
     let s = c .before .before .before .before .before .before .before .before .before .before .before .before .before .before .before .before .before .before .before .before .before .before .before .before .before .before in
     let w = s .pre .0 in
     let bytes = s .args .bytes .now in
-    let no = sym (whole-rise w (c .before .before .before .before .before .before .before .before .before .before .before .before .before .take-lists .ensures .1)) ∙ sym (c .before .before .lists-rise .ensures) ∙ not-true _ (c .before .if4 .taken) in
+    let no = sym (whole-rise w (c .before .before .before .before .before .before .before .before .before .before .before .before .before .read-lists .ensures .1)) ∙ sym (c .before .before .lists-rise .ensures) ∙ not-true _ (c .before .if4 .taken) in
     refuses (c .refused4 .ensures .0) (c .refused4 .ensures .2 ∙ size-is (c .before .before .before .before .before .before .before .before .before .before .before .before .before .before .before .before .before .before .before .before .before .before)) (c .refused4 .ensures .1) (λ e. omega arith) (fails-5 bytes (w .first) (s .pre .1 .0) (permits-at (c .before .before .before .before .before .before)) (filled-at (c .before .before .before .before)) no)
 
 returns-5 : tie.Need-returns-5
@@ -104,7 +104,7 @@ returns-5 c =
     let s = c .before .before .before .before .before .before .before .before .before .before .before .before .before .before .before .before .before .before .before .before .before .before .before .before .before in
     let w = s .pre .0 in
     let bytes = s .args .bytes .now in
-    let v = c .before .before .before .before .before .before .before .before .before .before .before .before .take-lists .ensures .1 in
+    let v = c .before .before .before .before .before .before .before .before .before .before .before .before .read-lists .ensures .1 in
     let yes = sym (whole-rise w v) ∙ sym (c .before .lists-rise .ensures) ∙ not-false _ (c .if4 .left) in
     fills (size-is (c .before .before .before .before .before .before .before .before .before .before .before .before .before .before .before .before .before .before .before .before .before)) (s .pre .1 .1 .0 .count ∙ sym (numbers-count bytes)) v (fails-none bytes (w .first) (s .pre .1 .0) (permits-at (c .before .before .before .before .before)) (filled-at (c .before .before .before)) yes)
 
@@ -121,7 +121,7 @@ parse-whole-spec =
     (λ c κs. search needs)
     (λ c. search needs)
     returns
-    take-lists-requires
+    read-lists-requires
     (λ c. search needs)
     (λ c. search needs)
     lists-permitted-requires

@@ -16,7 +16,7 @@ returns c =
 returns-2 : tie.Need-returns-2
 unfolding kindOf
 returns-2 c =
-    let t = c .take .ensures in
+    let t = c .read-field .ensures in
     (rw (c .before .before .first .ensures) at (t .value), omega (arith, t .next, c .before .before .first .ensures))
 
 pub kind-of-spec : {M : Type 1} → statement M

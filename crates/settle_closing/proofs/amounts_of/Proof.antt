@@ -44,9 +44,9 @@ use denote.Exit.{yes}
 use denote.Triple.Clauses.{ensured, lasts}
 use Rattle.year.specs.declared.Registration.{Registration}
 use Rattle.year.specs.declared.Amounts.{Amounts}
-use Rattle.year_cells.specs.Layout.{yearIn, Held}
+use Rattle.year_cells.specs.Layout.{yearIn, ValidCells}
 use Rattle.owed.specs.Owed.{amounts}
-use Rattle.settle_facts.specs.Looks.{facts}
+use Rattle.settle_facts.specs.CellFacts.{facts}
 use Rattle.year.proofs.Registration as T
 use Rattle.year.proofs.Registration.Laws as T′
 use Rattle.year.proofs.Amounts as S
@@ -129,7 +129,7 @@ module _ {M : Type 1} (𝓤 : URA M) (H : Heap 𝓤) (A : Atoms 𝓤) (W : Given
     abbrev Handed : List (Item 𝓤)
     Handed = ‵ (flft (α ∷ []) fullShare) ∷ ‵ (flft κ q) ∷ ‵ Slice ∷ ‵ Year ∷ []
 
-    goes : Is u64 k (vint w64 k ∷ []) → Held c × (rs ≡ yearIn c .terms .registrations) × (1 ≤ k) × (k ≤ 15) → ent 𝓤 (⋆ 𝓤 H A Handed) (Settle 𝓤 H A mem run .pre to)
+    goes : Is u64 k (vint w64 k ∷ []) → ValidCells c × (rs ≡ yearIn c .terms .registrations) × (1 ≤ k) × (k ≤ 15) → ent 𝓤 (⋆ 𝓤 H A Handed) (Settle 𝓤 H A mem run .pre to)
     goes pk asked =
         qed W Handed ∵ says ! asked $ nothing ! $ move ! (1 ∷ 2 ∷ 0 ∷ []) $ group ! 3 $ frame ! $
         nothing ! $ owned ! u64 (Is u64) (uint-makes 𝓤 H A W w64) k _ pk $ fjoin ! $ move ! (2 ∷ 0 ∷ []) $ fjoin ! $ move ! (1 ∷ 0 ∷ []) $ fjoin ! $ done !
@@ -137,7 +137,7 @@ module _ {M : Type 1} (𝓤 : URA M) (H : Heap 𝓤) (A : Atoms 𝓤) (W : Given
     said : (r : Amounts) → ent 𝓤 (ensured 𝓤 H A settle.ended (settle.clauses 𝓤 H A mem run) (α ∷ [], (κ, tt)) (s, (y, (k, tt))) tt r) (fact 𝓤 (Said r))
     said r = exE 𝓤 _ (λ ws. snd∗ 𝓤 (sem 𝓤 H A (lasts settle.ended (α ∷ [], (κ, tt)) (s, (y, (k, tt))) ws)) (fact 𝓤 (Said r)))
 
-  walk : (𝓣 : Tables 𝓤 H) → Triple 𝓤 (𝓣 .C #settle_closing·settle) (Settle 𝓤 H A mem run) → Is R rs (av ∷ []) → Is u64 k (vint w64 k ∷ []) → Held c × (rs ≡ yearIn c .terms .registrations) × (1 ≤ k) × (k ≤ 15)
+  walk : (𝓣 : Tables 𝓤 H) → Triple 𝓤 (𝓣 .C #settle_closing·settle) (Settle 𝓤 H A mem run) → Is R rs (av ∷ []) → Is u64 k (vint w64 k ∷ []) → ValidCells c × (rs ≡ yearIn c .terms .registrations) × (1 ≤ k) × (k ≤ 15)
       → ent 𝓤 (onEntry 𝓤 H A f.signature (κ, tt) (q, tt) (rs, (y, (k, tt))) at) (WpFn 𝓤 H (𝓣 .C) (𝓣 .Λ) code.function (av ∷ vptr b o ∷ vint w64 k ∷ []) Post)
   walk 𝓣 known p pk asked =
       let typed = array-lawful 𝓤 H A W T.the-row (LL.lawful T.the-type T′.the-laws 𝓤 H A W) 64 .typed rs _ p .0 in

@@ -54,8 +54,8 @@ use denote.Triple.Clauses.{ensured, lasts}
 use Rattle.year.specs.Year.{noRegistration, registration}
 use Rattle.year.specs.declared.Registration.{Registration}
 use Rattle.year.specs.declared.Amounts.{Amounts}
-use Rattle.year_cells.specs.Layout.{yearIn, Held}
-use Rattle.settle_facts.specs.Looks.{facts}
+use Rattle.year_cells.specs.Layout.{yearIn, ValidCells}
+use Rattle.settle_facts.specs.CellFacts.{facts}
 use Rattle.settle_rates.specs.Entering.{Begun, begun-first}
 use Rattle.owed.specs.Owed.{amounts}
 use Rattle.settle_table.specs.Places.{size}
@@ -68,10 +68,10 @@ use Rattle.settle_rates.proofs.enter as one
 use Rattle.settle_rates.proofs.enter.Symbol as one-def
 use Rattle.settle_rates.proofs.enter.Symbol.{name as #settle_rates·enter}
 use Rattle.settle_rates.proofs.enter.Met as one-thm
-use Rattle.settle_closing.proofs.amounts.close as close
-use Rattle.settle_closing.proofs.amounts.close.Symbol as close-def
-use Rattle.settle_closing.proofs.amounts.close.Symbol.{name as #settle_closing·amounts·close}
-use Rattle.settle_closing.proofs.amounts.close.Met as close-thm
+use Rattle.settle_closing.proofs.amounts.amounts_to_date as close
+use Rattle.settle_closing.proofs.amounts.amounts_to_date.Symbol as close-def
+use Rattle.settle_closing.proofs.amounts.amounts_to_date.Symbol.{name as #settle_closing·amounts·close}
+use Rattle.settle_closing.proofs.amounts.amounts_to_date.Met as close-thm
 use Rattle.settle_closing.proofs.settle.Key.{name as #settle_closing·settle}
 use Rattle.settle_closing.proofs.settle as f
 use Rattle.settle_closing.proofs.settle.Statement as stated
@@ -111,7 +111,7 @@ on-test false k l = l refl
 
 -- what is asked of the lent run, the year and the month
 abbrev Asked : List Registration → List ℕ → ℕ → Type 0
-Asked ys c k = Held c × (ys ≡ yearIn c .terms .registrations) × (1 ≤ k) × (k ≤ 15)
+Asked ys c k = ValidCells c × (ys ≡ yearIn c .terms .registrations) × (1 ≤ k) × (k ≤ 15)
 
 module _ {M : Type 1} (𝓤 : URA M) (H : Heap 𝓤) (A : Atoms 𝓤) (mem : Memory → SProp 𝓤) (run : Routine → Fun 𝓤) where
   -- the contracts that the proof cites
@@ -171,7 +171,7 @@ module _ {M : Type 1} (𝓤 : URA M) (H : Heap 𝓤) (A : Atoms 𝓤) (W : Given
       abbrev to-enter : Enter 𝓤 H A at-mem run .Ghost
       to-enter = (((κ′, (α ∷ [], tt)), (q′, (fullShare, tt)), tt, (y, (lent, (i, (r, tt)))), (vptr b′ o′ ∷ [], (vptr l 0 ∷ [], (vint w64 i ∷ [], (rv r ∷ [], tt))))), tt)
 
-      goes-enter : i < 2 ^ 64 → Is T.the-row r (rv r ∷ []) → Held c × (i < 64) × (r ≡ registration (yearIn c .terms) i) × Begun c i w → ent 𝓤 (⋆ 𝓤 H A Handed) (Enter 𝓤 H A at-mem run .pre to-enter)
+      goes-enter : i < 2 ^ 64 → Is T.the-row r (rv r ∷ []) → ValidCells c × (i < 64) × (r ≡ registration (yearIn c .terms) i) × Begun c i w → ent 𝓤 (⋆ 𝓤 H A Handed) (Enter 𝓤 H A at-mem run .pre to-enter)
       goes-enter fits is asked =
           qed W Handed ∵ says ! asked $ nothing ! $ move ! (1 ∷ 2 ∷ 0 ∷ []) $ group ! 3 $ frame ! $
           nothing ! $ owned ! T.the-row (Is T.the-row) (LL.makes T.the-type T′.the-plain 𝓤 H A) r _ is $ fjoin ! $
@@ -181,7 +181,7 @@ module _ {M : Type 1} (𝓤 : URA M) (H : Heap 𝓤) (A : Atoms 𝓤) (W : Given
     abbrev to-close : Close 𝓤 H A at-mem run .Ghost
     to-close = (((κ′, (α ∷ [], tt)), (q′, (fullShare, tt)), tt, (y, (lent, (k, tt))), (vptr b′ o′ ∷ [], (vptr l 0 ∷ [], (vint w64 k ∷ [], tt)))), tt)
 
-    goes-close : Is u64 k (vint w64 k ∷ []) → Held c × Begun c 64 w × (1 ≤ k) × (k ≤ 15) → ent 𝓤 (⋆ 𝓤 H A Handed) (Close 𝓤 H A at-mem run .pre to-close)
+    goes-close : Is u64 k (vint w64 k ∷ []) → ValidCells c × Begun c 64 w × (1 ≤ k) × (k ≤ 15) → ent 𝓤 (⋆ 𝓤 H A Handed) (Close 𝓤 H A at-mem run .pre to-close)
     goes-close pk asked =
         qed W Handed ∵ says ! asked $ nothing ! $ move ! (1 ∷ 2 ∷ 0 ∷ []) $ group ! 3 $ frame ! $
         nothing ! $ owned ! u64 (Is u64) (uint-makes 𝓤 H A W w64) k _ pk $ fjoin ! $ move ! (2 ∷ 0 ∷ []) $ fjoin ! $ move ! (1 ∷ 0 ∷ []) $ fjoin ! $ done !
@@ -361,4 +361,4 @@ settle-spec 𝓤 H 𝓜 𝓖 𝓡 =
     (tables 𝓤 H 𝓜 𝓡 code.env .C) (tables 𝓤 H 𝓜 𝓡 code.env .Λ) #settle_closing·settle code.function (code.unfolded 𝓤 H 𝓜 𝓡)
     (meets 𝓤 H (𝓖 .A) (givenOf 𝓤 H 𝓜 𝓖) (𝓜 .mem) (𝓡 .run) (tablesOf 𝓤 H 𝓜 (tables 𝓤 H 𝓜 𝓡 code.env))
     (cited 𝓤 H (Enter 𝓤 H (𝓖 .A) (𝓜 .mem) (𝓡 .run)) 𝓜 𝓡 code.env #settle_rates·enter one-def.routine code.calls-settle-rates·enter (one-thm.met 𝓤 H 𝓜 𝓖 𝓡))
-    (cited 𝓤 H (Close 𝓤 H (𝓖 .A) (𝓜 .mem) (𝓡 .run)) 𝓜 𝓡 code.env #settle_closing·amounts·close close-def.routine code.calls-settle-closing·amounts·close (close-thm.met 𝓤 H 𝓜 𝓖 𝓡)))
+    (cited 𝓤 H (Close 𝓤 H (𝓖 .A) (𝓜 .mem) (𝓡 .run)) 𝓜 𝓡 code.env #settle_closing·amounts·close close-def.routine code.calls-settle-closing·amounts·amounts-to-date (close-thm.met 𝓤 H 𝓜 𝓖 𝓡)))

@@ -6,7 +6,7 @@ use native.Mathlib.Omega.{arith}
 use Rattle.ids.specs.Ids.{at}
 use Rattle.year.specs.Year.{listed}
 use Rattle.settle_charges.specs.Charging.{lineOf, line-is}
-use Rattle.settle_facts.specs.Looks.{facts}
+use Rattle.settle_facts.specs.CellFacts.{facts}
 use Rattle.owed_laws.specs.Limits.{limits}
 use Rattle.owed.specs.Owed.{creditOf}
 use Rattle.owed_laws.specs.Bounds.{D-le, e-le, e-sum, credit-le}

@@ -2,18 +2,18 @@
 use Prim.Native.Nat.{_-_, _≤_}
 use mathlib.Core.Path.{_≡_}
 use native.Mathlib.Omega.{arith}
-use Rattle.settle_facts.specs.Looks.{facts}
-use Rattle.settle_table.specs.Places.{callsRow}
+use Rattle.settle_facts.specs.CellFacts.{facts}
+use Rattle.settle_table.specs.Places.{dispatchCountRow}
 use Rattle.settle_table.specs.Rows.{Aside, aside-none, aside-then}
-use Rattle.settle_dispatch.specs.Counting.{Counting, counting-first, calls-all, called-all}
+use Rattle.settle_dispatch.specs.Counting.{Counting, counting-first, dispatch-count-all, dispatched-all}
 use Rattle.settle_dispatch.proofs.count.Statement.{statement}
 use Rattle.settle_dispatch.proofs.count.Tie as tie
 
 abbrev Inv-loop : tie.InvT-loop
-Inv-loop year work₀ held ev₀ work ev = (ev ≤ held) × (Counting (facts year) ev work × Aside callsRow 128 work₀ work)
+Inv-loop year work₀ accepted ev₀ work ev = (ev ≤ accepted) × (Counting (facts year) ev work × Aside dispatchCountRow 128 work₀ work)
 
 abbrev μ-loop : tie.MeasureT-loop
-μ-loop year work₀ held ev₀ work ev = held - ev
+μ-loop year work₀ accepted ev₀ work ev = accepted - ev
 
 loop-holds : tie.Need-loop-holds Inv-loop μ-loop
 loop-holds c =
@@ -23,15 +23,15 @@ loop-holds c =
 count-event-requires : tie.Need-count-event-requires Inv-loop μ-loop
 count-event-requires c κs =
     let s = c .before .before .before .before in
-    (omega (arith, c .before .before .before .held .ensures, s .pre .0 .sound .held), c .before .before .loop .inv .1 .0)
+    (omega (arith, c .before .before .before .events-accepted .ensures, s .pre .0 .sound .accepted), c .before .before .loop .inv .1 .0)
 
 returns : tie.Need-returns Inv-loop μ-loop
 returns c =
     let l = c .before .loop in
     let F = facts (c .before .before .before .args .year .now) in
-    let z : l .ev ≡ F .events = omega (arith, c .before .before .held .ensures) in
+    let z : l .ev ≡ F .events = omega (arith, c .before .before .events-accepted .ensures) in
     let h = rw z at (l .inv .1 .0) in
-    (calls-all h, (called-all h, l .inv .1 .1))
+    (dispatch-count-all h, (dispatched-all h, l .inv .1 .1))
 
 loop-again : tie.Need-loop-again Inv-loop μ-loop
 loop-again c =

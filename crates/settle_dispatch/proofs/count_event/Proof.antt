@@ -3,11 +3,11 @@ use Prim.Native.Nat.{_-_}
 use mathlib.Core.Path.{ap, sym, _∙_}
 use mathlib.Core.Logic.{⊎-elim}
 use native.Mathlib.Omega.{arith}
-use Rattle.settle_facts.specs.Looks.{facts}
-use Rattle.settle_facts.specs.declared.Entry.{Entry}
+use Rattle.settle_facts.specs.CellFacts.{facts}
+use Rattle.settle_facts.specs.declared.EventEntry.{EventEntry}
 use Rattle.ids.specs.Tests.{cond-le}
 use Rattle.settle_table.specs.Rows.{mark}
-use Rattle.settle_dispatch.specs.Counting.{Counts, counts-first, counts-none, counts-next, counts-more, counts-all, calls-most}
+use Rattle.settle_dispatch.specs.Counting.{Counts, counts-first, counts-none, counts-next, counts-more, counts-all, dispatch-count-most}
 use Rattle.settle_dispatch.proofs.count_event.Statement.{statement}
 use Rattle.settle_dispatch.proofs.count_event.Tie as tie
 
@@ -26,13 +26,13 @@ add-at-requires c κs =
     let l = c .before .before .before .before .before .before .loop in
     let p = c .before .put .ensures in
     let one = c .before .before .before .before .before .before .before .as-mark .ensures in
-    (omega (arith, p .long, l .inv .long), omega (arith, s .pre .0, counts-next (l .inv) (omega arith) p, calls-most (facts (s .args .year .now)) (s .args .ev) (l .i), one, cond-le (c .before .before .before .before .before .before .before .before .one-or-three .result) {x = 1} {b = 1} (omega arith)))
+    (omega (arith, p .long, l .inv .long), omega (arith, s .pre .0, counts-next (l .inv) (omega arith) p, dispatch-count-most (facts (s .args .year .now)) (s .args .ev) (l .i), one, cond-le (c .before .before .before .before .before .before .before .before .one-or-three .result) {x = 1} {b = 1} (omega arith)))
 
 loop-again : tie.Need-loop-again Inv-loop μ-loop
 loop-again c =
     let s = c .before .before .before .before .before .before in
     let l = c .before .before .before .loop in
-    let listed = sym (ap (λ (x : Entry). x .listed) (c .before .look .ensures)) in
+    let listed = sym (ap (λ (x : EventEntry). x .listed) (c .before .look .ensures)) in
     let one = c .before .before .before .before .as-mark .ensures ∙ ap mark (c .before .before .before .before .before .one-or-three .ensures) in
     ⊎-elim
     (λ a. rw (a .5) (counts-more (l .inv) (omega arith) (listed ∙ a .0 .taken) one (a .2 .ensures) (a .4 .ensures)))

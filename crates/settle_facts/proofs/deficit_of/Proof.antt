@@ -1,7 +1,7 @@
 -- `settle_facts::deficit_of` meets its contract: the number in the event's row. Assumes nothing.
 use borrow.Author.Needs.{needs}
 use mathlib.Core.Path.{sym}
-use Rattle.settle_facts.specs.Looks.{deficit-in}
+use Rattle.settle_facts.specs.CellFacts.{deficit-in}
 use Rattle.settle_facts.proofs.deficit_of.Statement.{statement}
 use Rattle.settle_facts.proofs.deficit_of.Tie as tie
 

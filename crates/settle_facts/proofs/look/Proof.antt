@@ -1,7 +1,7 @@
 -- `settle_facts::look` meets its contract: the mark and the reductions in the event's row. Assumes nothing.
 use borrow.Author.Needs.{needs}
 use mathlib.Core.Path.{sym}
-use Rattle.settle_facts.specs.Looks.{facts, reduction-in, second-in, entry-is}
+use Rattle.settle_facts.specs.CellFacts.{facts, reduction-in, second-in, entry-is}
 use Rattle.settle_facts.proofs.look.Statement.{statement}
 use Rattle.settle_facts.proofs.look.Tie as tie
 

@@ -1,7 +1,7 @@
 -- `settle_facts::month_of` meets its contract: the number in the event's row. Assumes nothing.
 use borrow.Author.Needs.{needs}
 use mathlib.Core.Path.{sym}
-use Rattle.settle_facts.specs.Looks.{month-in}
+use Rattle.settle_facts.specs.CellFacts.{month-in}
 use Rattle.settle_facts.proofs.month_of.Statement.{statement}
 use Rattle.settle_facts.proofs.month_of.Tie as tie
 

@@ -1,7 +1,7 @@
 -- `settle_facts::one_or_three` meets its contract: a test of the number in the event's row. Assumes nothing.
 use borrow.Author.Needs.{needs}
 use borrow.Author.Tests.{ne-eqb}
-use Rattle.settle_facts.specs.Looks.{period-in}
+use Rattle.settle_facts.specs.CellFacts.{period-in}
 use Rattle.settle_facts.proofs.one_or_three.Statement.{statement}
 use Rattle.settle_facts.proofs.one_or_three.Tie as tie
 

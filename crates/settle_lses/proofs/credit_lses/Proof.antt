@@ -9,7 +9,7 @@ use borrow.Author.Tests.{lt-ltb}
 use Rattle.allotment.specs.Allot.{share, share-zero}
 use Rattle.allotment.specs.Stepper.{Before, before-first, share-asks, share-value, share-next, share-skip, divisions-made}
 use Rattle.year.specs.Year.{obligation}
-use Rattle.settle_facts.specs.Looks.{facts}
+use Rattle.settle_facts.specs.CellFacts.{facts}
 use Rattle.owed.specs.Divisions.{knownLse, lseDivisions}
 use Rattle.owed_laws.specs.Limits.{limits}
 use Rattle.owed_laws.specs.Totals.{obligations-le}

@@ -3,7 +3,7 @@ use Prim.Native.Nat.{_+_, _-_, _≤_}
 use mathlib.Core.Path.{_≡_, _∙_}
 use native.Mathlib.Omega.{arith}
 use borrow.Author.Needs.{needs}
-use Rattle.settle_table.specs.Places.{areaRateRow, lentRow, worthRow}
+use Rattle.settle_table.specs.Places.{areaRateRow, areaKwRow, areaWorthRow}
 use Rattle.settle_table.specs.Rows.{Aside, Row, aside-none, aside-more, row-first, row-more}
 use Rattle.settle_rates.specs.Rating.{averageIn}
 use Rattle.settle_rates.proofs.average.Statement.{statement}
@@ -26,9 +26,9 @@ loop-again c =
     let l = c .before .before .before .before .before .before .before .before .loop in
     let a = l .inv .1 .1 in
     let below = c .before .before .before .before .before .before .before .loop-test .taken in
-    let worth = c .before .before .before .get2 .ensures ∙ a .outside (worthRow + l .a) (λ x y. omega (arith, below)) in
-    let lent = c .before .before .before .before .before .get .ensures ∙ a .outside (lentRow + l .a) (λ x y. omega (arith, below)) in
-    let rate = rw (worth, lent) at (c .before .before .average .ensures) in
+    let worth = c .before .before .before .get2 .ensures ∙ a .outside (areaWorthRow + l .a) (λ x y. omega (arith, below)) in
+    let kw = c .before .before .before .before .before .get .ensures ∙ a .outside (areaKwRow + l .a) (λ x y. omega (arith, below)) in
+    let rate = rw (worth, kw) at (c .before .before .average .ensures) in
     (omega (arith, below), (row-more (l .inv .1 .0) (c .put .ensures) rate, aside-more a (c .put .ensures) (omega arith) (omega (arith, below))))
 
 returns : tie.Need-returns Inv-loop μ-loop

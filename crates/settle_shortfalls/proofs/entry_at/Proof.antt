@@ -3,7 +3,7 @@ use Prim.Native.Nat.{_-_}
 use mathlib.Core.Path.{_≡_, _∙_}
 use native.Mathlib.Omega.{arith}
 use borrow.Author.Needs.{needs}
-use Rattle.settle_facts.specs.Looks.{facts}
+use Rattle.settle_facts.specs.CellFacts.{facts}
 use Rattle.owed_laws.specs.Limits.{limits}
 use Rattle.settle_shortfalls.proofs.entry_at.Statement.{statement}
 use Rattle.settle_shortfalls.proofs.entry_at.Tie as tie
@@ -19,9 +19,9 @@ returns c =
     let look = c .before .before .before .before .before .before .before .look .ensures in
     let committed = c .before .before .before .new .ensures ∙ committed-is (c .before .before .before .before) in
     let seller = c .get2 .ensures ∙ s .pre .1 .1 .seller .is (s .args .i) (s .pre .1 .0 .1) in
-    let lack = c .before .before .less .ensures ∙ (λ j. committed j - look j .reduction .0) in
-    let more = c .before .less2 .ensures ∙ (λ j. look j .reduction .0 - committed j) in
-    λ j. record { listed = look j .listed; seller = seller j; lack = record { 0 = lack j }; more = record { 0 = more j }; second = look j .second }
+    let short = c .before .before .less .ensures ∙ (λ j. committed j - look j .reduction .0) in
+    let over = c .before .less2 .ensures ∙ (λ j. look j .reduction .0 - committed j) in
+    λ j. record { listed = look j .listed; seller = seller j; short = record { 0 = short j }; over = record { 0 = over j }; second = look j .second }
 
 pub entry-at-spec : {M : Type 1} → statement M
 entry-at-spec =

@@ -3,12 +3,12 @@ use Prim.Native.Nat.{_+_, _-_}
 use mathlib.Core.Path.{ap, sym, _∙_}
 use mathlib.Core.Logic.{⊎-elim}
 use native.Mathlib.Omega.{arith}
-use Rattle.settle_facts.specs.Looks.{facts}
+use Rattle.settle_facts.specs.CellFacts.{facts}
 use Rattle.owed_laws.specs.Limits.{limits}
-use Rattle.settle_table.specs.Places.{moreRow}
-use Rattle.settle_shortfalls.specs.declared.Entry.{Entry}
+use Rattle.settle_table.specs.Places.{overRow}
+use Rattle.settle_shortfalls.specs.declared.MeasuredEntry.{MeasuredEntry}
 use Rattle.settle_shortfalls.specs.Weighing.{Weighing, weighing-first, weighing-none, weighing-more, weighing-all}
-use Rattle.settle_shortfalls.specs.Sums.{lack-room, more-room}
+use Rattle.settle_shortfalls.specs.Sums.{short-room, over-room}
 use Rattle.settle_shortfalls.proofs.sums.Statement.{statement}
 use Rattle.settle_shortfalls.proofs.sums.Tie as tie
 
@@ -23,7 +23,7 @@ add-at-requires c κs =
     let l = c .before .before .before .before .before .loop in
     let L = limits (c .before .before .before .before .before .before .pre .0 .sound) in
     let b = L .seller (l .i) in
-    rw (c .before .before .entry-at .ensures) (omega (arith, b, l .inv .columns .long), omega (arith, L .committed (l .i), lack-room (l .inv .sums) L (l .inv .upto) _ b))
+    rw (c .before .before .entry-at .ensures) (omega (arith, b, l .inv .columns .long), omega (arith, L .committed (l .i), short-room (l .inv .sums) L (l .inv .upto) _ b))
 
 add-at-requires-2 : tie.Need-add-at-requires-2 Inv-loop μ-loop
 add-at-requires-2 c κs =
@@ -33,14 +33,14 @@ add-at-requires-2 c κs =
     let b = L .seller (l .i) in
     let e = c .before .before .before .before .entry-at .ensures in
     let d = rw e at (c .before .add-at .ensures) in
-    let kept = d .others (moreRow + facts (s .args .year .now) .seller (l .i)) (λ z. omega (arith, b)) in
-    rw e (omega (arith, b, d .long, l .inv .columns .long), omega (arith, L .reduction (s .args .ev) (l .i), kept, more-room (l .inv .sums) L (l .inv .upto) _ b (L .reduction (s .args .ev))))
+    let kept = d .others (overRow + facts (s .args .year .now) .seller (l .i)) (λ z. omega (arith, b)) in
+    rw e (omega (arith, b, d .long, l .inv .columns .long), omega (arith, L .reduction (s .args .ev) (l .i), kept, over-room (l .inv .sums) L (l .inv .upto) _ b (L .reduction (s .args .ev))))
 
 loop-again : tie.Need-loop-again Inv-loop μ-loop
 loop-again c =
     let l = c .before .before .before .before .loop in
     let e = c .before .entry-at .ensures in
-    let listed = sym (ap (λ (x : Entry). x .listed) e) in
+    let listed = sym (ap (λ (x : MeasuredEntry). x .listed) e) in
     ⊎-elim
     (λ a. rw (a .5) (weighing-more (l .inv) (omega arith) (listed ∙ a .0 .taken) (limits (c .before .before .before .before .before .pre .0 .sound) .seller (l .i)) (rw e at (a .2 .ensures)) (rw e at (a .4 .ensures))))
     (λ a. rw (a .1) (weighing-none (l .inv) (omega arith) (listed ∙ a .0 .left)))

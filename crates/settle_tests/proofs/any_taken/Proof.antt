@@ -10,10 +10,10 @@ use Rattle.settle_tests.proofs.any_taken.Statement.{statement}
 use Rattle.settle_tests.proofs.any_taken.Tie as tie
 
 abbrev Inv-loop : tie.InvT-loop
-Inv-loop year place₀ place = (place ≤ 24) × (anyTo place (takenAt year) ≡ false)
+Inv-loop year place₀ group = (group ≤ 24) × (anyTo group (takenAt year) ≡ false)
 
 abbrev μ-loop : tie.MeasureT-loop
-μ-loop year place₀ place = 24 - place
+μ-loop year place₀ group = 24 - group
 
 loop-holds : tie.Need-loop-holds Inv-loop μ-loop
 unfolding anyTo
@@ -22,15 +22,15 @@ loop-holds c = (omega arith, refl)
 returns : tie.Need-returns Inv-loop μ-loop
 returns c =
     let l = c .before .before .before in
-    sym (any-at 24 (takenAt (l .before .args .year .now)) (l .loop .place) (omega arith) (sym (c .before .test-taken .ensures) ∙ c .if1 .taken))
+    sym (any-at 24 (takenAt (l .before .args .year .now)) (l .loop .group) (omega arith) (sym (c .before .test-taken .ensures) ∙ c .if1 .taken))
 
 loop-again : tie.Need-loop-again Inv-loop μ-loop
 loop-again c =
     let l = c .before .before .before in
-    (omega arith, any-none (l .loop .place) (takenAt (l .before .args .year .now)) (l .loop .inv .1) (sym (c .before .test-taken .ensures) ∙ c .if1 .left))
+    (omega arith, any-none (l .loop .group) (takenAt (l .before .args .year .now)) (l .loop .inv .1) (sym (c .before .test-taken .ensures) ∙ c .if1 .left))
 
 returns-2 : tie.Need-returns-2 Inv-loop μ-loop
-returns-2 c = let z : c .before .loop .place ≡ 24 = omega arith in sym (rw z at (c .before .loop .inv .1))
+returns-2 c = let z : c .before .loop .group ≡ 24 = omega arith in sym (rw z at (c .before .loop .inv .1))
 
 pub any-taken-spec : {M : Type 1} → statement M
 any-taken-spec =

@@ -5,7 +5,7 @@ use native.Mathlib.Omega.{arith}
 use lib.ListN.{length}
 use Rattle.ids.specs.Sets.{getD-replicate-same}
 use Rattle.owed.specs.Owed.{test}
-use Rattle.settle_facts.specs.Looks.{facts}
+use Rattle.settle_facts.specs.CellFacts.{facts}
 use Rattle.settle_table.specs.Places.{size, testRow}
 use Rattle.settle_table.specs.Rows.{Aside, aside-none, aside-more, Row, row-same, row-first, row-more}
 use Rattle.settle_tests.specs.Entries.{unless, none-taken}

@@ -10,7 +10,7 @@ use Rattle.settle_tests.proofs.deficit_of.Tie as tie
 sum-requires : tie.Need-sum-requires
 sum-requires c κs =
     let s = c .before in
-    omega (arith, deficit-in (s .args .year .now) (s .pre .1 .0) (s .pre .1 .1), limits (s .pre .0 .sound) .testDeficit (s .args .place) (s .args .s))
+    omega (arith, deficit-in (s .args .year .now) (s .pre .1 .0) (s .pre .1 .1), limits (s .pre .0 .sound) .testDeficit (s .args .group) (s .args .s))
 
 returns : tie.Need-returns
 returns c = let s = c .before .before in c .sum .ensures ∙ sym (deficit-in (s .args .year .now) (s .pre .1 .0) (s .pre .1 .1))

@@ -5,20 +5,20 @@ use mathlib.Core.Logic.{⊎-elim}
 use native.Mathlib.Omega.{arith}
 use Rattle.ids.specs.Ids.{sumTo}
 use Rattle.ids.specs.Sums.{sum-step}
-use Rattle.owed.specs.Owed.{testOf, test}
+use Rattle.owed.specs.Owed.{testCharge, test}
 use Rattle.owed_laws.specs.Limits.{limits}
 use Rattle.owed_laws.specs.Bounds.{D-le, test-le}
 use Rattle.owed_laws.specs.Totals.{test-most}
-use Rattle.settle_facts.specs.Looks.{facts}
+use Rattle.settle_facts.specs.CellFacts.{facts}
 use Rattle.settle_tests.specs.Entries.{untaken}
 use Rattle.settle_tests.proofs.test_of.Statement.{statement}
 use Rattle.settle_tests.proofs.test_of.Tie as tie
 
 abbrev Inv-loop : tie.InvT-loop
-Inv-loop year sums s k days sum₀ place₀ sum place = (place ≤ 24) × (sum ≡ sumTo place (λ p. testOf (facts year) k p s))
+Inv-loop year sums s k days sum₀ place₀ sum group = (group ≤ 24) × (sum ≡ sumTo group (λ p. testCharge (facts year) k p s))
 
 abbrev μ-loop : tie.MeasureT-loop
-μ-loop year sums s k days sum₀ place₀ sum place = 24 - place
+μ-loop year sums s k days sum₀ place₀ sum group = 24 - group
 
 loop-holds : tie.Need-loop-holds Inv-loop μ-loop
 unfolding sumTo
@@ -28,8 +28,8 @@ charge-of-requires : tie.Need-charge-of-requires Inv-loop μ-loop
 charge-of-requires c κs = let s = c .before .before .before .before .before in (s .pre .0, (s .pre .1 .0, (omega arith, s .pre .1 .1 .0, rw (c .before .before .before .before .days-to .ensures) (D-le (limits (s .pre .0 .sound)) (s .args .k)))))
 
 -- the charge is the test's
-is-charge : (c : tie.After-charge-of Inv-loop μ-loop) → c .charge-of .result ≡ testOf (facts (c .before .before .before .before .before .before .args .year .now)) (c .before .before .before .before .before .before .args .k) (c .before .before .before .before .loop .place) (c .before .before .before .before .before .before .args .s)
-unfolding testOf
+is-charge : (c : tie.After-charge-of Inv-loop μ-loop) → c .charge-of .result ≡ testCharge (facts (c .before .before .before .before .before .before .args .year .now)) (c .before .before .before .before .before .before .args .k) (c .before .before .before .before .loop .group) (c .before .before .before .before .before .before .args .s)
+unfolding testCharge
 is-charge c = c .charge-of .ensures ∙ rw (c .before .before .before .before .before .days-to .ensures)
 
 add-sum : tie.Need-add-sum Inv-loop μ-loop
@@ -37,14 +37,14 @@ add-sum c =
     let s = c .before .before .before .before .before .before in
     let l = c .before .before .before .before .loop in
     let L = limits (s .pre .0 .sound) in
-    record { fits = omega (arith, l .inv .1, is-charge c, test-le L (s .args .k) (l .place) (s .args .s), test-most L (s .args .k) (l .place) (s .args .s) (l .inv .0)) }
+    record { fits = omega (arith, l .inv .1, is-charge c, test-le L (s .args .k) (l .group) (s .args .s), test-most L (s .args .k) (l .group) (s .args .s) (l .inv .0)) }
 
 loop-again : tie.Need-loop-again Inv-loop μ-loop
 loop-again c =
     let s = c .before .before .before .before .before in
     let y = s .args .year .now in
     let l = c .before .before .before .loop in
-    let step = sum-step (l .place) (λ p. testOf (facts y) (s .args .k) p (s .args .s)) in
+    let step = sum-step (l .group) (λ p. testCharge (facts y) (s .args .k) p (s .args .s)) in
     ⊎-elim
     (λ a.
     let k : tie.After-charge-of Inv-loop μ-loop = record { before = record { before = c .before; if1 = a .0 }; charge-of = a .1 } in
@@ -54,7 +54,7 @@ loop-again c =
 
 returns : tie.Need-returns Inv-loop μ-loop
 unfolding test
-returns c = let l = c .before .loop in let z : l .place ≡ 24 = omega arith in rw z at (l .inv .1)
+returns c = let l = c .before .loop in let z : l .group ≡ 24 = omega arith in rw z at (l .inv .1)
 
 pub test-of-spec : {M : Type 1} → statement M
 test-of-spec =

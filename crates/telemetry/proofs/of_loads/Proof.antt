@@ -4,7 +4,7 @@ use mathlib.Core.Bool.{Bool, true, false}
 use Prim.Native.Nat.{ℕ, _/_}
 use borrow.Author.Needs.{needs}
 use Rattle.telemetry_eighths.specs.Eighths.{counts}
-use Rattle.telemetry.specs.Reduction.{limited, reductionOf}
+use Rattle.telemetry.specs.Reduction.{withinLimit, reductionOf}
 use Rattle.telemetry.proofs.of_loads.Statement.{statement}
 use Rattle.telemetry.proofs.of_loads.Tie as tie
 
@@ -27,7 +27,7 @@ unfolding reductionOf
 returns c =
     let at = c .before .before .before in
     let kw : c .before .whole-kw .result ≡ _ = c .before .whole-kw .ensures ∙ ap (λ (n : ℕ). n / 8) (c .before .before .less .ensures .exact) in
-    rw (expected (at .before .before), metered at) (c .limited .ensures ∙ ap limited kw)
+    rw (expected (at .before .before), metered at) (c .within-limit .ensures ∙ ap withinLimit kw)
 
 returns-2 : tie.Need-returns-2
 unfolding reductionOf

@@ -22,8 +22,8 @@ loop-holds c =
     let a = c .before .before .args in
     (omega arith, lines-none (amountAt (a .statement .now)) 42 (a .from .next .at) (a .out .now) (a .from .at) (omega arith), omega arith, omega arith)
 
-take-requires : tie.Need-take-requires Inv-loop μ-loop
-take-requires c κs =
+read-field-requires : tie.Need-read-field-requires Inv-loop μ-loop
+read-field-requires c κs =
     let s = c .before .before .before .before in
     let l = c .before .loop in
     record { some = omega arith; narrow = omega arith; within = omega (arith, s .pre .1 .0 .within, l .inv .3); small = omega (arith, s .pre .1 .0 .small, l .inv .3) }
@@ -33,13 +33,13 @@ put-amount-requires c κs =
     let s = c .before .before .before .before .before .before in
     let l = c .before .before .before .loop in
     let same = pasted-length (l .inv .1) in
-    (omega (arith, c .before .take .ensures .value, field-lt (s .args .statement .now) (l .place .next .at) 42), omega (arith, s .pre .1 .1, l .inv .2))
+    (omega (arith, c .before .read-field .ensures .value, field-lt (s .args .statement .now) (l .place .next .at) 42), omega (arith, s .pre .1 .1, l .inv .2))
 
 loop-again : tie.Need-loop-again Inv-loop μ-loop
 loop-again c =
     let a = c .before .before .before .before .before .before .before .before .before .before .args in
     let l = c .before .before .before .before .before .before .before .loop in
-    let take = c .before .before .before .before .before .take .ensures in
+    let take = c .before .before .before .before .before .read-field .ensures in
     let put = c .before .before .before .put-amount .ensures in
     let line = rw (take .value, l .inv .3) at (put .0) in
     (omega arith, lines-step (amountAt (a .statement .now)) 42 (a .from .next .at) (l .i) (l .inv .1) line, omega (arith, put .1, l .inv .2), omega (arith, take .next, l .inv .3))
@@ -57,7 +57,7 @@ put-amounts-spec =
     Inv-loop
     μ-loop
     loop-holds
-    take-requires
+    read-field-requires
     put-amount-requires
     (λ c. search needs)
     (λ c. search needs)

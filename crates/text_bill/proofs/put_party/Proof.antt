@@ -9,7 +9,7 @@ use Rattle.text_bill.proofs.put_party.Tie as tie
 returns : tie.Need-returns
 unfolding partyLine
 returns c =
-    let field = c .before .before .before .before .before .before .before .before .before .before .before .before .before .before .before .before .before .before .take .ensures in
+    let field = c .before .before .before .before .before .before .before .before .before .before .before .before .before .before .before .before .before .before .read-field .ensures in
     let letter = c .before .before .before .before .before .before .before .before .before .before .before .before .before .before .before .before .put-byte .ensures in
     let id = c .before .before .before .before .before .before .before .before .before .before .before .before .put-number .ensures in
     let amounts = c .before .before .before .before .before .before .before .put-amounts .ensures in

@@ -11,15 +11,15 @@ use Rattle.text_bill.proofs.statement_lines.Statement.{statement}
 use Rattle.text_bill.proofs.statement_lines.Tie as tie
 
 -- the three fields in front, and the cursor behind them
-front-at : (c : tie.After-take3) → let xs = c .before .before .before .before .before .before .args .statement .now in
-    (c .before .before .take .result .value ≡ fieldAt xs 0 4) × (c .before .take2 .result .value ≡ fieldAt xs 4 5) × (c .take3 .result .value ≡ fieldAt xs 9 5) × (c .take3 .result .next .at ≡ 14)
+front-at : (c : tie.After-read-field3) → let xs = c .before .before .before .before .before .before .args .statement .now in
+    (c .before .before .read-field .result .value ≡ fieldAt xs 0 4) × (c .before .read-field2 .result .value ≡ fieldAt xs 4 5) × (c .read-field3 .result .value ≡ fieldAt xs 9 5) × (c .read-field3 .result .next .at ≡ 14)
 front-at c =
     let z = c .before .before .before .first .ensures in
-    let a : c .before .before .take .result .next .at ≡ 4 = omega (arith, c .before .before .take .ensures .next) in
-    let b : c .before .take2 .result .next .at ≡ 9 = omega (arith, c .before .take2 .ensures .next) in
-    (rw z at (c .before .before .take .ensures .value), rw a at (c .before .take2 .ensures .value), rw b at (c .take3 .ensures .value), omega (arith, c .take3 .ensures .next))
+    let a : c .before .before .read-field .result .next .at ≡ 4 = omega (arith, c .before .before .read-field .ensures .next) in
+    let b : c .before .read-field2 .result .next .at ≡ 9 = omega (arith, c .before .read-field2 .ensures .next) in
+    (rw z at (c .before .before .read-field .ensures .value), rw a at (c .before .read-field2 .ensures .value), rw b at (c .read-field3 .ensures .value), omega (arith, c .read-field3 .ensures .next))
 
-counts-at : (c : tie.After-take3) → (c .before .take2 .result .value ≤ 31) × (c .take3 .result .value ≤ 31)
+counts-at : (c : tie.After-read-field3) → (c .before .read-field2 .result .value ≤ 31) × (c .read-field3 .result .value ≤ 31)
 counts-at c =
     let xs = c .before .before .before .before .before .before .args .statement .now in
     let f = front-at c in

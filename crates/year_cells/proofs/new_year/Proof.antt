@@ -2,7 +2,7 @@
 use Prim.Native.Nat.{ℕ}
 use lib.ListN.{replicate, length-replicate}
 use Rattle.ids.specs.Sets.{getD-replicate-same}
-use Rattle.year.specs.Kept.{sound-new}
+use Rattle.year.specs.StaysSound.{sound-new}
 use Rattle.year_cells.specs.Regions.{new-year}
 use Rattle.year_cells.proofs.new_year.Statement.{statement}
 use Rattle.year_cells.proofs.new_year.Tie as tie

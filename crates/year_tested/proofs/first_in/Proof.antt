@@ -9,12 +9,12 @@ use Rattle.year_tested.proofs.tested_in.Reads as tested-in-reads
 returns : tie.Need-returns
 returns c =
     let s = c .before .before .before in
-    sym (first-in (s .args .year .now) (s .pre .0 .sound) (s .args .place) (s .pre .1) ∙ rw (sym (tested-in (s .args .year .now) (s .pre .0 .sound) (s .args .place) (s .pre .1)) ∙ sym (c .before .before .tested-in .ensures) ∙ c .before .if1 .taken))
+    sym (first-in (s .args .year .now) (s .pre .0 .sound) (s .args .group) (s .pre .1) ∙ rw (sym (tested-in (s .args .year .now) (s .pre .0 .sound) (s .args .group) (s .pre .1)) ∙ sym (c .before .before .tested-in .ensures) ∙ c .before .if1 .taken))
 
 returns-2 : tie.Need-returns-2
 returns-2 c =
     let s = c .before .before in
-    sym (first-in (s .args .year .now) (s .pre .0 .sound) (s .args .place) (s .pre .1) ∙ rw (sym (tested-in (s .args .year .now) (s .pre .0 .sound) (s .args .place) (s .pre .1)) ∙ sym (c .before .tested-in .ensures) ∙ c .if1 .left))
+    sym (first-in (s .args .year .now) (s .pre .0 .sound) (s .args .group) (s .pre .1) ∙ rw (sym (tested-in (s .args .year .now) (s .pre .0 .sound) (s .args .group) (s .pre .1)) ∙ sym (c .before .tested-in .ensures) ∙ c .if1 .left))
 
 pub first-in-spec : {M : Type 1} → statement M
 first-in-spec =

@@ -6,7 +6,7 @@ use native.Mathlib.Omega.{arith}
 use borrow.Author.Tests.{eq-eqb, ne-eqb}
 use Rattle.year.specs.Year.{zone, product}
 use Rattle.year.specs.Limits.{zone-below, product-below}
-use Rattle.year_cells.specs.Layout.{placeIn}
+use Rattle.year_cells.specs.Layout.{groupIn}
 use Rattle.year_tested.specs.Tested.{tested-in}
 use Rattle.year_tested.proofs.tested_in.Statement.{statement}
 use Rattle.year_tested.proofs.tested_in.Tie as tie
@@ -21,20 +21,20 @@ product-most : (c : tie.After-registration-at) → c .registration-at .result .p
 unfolding product
 product-most c = rw (c .registration-at .ensures) (product-below (c .before .pre .0 .sound .terms) (c .before .args .i))
 
-place-is : (c : tie.After-registration-at) → 3 * c .registration-at .result .zone + c .registration-at .result .product ≡ placeIn (c .before .args .year .now) (c .before .args .i)
-unfolding placeIn zone product
-place-is c = rw (c .registration-at .ensures)
+group-is : (c : tie.After-registration-at) → 3 * c .registration-at .result .zone + c .registration-at .result .product ≡ groupIn (c .before .args .year .now) (c .before .args .i)
+unfolding groupIn zone product
+group-is c = rw (c .registration-at .ensures)
 
 returns : tie.Need-returns
 returns c =
     let r = c .before .before .before .before in
     let s = r .before in
-    rw (place-is r) (sym (tested-in (s .args .year .now) (s .pre .0 .sound) (s .args .place) (s .pre .1) ∙ rw (ne-eqb _ 0 (c .before .before .if1 .taken))))
+    rw (group-is r) (sym (tested-in (s .args .year .now) (s .pre .0 .sound) (s .args .group) (s .pre .1) ∙ rw (ne-eqb _ 0 (c .before .before .if1 .taken))))
 
 returns-2 : tie.Need-returns-2
 returns-2 c =
     let s = c .before .before .before in
-    sym (tested-in (s .args .year .now) (s .pre .0 .sound) (s .args .place) (s .pre .1) ∙ rw (eq-eqb _ 0 (c .if1 .left)))
+    sym (tested-in (s .args .year .now) (s .pre .0 .sound) (s .args .group) (s .pre .1) ∙ rw (eq-eqb _ 0 (c .if1 .left)))
 
 pub tested-in-spec : {M : Type 1} → statement M
 tested-in-spec =

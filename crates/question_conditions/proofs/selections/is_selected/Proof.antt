@@ -8,7 +8,7 @@ use Rattle.question_conditions.proofs.selections.is_selected.Tie as tie
 use Rattle.year_cells.proofs.registration_at.Reads as registration-at-reads
 use Rattle.question_conditions.proofs.conditions.in_group.Reads as in-group-reads
 use Rattle.question_conditions.proofs.test_entries.has_failed.Reads as has-failed-reads
-use Rattle.question_conditions.proofs.selections.is_called.Reads as is-called-reads
+use Rattle.question_conditions.proofs.selections.is_dispatched.Reads as is-dispatched-reads
 use Rattle.question_conditions.proofs.test_entries.is_entry.Reads as is-entry-reads
 use Rattle.question_conditions.proofs.test_entries.is_retested.Reads as is-retested-reads
 
@@ -20,7 +20,7 @@ returns-2 : tie.Need-returns-2
 unfolding inGroup known zone product
 returns-2 c =
     let r = c .before .before .before .before .before .before .registration-at .ensures in
-    rw (c .before .before .before .before .selection .given .1, sym (rw r at (c .before .before .in-group .ensures)), c .before .if1 .taken, sym (c .is-called .ensures))
+    rw (c .before .before .before .before .selection .given .1, sym (rw r at (c .before .before .in-group .ensures)), c .before .if1 .taken, sym (c .is-dispatched .ensures))
 
 returns-3 : tie.Need-returns-3
 unfolding inGroup known zone product

@@ -1,7 +1,7 @@
 -- `settle_closing::events::bill_event` meets its contract: each pass finds what the one before it left. Assumes nothing.
 use native.Mathlib.Omega.{arith}
 use lib.Dec.{lit≤}
-use Rattle.settle_table.specs.Places.{callsRow, offURow, passedPlaces, apartPlaces}
+use Rattle.settle_table.specs.Places.{dispatchCountRow, offURow, passedPlaces, offPeakPlaces}
 use Rattle.settle_table.specs.Rows.{aside-then, row-aside, row-within}
 use Rattle.settle_shortfalls.specs.Sharing.{shares-aside}
 use Rattle.settle_charges.specs.Charging.{given-aside}
@@ -24,7 +24,7 @@ measure-requires c κs =
     let g = c .before .before .before .weigh .ensures in
     let a = c .before .share .ensures in
     let h = run-aside (run-aside (s .1 .1) (g .1) (lit≤ tt)) (a .1 .1) (lit≤ tt) in
-    let fresh = row-aside (row-within offURow apartPlaces (g .0 .fresh) (omega arith) (omega arith)) (a .1 .1) (λ j l x y. omega arith) in
+    let fresh = row-aside (row-within offURow offPeakPlaces (g .0 .fresh) (omega arith) (omega arith)) (a .1 .1) (λ j l x y. omega arith) in
     (s .0, (s .1 .0 .0, (record { columns = h .columns; shares = a .0 }, fresh)))
 
 charge-requires : tie.Need-charge-requires
@@ -55,9 +55,9 @@ returns c =
     let d = c .credit .ensures in (
       run-more (run-aside (run-aside (run-aside (c .before .before .before .before .before .before .before .before .before .before .pre .1 .1) (g .1) (lit≤ tt)) (a .1 .1) (lit≤ tt)) (m .1 .1) (lit≤ tt)) (k .1 .1) (k .0) (d .1 .1) (d .0),
       aside-then
-          (aside-then {q = callsRow} {m = passedPlaces}
-          (aside-then {q = callsRow} {m = passedPlaces}
-          (aside-then {q = callsRow} {m = passedPlaces} (g .1) (a .1 .1) (omega arith) (omega arith) (omega arith) (omega arith))
+          (aside-then {q = dispatchCountRow} {m = passedPlaces}
+          (aside-then {q = dispatchCountRow} {m = passedPlaces}
+          (aside-then {q = dispatchCountRow} {m = passedPlaces} (g .1) (a .1 .1) (omega arith) (omega arith) (omega arith) (omega arith))
           (m .1 .1) (omega arith) (omega arith) (omega arith) (omega arith))
           (k .1 .1) (omega arith) (omega arith) (omega arith) (omega arith))
           (d .1 .1) (omega arith) (omega arith) (omega arith) (omega arith),

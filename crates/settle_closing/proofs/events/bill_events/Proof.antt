@@ -4,21 +4,21 @@ use mathlib.Core.Path.{_≡_}
 use native.Mathlib.Omega.{arith}
 use Rattle.settle_charges.specs.Charging.{billed-all}
 use Rattle.settle_credits.specs.Crediting.{credit-all}
-use Rattle.settle_facts.specs.Looks.{facts}
-use Rattle.settle_table.specs.Places.{callsRow, passedPlaces}
+use Rattle.settle_facts.specs.CellFacts.{facts}
+use Rattle.settle_table.specs.Places.{dispatchCountRow, passedPlaces}
 use Rattle.settle_table.specs.Rows.{Aside, aside-none, aside-then, row-within}
 use Rattle.settle_closing.specs.Passes.{Run, run-first}
 use Rattle.settle_closing.proofs.events.bill_events.Statement.{statement}
 use Rattle.settle_closing.proofs.events.bill_events.Tie as tie
 
 abbrev Inv-loop : tie.InvT-loop
-Inv-loop year work₀ k held ev₀ work ev = (ev ≤ held) × (Run (facts year) k ev work × Aside callsRow passedPlaces work₀ work)
+Inv-loop year work₀ k accepted ev₀ work ev = (ev ≤ accepted) × (Run (facts year) k ev work × Aside dispatchCountRow passedPlaces work₀ work)
 
 abbrev μ-loop : tie.MeasureT-loop
-μ-loop year work₀ k held ev₀ work ev = held - ev
+μ-loop year work₀ k accepted ev₀ work ev = accepted - ev
 
 count-requires : tie.Need-count-requires Inv-loop μ-loop
-count-requires c κs = let s = c .before .pre in (s .0, (s .1 .1 .0 .long, row-within callsRow 128 (s .1 .1 .1) (omega arith) (omega arith)))
+count-requires c κs = let s = c .before .pre in (s .0, (s .1 .1 .0 .long, row-within dispatchCountRow 128 (s .1 .1 .1) (omega arith) (omega arith)))
 
 loop-holds : tie.Need-loop-holds Inv-loop μ-loop
 loop-holds c =
@@ -34,7 +34,7 @@ loop-holds c =
 bill-event-requires : tie.Need-bill-event-requires Inv-loop μ-loop
 bill-event-requires c κs =
     let s = c .before .before .before .before .before .before .pre in
-    (s .0, ((omega (arith, c .before .before .before .held .ensures, s .0 .sound .held), s .1 .0 .0, s .1 .0 .1), c .before .before .loop .inv .1 .0))
+    (s .0, ((omega (arith, c .before .before .before .events-accepted .ensures, s .0 .sound .accepted), s .1 .0 .0, s .1 .0 .1), c .before .before .loop .inv .1 .0))
 
 loop-again : tie.Need-loop-again Inv-loop μ-loop
 loop-again c =
@@ -47,9 +47,9 @@ returns c =
     let l = c .before .loop in
     let s = c .before .before .before .before .before .args in
     let F = facts (s .year .now) in
-    let z : l .ev ≡ F .events = omega (arith, c .before .before .held .ensures) in
+    let z : l .ev ≡ F .events = omega (arith, c .before .before .events-accepted .ensures) in
     let h = rw z at (l .inv .1 .0) in
-    (billed-all (h .billed), (credit-all F (s .k) (h .credit), (h .called, aside-then (c .before .before .before .count .ensures .1 .1) (l .inv .1 .1) (omega arith) (omega arith) (omega arith) (omega arith))))
+    (billed-all (h .billed), (credit-all F (s .k) (h .credit), (h .dispatched, aside-then (c .before .before .before .count .ensures .1 .1) (l .inv .1 .1) (omega arith) (omega arith) (omega arith) (omega arith))))
 
 pub bill-events-spec : {M : Type 1} → statement M
 bill-events-spec =

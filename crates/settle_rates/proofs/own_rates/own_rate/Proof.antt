@@ -7,7 +7,7 @@ use borrow.Author.Tests.{lt-ltb, not-true, not-false}
 use Rattle.year.specs.Year.{known, fieldRate}
 use Rattle.year.specs.Limits.{clearings-sound}
 use Rattle.owed.specs.Owed.{own}
-use Rattle.settle_facts.specs.Looks.{facts}
+use Rattle.settle_facts.specs.CellFacts.{facts}
 use Rattle.settle_rates.proofs.own_rates.own_rate.Statement.{statement}
 use Rattle.settle_rates.proofs.own_rates.own_rate.Tie as tie
 

@@ -2,7 +2,7 @@
 use Prim.Native.Nat.{_-_}
 use mathlib.Core.Path.{_≡_, _∙_}
 use native.Mathlib.Omega.{arith}
-use Rattle.settle_facts.specs.Looks.{facts}
+use Rattle.settle_facts.specs.CellFacts.{facts}
 use Rattle.owed_laws.specs.Limits.{limits}
 use Rattle.settle_shortfalls.specs.Sharing.{secondOf}
 use Rattle.settle_shortfalls.specs.OffPeak.{entry-is, second-small}
@@ -25,7 +25,7 @@ returns c =
     let committed = c .before .before .before .before .before .new .ensures ∙ committed-is (c .before .before .before .before .before .before) in
     let second = c .before .before .before .new2 .ensures ∙ second-is (c .before .before .before .before) in
     entry-is (facts (s .args .year .now)) (s .args .ev) i
-    (c .before .before .before .before .before .before .before .before .before .is-apart .ensures)
+    (c .before .before .before .before .before .before .before .before .before .is-dual .ensures)
     (c .before .before .before .before .before .before .before .before .get .ensures ∙ s .pre .1 .1 .shares .listed .is i l)
     (c .before .before .before .before .before .before .before .get2 .ensures ∙ s .pre .1 .1 .columns .product .is i l)
     (c .get5 .ensures ∙ s .pre .1 .1 .columns .seller .is i l)

@@ -5,10 +5,10 @@ use mathlib.Core.Logic.{⊎-elim}
 use mathlib.Core.Bool.{true}
 use native.Mathlib.Omega.{arith}
 use lib.Dec.{lit≤}
-use Rattle.settle_facts.specs.Looks.{facts}
+use Rattle.settle_facts.specs.CellFacts.{facts}
 use Rattle.owed.specs.Owed.{measured}
 use Rattle.owed_laws.specs.Limits.{limits}
-use Rattle.settle_shortfalls.specs.declared.off_peak.Entry.{Entry}
+use Rattle.settle_shortfalls.specs.declared.off_peak.OffPeakEntry.{OffPeakEntry}
 use Rattle.settle_shortfalls.specs.OffPeak.{Sharing, sharing-first, sharing-none, sharing-more, sharing-all, u-asks}
 use Rattle.settle_shortfalls.proofs.off_peak.share.Statement.{statement}
 use Rattle.settle_shortfalls.proofs.off_peak.share.Tie as tie
@@ -20,7 +20,7 @@ abbrev μ-loop : tie.MeasureT-loop
 μ-loop year work₀ ev i₀ work i = 64 - i
 
 on : (c : tie.After-entry-at Inv-loop μ-loop) → c .entry-at .result .measured ≡ true → measured (facts (c .before .before .before .before .args .year .now)) (c .before .before .before .before .args .ev) (c .before .before .before .loop .i) ≡ true
-on c t = sym (ap (λ (x : Entry). x .measured) (c .entry-at .ensures)) ∙ t
+on c t = sym (ap (λ (x : OffPeakEntry). x .measured) (c .entry-at .ensures)) ∙ t
 
 share-requires : tie.Need-share-requires Inv-loop μ-loop
 share-requires c κs =
@@ -34,7 +34,7 @@ loop-again c =
     let e = c .before .entry-at .ensures in
     ⊎-elim
     (λ a. rw (a .5) (sharing-more v (limits (c .before .before .before .before .before .pre .0 .sound)) (omega arith) (on (c .before) (a .0 .taken)) (rw e at (a .2 .ensures)) (a .4 .ensures)))
-    (λ a. rw (a .1) (sharing-none v (omega arith) (sym (ap (λ (x : Entry). x .measured) e) ∙ a .0 .left)))
+    (λ a. rw (a .1) (sharing-none v (omega arith) (sym (ap (λ (x : OffPeakEntry). x .measured) e) ∙ a .0 .left)))
     (c .if1 .came)
 
 returns : tie.Need-returns Inv-loop μ-loop

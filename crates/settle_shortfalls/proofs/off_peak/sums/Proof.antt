@@ -3,11 +3,11 @@ use Prim.Native.Nat.{_+_, _-_}
 use mathlib.Core.Path.{ap, sym, _∙_}
 use mathlib.Core.Logic.{⊎-elim}
 use native.Mathlib.Omega.{arith}
-use Rattle.settle_facts.specs.Looks.{facts}
+use Rattle.settle_facts.specs.CellFacts.{facts}
 use Rattle.owed_laws.specs.Limits.{limits}
-use Rattle.settle_table.specs.Places.{offMoreRow}
-use Rattle.settle_shortfalls.specs.Sums.{lack-room, more-room}
-use Rattle.settle_shortfalls.specs.declared.off_peak.Entry.{Entry}
+use Rattle.settle_table.specs.Places.{offOverRow}
+use Rattle.settle_shortfalls.specs.Sums.{short-room, over-room}
+use Rattle.settle_shortfalls.specs.declared.off_peak.OffPeakEntry.{OffPeakEntry}
 use Rattle.settle_shortfalls.specs.OffPeak.{Weighing, weighing-first, weighing-none, weighing-more, weighing-all, second-small}
 use Rattle.settle_shortfalls.proofs.off_peak.sums.Statement.{statement}
 use Rattle.settle_shortfalls.proofs.off_peak.sums.Tie as tie
@@ -24,7 +24,7 @@ add-at-requires c κs =
     let s = c .before .before .before .before .before .before in
     let L = limits (s .pre .0 .sound) in
     let b = L .seller (l .i) in
-    rw (c .before .before .entry-at .ensures) (omega (arith, b, l .inv .entries .columns .long), omega (arith, L .committed (l .i), lack-room (l .inv .sums) L (l .inv .upto) _ b))
+    rw (c .before .before .entry-at .ensures) (omega (arith, b, l .inv .entries .columns .long), omega (arith, L .committed (l .i), short-room (l .inv .sums) L (l .inv .upto) _ b))
 
 add-at-requires-2 : tie.Need-add-at-requires-2 Inv-loop μ-loop
 add-at-requires-2 c κs =
@@ -34,14 +34,14 @@ add-at-requires-2 c κs =
     let b = L .seller (l .i) in
     let e = c .before .before .before .before .entry-at .ensures in
     let d = rw e at (c .before .add-at .ensures) in
-    let kept = d .others (offMoreRow + facts (s .args .year .now) .seller (l .i)) (λ z. omega (arith, b)) in
-    rw e (omega (arith, b, d .long, l .inv .entries .columns .long), omega (arith, second-small L (s .args .ev) (l .i), kept, more-room (l .inv .sums) L (l .inv .upto) _ b (L .offPeak (s .args .ev))))
+    let kept = d .others (offOverRow + facts (s .args .year .now) .seller (l .i)) (λ z. omega (arith, b)) in
+    rw e (omega (arith, b, d .long, l .inv .entries .columns .long), omega (arith, second-small L (s .args .ev) (l .i), kept, over-room (l .inv .sums) L (l .inv .upto) _ b (L .offPeak (s .args .ev))))
 
 loop-again : tie.Need-loop-again Inv-loop μ-loop
 loop-again c =
     let l = c .before .before .before .before .loop in
     let e = c .before .entry-at .ensures in
-    let measured = sym (ap (λ (x : Entry). x .measured) e) in
+    let measured = sym (ap (λ (x : OffPeakEntry). x .measured) e) in
     ⊎-elim
     (λ a. rw (a .5) (weighing-more (l .inv) (omega arith) (measured ∙ a .0 .taken) (limits (c .before .before .before .before .before .pre .0 .sound) .seller (l .i)) (rw e at (a .2 .ensures)) (rw e at (a .4 .ensures))))
     (λ a. rw (a .1) (weighing-none (l .inv) (omega arith) (measured ∙ a .0 .left)))

@@ -6,9 +6,9 @@ use mathlib.Core.Bool.{true}
 use native.Mathlib.Omega.{arith}
 use lib.Dec.{lit≤}
 use Rattle.year.specs.Year.{listed}
-use Rattle.settle_facts.specs.Looks.{facts}
+use Rattle.settle_facts.specs.CellFacts.{facts}
 use Rattle.owed_laws.specs.Limits.{limits}
-use Rattle.settle_shortfalls.specs.declared.Entry.{Entry}
+use Rattle.settle_shortfalls.specs.declared.MeasuredEntry.{MeasuredEntry}
 use Rattle.settle_shortfalls.specs.Sharing.{Sharing, sharing-first, sharing-none, sharing-more, sharing-all, sharing-divided, u-asks, e-asks}
 use Rattle.settle_shortfalls.proofs.shares.share.Statement.{statement}
 use Rattle.settle_shortfalls.proofs.shares.share.Tie as tie
@@ -20,7 +20,7 @@ abbrev μ-loop : tie.MeasureT-loop
 μ-loop year work₀ ev i₀ work i = 64 - i
 
 is-listed : (c : tie.After-entry-at Inv-loop μ-loop) → c .entry-at .result .listed ≡ true → listed (facts (c .before .before .before .before .args .year .now) .event (c .before .before .before .before .args .ev) .listing) (c .before .before .before .loop .i) ≡ true
-is-listed c t = sym (ap (λ (x : Entry). x .listed) (c .entry-at .ensures)) ∙ t
+is-listed c t = sym (ap (λ (x : MeasuredEntry). x .listed) (c .entry-at .ensures)) ∙ t
 
 share-requires : tie.Need-share-requires Inv-loop μ-loop
 share-requires c κs =
@@ -42,7 +42,7 @@ loop-again c =
     let e = c .before .entry-at .ensures in
     ⊎-elim
     (λ a. rw (a .13) (sharing-more v (limits (c .before .before .before .before .before .pre .0 .sound)) (omega arith) (is-listed (c .before) (a .0 .taken)) (rw e at (a .2 .ensures)) (rw e at (a .4 .ensures)) (a .6 .ensures) (a .8 .ensures) (a .10 .ensures) (rw e at (a .12 .ensures))))
-    (λ a. rw (a .1) (sharing-none v (omega arith) (sym (ap (λ (x : Entry). x .listed) e) ∙ a .0 .left)))
+    (λ a. rw (a .1) (sharing-none v (omega arith) (sym (ap (λ (x : MeasuredEntry). x .listed) e) ∙ a .0 .left)))
     (c .if1 .came)
 
 returns : tie.Need-returns Inv-loop μ-loop

@@ -4,9 +4,9 @@ use mathlib.Core.Path.{_≡_, _∙_}
 use native.Mathlib.Omega.{arith}
 use native.Mathlib.Nat.{mul-le-mul}
 use borrow.Author.Needs.{needs}
-use Rattle.year_cells.specs.Layout.{placeIn}
-use Rattle.year_tested.specs.Tested.{place-below}
-use Rattle.settle_facts.specs.Looks.{facts}
+use Rattle.year_cells.specs.Layout.{groupIn}
+use Rattle.year_tested.specs.Tested.{group-below}
+use Rattle.settle_facts.specs.CellFacts.{facts}
 use Rattle.owed.specs.Owed as owed
 use Rattle.owed_laws.specs.Limits.{limits}
 use Rattle.settle_tests.proofs.sums.addend_of.Statement.{statement}
@@ -17,8 +17,8 @@ use Rattle.year.specs.Year.{committed, seller}
 committed-is : (c : tie.After-get) → c .get .result ≡ committed (facts (c .before .before .before .args .year .now) .terms) (c .before .before .before .args .i)
 committed-is c = let s = c .before .before .before in c .get .ensures ∙ s .pre .1 .0 .columns .committed .is (s .args .i) (s .pre .1 .1)
 
-place-is : (c : tie.After-get2) → c .get2 .result ≡ placeIn (c .before .before .before .before .before .args .year .now) (c .before .before .before .before .before .args .i)
-place-is c = let s = c .before .before .before .before .before in c .get2 .ensures ∙ s .pre .1 .0 .place .is (s .args .i) (s .pre .1 .1)
+group-is : (c : tie.After-get2) → c .get2 .result ≡ groupIn (c .before .before .before .before .before .args .year .now) (c .before .before .before .before .before .args .i)
+group-is c = let s = c .before .before .before .before .before in c .get2 .ensures ∙ s .pre .1 .0 .group .is (s .args .i) (s .pre .1 .1)
 
 seller-is : (c : tie.After-get3) → c .get3 .result ≡ facts (c .before .before .before .before .before .before .args .year .now) .seller (c .before .before .before .before .before .before .args .i)
 seller-is c = let s = c .before .before .before .before .before .before in c .get3 .ensures ∙ s .pre .1 .0 .columns .seller .is (s .args .i) (s .pre .1 .1)
@@ -26,8 +26,8 @@ seller-is c = let s = c .before .before .before .before .before .before in c .ge
 rate-is : (c : tie.After-get4) → c .get4 .result ≡ owed.rate (facts (c .before .before .before .before .before .before .before .args .year .now)) (c .before .before .before .before .before .before .before .args .i)
 rate-is c = let s = c .before .before .before .before .before .before .before in c .get4 .ensures ∙ s .pre .1 .0 .columns .rate .is (s .args .i) (s .pre .1 .1)
 
-place-less : (c : tie.After-get2) → c .get2 .result < 24
-place-less c = rw (place-is c) (place-below (c .before .before .before .before .before .args .year .now) (c .before .before .before .before .before .pre .0 .sound) (c .before .before .before .before .before .args .i))
+group-less : (c : tie.After-get2) → c .get2 .result < 24
+group-less c = rw (group-is c) (group-below (c .before .before .before .before .before .args .year .now) (c .before .before .before .before .before .pre .0 .sound) (c .before .before .before .before .before .args .i))
 
 committed-most : (c : tie.After-new) → c .new .result .0 ≤ 100000
 committed-most c = rw (c .new .ensures ∙ committed-is (c .before)) (limits (c .before .before .before .before .pre .0 .sound) .committed (c .before .before .before .before .args .i))
@@ -41,7 +41,7 @@ mul-worth c =
 returns : tie.Need-returns
 returns c =
     let committed = c .before .before .before .before .new .ensures ∙ committed-is (c .before .before .before .before .before) in
-    λ j. record { key = 16 * place-is (c .before .before .before) j + seller-is (c .before .before) j; committed = record { 0 = committed j }; reduction = c .before .before .before .before .before .before .before .look .ensures j .reduction; worth = committed j * rate-is (c .before) j }
+    λ j. record { key = 16 * group-is (c .before .before .before) j + seller-is (c .before .before) j; committed = record { 0 = committed j }; reduction = c .before .before .before .before .before .before .before .look .ensures j .reduction; worth = committed j * rate-is (c .before) j }
 
 pub addend-of-spec : {M : Type 1} → statement M
 addend-of-spec =
@@ -51,9 +51,9 @@ addend-of-spec =
     (λ c κs. search needs)
     (λ c κs. rw (committed-is c) (limits (c .before .before .before .pre .0 .sound) .committed (c .before .before .before .args .i)))
     (λ c κs. search needs)
-    (λ c. record { fits = omega (arith, place-less c) })
+    (λ c. record { fits = omega (arith, group-less c) })
     (λ c κs. search needs)
-    (λ c. record { fits = omega (arith, place-less (c .before), seller-is c, limits (c .before .before .before .before .before .before .pre .0 .sound) .seller (c .before .before .before .before .before .before .args .i)) })
+    (λ c. record { fits = omega (arith, group-less (c .before), seller-is c, limits (c .before .before .before .before .before .before .pre .0 .sound) .seller (c .before .before .before .before .before .before .args .i)) })
     (λ c κs. search needs)
     mul-worth
     returns)

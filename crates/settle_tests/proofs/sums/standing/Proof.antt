@@ -7,7 +7,7 @@ use native.Mathlib.Omega.{arith}
 use lib.ListN.{replicate, length-replicate}
 use Rattle.ids.specs.Sets.{getD-replicate-same}
 use Rattle.ids.specs.Update.{Updated, updated-none, updated-more, updated-kept, updated-all}
-use Rattle.settle_tests.specs.declared.sums.Entry.{Entry}
+use Rattle.settle_tests.specs.declared.sums.TestEntry.{TestEntry}
 use Rattle.settle_tests.specs.Entries.{stands, stands-off, stands-on}
 use Rattle.settle_tests.proofs.sums.standing.Statement.{statement}
 use Rattle.settle_tests.proofs.sums.standing.Tie as tie
@@ -23,9 +23,9 @@ loop-again c =
     let l = c .before .before .before .loop in
     let s = c .before .before .before .before in
     let y = s .args .year .now in
-    let on = sym (ap (λ (x : Entry). x .listed) (c .before .look .ensures)) in
+    let on = sym (ap (λ (x : TestEntry). x .listed) (c .before .look .ensures)) in
     ⊎-elim
-    (λ a. rw (a .2) (updated-more (l .inv) (omega arith) (stands-on y (l .i) (on ∙ a .0 .taken) (a .1 .ensures ∙ s .pre .called .is (l .i) (omega arith)))))
+    (λ a. rw (a .2) (updated-more (l .inv) (omega arith) (stands-on y (l .i) (on ∙ a .0 .taken) (a .1 .ensures ∙ s .pre .dispatched .is (l .i) (omega arith)))))
     (λ a. rw (a .1) (updated-kept (l .inv) (omega arith) (getD-replicate-same 64 (l .i) false ∙ stands-off y (l .i) (on ∙ a .0 .left))))
     (c .if1 .came)
 

@@ -8,19 +8,19 @@ use Rattle.ids.specs.Ids.{tabulate}
 use Rattle.statement.specs.Statement.{amountField, lineFields}
 use Rattle.statement.specs.Lines.{amounts-bits}
 use Rattle.statement.specs.Sizes.{difference-below}
-use Rattle.statement.specs.Laid.{Laid, laid-none, laid-one, laid-join}
+use Rattle.statement.specs.WrittenFields.{WrittenFields, no-fields, one-field, more-fields}
 use Rattle.statement.proofs.issue.put_line.Statement.{statement}
 use Rattle.statement.proofs.issue.put_line.Tie as tie
 
 abbrev Inv-loop : tie.InvT-loop
-Inv-loop bytes₀ id n owed billed r₀ k₀ bytes r k = (k ≤ n) × Laid bytes₀ bytes r₀ r (tabulate k (amountField owed billed id))
+Inv-loop bytes₀ id n owed billed r₀ k₀ bytes r k = (k ≤ n) × WrittenFields bytes₀ bytes r₀ r (tabulate k (amountField owed billed id))
 
 abbrev μ-loop : tie.MeasureT-loop
 μ-loop bytes₀ id n owed billed r₀ k₀ bytes r k = n - k
 
 loop-holds : tie.Need-loop-holds Inv-loop μ-loop
 unfolding tabulate
-loop-holds c = (omega arith, laid-none (c .before .before .put .ensures .ready))
+loop-holds c = (omega arith, no-fields (c .before .before .put .ensures .ready))
 
 difference-requires : tie.Need-difference-requires Inv-loop μ-loop
 difference-requires c κs =
@@ -44,7 +44,7 @@ loop-again c =
     let p = c .before .before in
     let d = p .before in
     let l = d .before .before .before .before .before .loop in
-    (omega arith, rw (add-one (l .k)) (laid-join (l .inv .1) (laid-one (rw (d .difference .ensures) at (p .put2 .ensures)))))
+    (omega arith, rw (add-one (l .k)) (more-fields (l .inv .1) (one-field (rw (d .difference .ensures) at (p .put2 .ensures)))))
 
 same-length : tie.Need-same-length Inv-loop μ-loop
 same-length c = omega (arith, c .before .loop .inv .1 .wrote .long, c .before .before .before .before .put .ensures .long)
@@ -55,7 +55,7 @@ returns c =
     let h = c .before in
     let p = h .before .before .before in
     let all : h .loop .k ≡ p .before .before .before .before .before .args .n = omega arith in
-    laid-join (laid-one (p .put .ensures)) (rw all at (h .loop .inv .1))
+    more-fields (one-field (p .put .ensures)) (rw all at (h .loop .inv .1))
 
 pub put-line-spec : {M : Type 1} → statement M
 put-line-spec =

@@ -6,20 +6,20 @@ use native.Mathlib.Omega.{arith}
 use Rattle.ids.specs.Ids.{holds}
 use Rattle.statement.specs.Statement.{lineFields, linesTo}
 use Rattle.statement.specs.Lines.{lines-room}
-use Rattle.statement.specs.Laid.{Laid, laid-none, line-more, line-skip}
+use Rattle.statement.specs.WrittenFields.{WrittenFields, no-fields, line-more, line-skip}
 use Rattle.statement.proofs.issue.put_lines.Statement.{statement}
 use Rattle.statement.proofs.issue.put_lines.Tie as tie
 
 abbrev Inv-loop : tie.InvT-loop
 Inv-loop bytes₀ n owed billed marks r₀ id₀ bytes r id =
-    (id ≤ 16) × Laid bytes₀ bytes r₀ r (linesTo id (holds marks) (lineFields n owed billed))
+    (id ≤ 16) × WrittenFields bytes₀ bytes r₀ r (linesTo id (holds marks) (lineFields n owed billed))
 
 abbrev μ-loop : tie.MeasureT-loop
 μ-loop bytes₀ n owed billed marks r₀ id₀ bytes r id = 16 - id
 
 loop-holds : tie.Need-loop-holds Inv-loop μ-loop
 unfolding linesTo
-loop-holds c = (omega arith, laid-none (c .before .before .before .pre .0))
+loop-holds c = (omega arith, no-fields (c .before .before .before .pre .0))
 
 put-line-requires : tie.Need-put-line-requires Inv-loop μ-loop
 put-line-requires c κs =

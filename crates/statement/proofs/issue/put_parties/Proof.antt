@@ -4,7 +4,7 @@ use native.Mathlib.Omega.{arith}
 use Rattle.ids.specs.Ids.{holds}
 use Rattle.statement.specs.Lines.{lines-room}
 use Rattle.statement.specs.Columns.{columns-sound}
-use Rattle.statement.specs.Laid.{laid-join}
+use Rattle.statement.specs.WrittenFields.{more-fields}
 use Rattle.statement.proofs.issue.put_parties.Statement.{statement}
 use Rattle.statement.proofs.issue.put_parties.Tie as tie
 
@@ -27,7 +27,7 @@ returns : tie.Need-returns
 returns c =
     let m = c .before .before in
     let l = m .before .before .before .before .before .before .before .before .before .before in
-    laid-join
+    more-fields
     (rw (l .before .before .before .before .columns .ensures, l .before .before .columns2 .ensures) at (l .put-lines .ensures))
     (m .put-lines2 .ensures)
 

@@ -8,7 +8,7 @@ use Rattle.bits_write.specs.WrittenLaws.{written-encodes}
 use Rattle.statement.specs.Statement.{widthsOf, valuesOf, statementFields, statementOf}
 use Rattle.ids.specs.Sums.{count-most}
 use Rattle.statement.specs.Sizes.{same-length, statement-fits, statement-bits, statement-length}
-use Rattle.statement.specs.Laid.{Laid, statement-laid}
+use Rattle.statement.specs.WrittenFields.{WrittenFields, statement-written}
 use Rattle.statement.proofs.issue.write_statement.Statement.{statement}
 use Rattle.statement.proofs.issue.write_statement.Tie as tie
 
@@ -33,13 +33,13 @@ put-parties-requires c κs =
 -- the writer has gone on from the first bit by the statement's fields
 laid : (c : tie.After-put-parties) → let n = c .before .before .before .before .before .before .before .before in
     let a = n .before .before .before .before .before .before .args in
-    Laid (a .bytes .now) (c .put-parties .last .1 .0) (n .new .result) (c .put-parties .result) (statementFields (a .terms) (a .month) (a .owed) (a .billed))
+    WrittenFields (a .bytes .now) (c .put-parties .last .1 .0) (n .new .result) (c .put-parties .result) (statementFields (a .terms) (a .month) (a .owed) (a .billed))
 laid c =
     let f = c .before .before .before .before in
     let n = f .before .before .before .before in
     let o = n .before .before .before in
     let s = o .before .before .before in
-    statement-laid (s .args .owed) (s .args .billed) (s .pre .0) (o .before .present .ensures) (o .obliged .ensures)
+    statement-written (s .args .owed) (s .args .billed) (s .pre .0) (o .before .present .ensures) (o .obliged .ensures)
     (record { wrote = rw (n .before .before .count .ensures, n .before .count2 .ensures) at (f .put-all .ensures) })
     (c .put-parties .ensures)
 
