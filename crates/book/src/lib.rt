@@ -6,6 +6,7 @@ ghost use Rattle.book_outcome.specs.Outcome.{Posts};
 use book_accept::accept;
 use question_number::number_of;
 use year_cells::Cells;
+use year_cells::LISTING_WIDTH;
 
 // A call's answer: 0 or the number of the question that failed, the bytes consumed, and the bytes of the statement that
 // it left in the buffer, 0 where it left none.
@@ -41,7 +42,7 @@ pub fn post(year: &mut Cells, bytes: &[u8], buffer: &mut [u8]) -> Posted
         };
     }
     let head = record_heads::head_of(&values);
-    let mut listing = [0u64; 208];
+    let mut listing = [0u64; LISTING_WIDTH];
     record_listing::spread(&values, &mut listing);
     let number = number_of(year, head, &listing, buffer.len());
     if number != 0 {

@@ -3,6 +3,7 @@ use Prim.Native.Nat.{_+_, _≤_, _<_}
 use mathlib.Core.Bool.{true, false}
 use mathlib.Core.Path.{_≡_}
 use lib.ListN.{getD}
+use Rattle.limits.specs.Limits.{registrations, lses, testGroups, eventLimit, clearingLimit, closeLimit, obligationLimit}
 use Rattle.year.specs.declared.Listing.{Listing}
 use Rattle.year.specs.declared.Year.{Year}
 use Rattle.year.specs.Year.{clearingsOf, noTest, testGroup}
@@ -16,11 +17,11 @@ use Rattle.book_recorded.specs.After.{registrationOf, recordedTest}
 -- what an accepted record makes is sound in the year
 unfoldable pub Suits : Year → Listing → Head → Type 0
 Suits y l (Opening o) = Factors (o .leap) (o .factor) (o .requirement)
-Suits y l (Registration r) = (y .started ≡ false) × (r .id < 64) × SoundRegistration (registrationOf r)
-Suits y l (Lse j) = (j .id < 16) × (j .obligation ≤ 1000000)
-Suits y l (Event e) = (y .accepted < 16) × SoundEvent (eventOf e l)
+Suits y l (Registration r) = (y .started ≡ false) × (r .id < registrations) × SoundRegistration (registrationOf r)
+Suits y l (Lse j) = (j .id < lses) × (j .obligation ≤ obligationLimit)
+Suits y l (Event e) = (y .accepted < eventLimit) × SoundEvent (eventOf e l)
 Suits y l (Test t) =
-    (testGroup (t .zone) (t .product) < 24) × (getD (y .tests) (testGroup (t .zone) (t .product)) noTest .taken ≡ false) × SoundTest (y .terms) (testGroup (t .zone) (t .product)) (recordedTest t l)
-Suits y l (Close c) = (y .closed < 15) × (c .month ≡ y .closed + 1)
-Suits y l (Clearing c) = ClearingWithin c × (clearingsOf y (c .registration) .count < 4)
+    (testGroup (t .zone) (t .product) < testGroups) × (getD (y .tests) (testGroup (t .zone) (t .product)) noTest .taken ≡ false) × SoundTest (y .terms) (testGroup (t .zone) (t .product)) (recordedTest t l)
+Suits y l (Close c) = (y .closed < closeLimit) × (c .month ≡ y .closed + 1)
+Suits y l (Clearing c) = ClearingWithin c × (clearingsOf y (c .registration) .count < clearingLimit)
 Suits y l (Retest t) = (y .started ≡ true) × SoundListing l

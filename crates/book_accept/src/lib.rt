@@ -4,6 +4,8 @@ ghost use mathlib.Core.Bool.{true};
 ghost use Prim.Native.Nat.{_≤_};
 ghost use lib.ListN.{length};
 ghost use Rattle.ids.specs.Ids.{at};
+ghost use Rattle.limits.specs.Limits.{nominatedLimit};
+ghost use Rattle.year_cells.specs.Places.{listingWidth};
 ghost use Rattle.question_list.specs.Questions.{q16};
 ghost use Rattle.year_cells.specs.Layout.{listingAt, yearIn, ValidCells};
 ghost use Rattle.book_recorded.specs.After.{registrationOf, yearBy};
@@ -20,7 +22,7 @@ mod month_end;
 
 // What a registration registers.
 fn registration_of(r: RegistrationHead) -> Registration
-    requires { ⌜ r .committed ≤ 100000 ⌝ }
+    requires { ⌜ r .committed ≤ nominatedLimit ⌝ }
     ensures { λ s. ⌜ s ≡ registrationOf r ⌝ }
 {
     let committed = Nominated::new(r.committed);
@@ -38,7 +40,7 @@ fn registration_of(r: RegistrationHead) -> Registration
 // Changes the year by an accepted record; a close leaves its statement in the buffer. Answers the statement's bytes.
 pub fn accept(year: &mut Cells, head: Head, listing: &[u64], buffer: &mut [u8]) -> usize
     requires { ⌜ ValidCells (now year) ⌝ }
-    requires { ⌜ length (now listing) ≡ 208 ⌝ }
+    requires { ⌜ length (now listing) ≡ listingWidth ⌝ }
     requires { ⌜ Suits (yearIn (now year)) (listingAt (at (now listing))) head ⌝ }
     requires { ⌜ q16 (length (now buffer)) head ≡ true ⌝ }
     ensures equals { λ r. ⌜ yearIn (now (year .exit)) ≡ yearBy (yearIn (now (year .entry))) (listingAt (at (now (listing .entry)))) head ⌝ }

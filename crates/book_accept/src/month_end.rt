@@ -3,6 +3,7 @@ ghost use mathlib.Core.Path.{_≡_};
 ghost use mathlib.Core.List.{_++_};
 ghost use Prim.Native.Nat.{_+_, _≤_, _<_};
 ghost use lib.ListN.{length, drop};
+ghost use Rattle.limits.specs.Limits.{closeLimit, statementLimit};
 ghost use Rattle.year.specs.Steps.{withClose};
 ghost use Rattle.owed.specs.Facts.{factsOf};
 ghost use Rattle.owed.specs.Owed.{amounts};
@@ -13,9 +14,9 @@ use year_cells::Cells;
 // Closes the month; its statement goes to the front of the buffer. Answers the statement's bytes.
 pub fn close_month(year: &mut Cells, month: u64, buffer: &mut [u8]) -> usize
     requires { ⌜ ValidCells (now year) ⌝ }
-    requires { ⌜ yearIn (now year) .closed < 15 ⌝ }
+    requires { ⌜ yearIn (now year) .closed < closeLimit ⌝ }
     requires { ⌜ month ≡ yearIn (now year) .closed + 1 ⌝ }
-    requires { ⌜ 354 ≤ length (now buffer) ⌝ }
+    requires { ⌜ statementLimit ≤ length (now buffer) ⌝ }
     ensures equals { λ r. ⌜ yearIn (now (year .exit)) ≡ (let y = yearIn (now (year .entry)) in withClose y (amounts (factsOf y) month)) ⌝ }
     ensures valid { λ r. ⌜ ValidCells (now (year .exit)) ⌝ }
     ensures leaves { λ r. ⌜ now (buffer .exit) ≡ (let s = closing (yearIn (now (year .entry))) month in s ++ drop (length s) (now (buffer .entry))) ⌝ }

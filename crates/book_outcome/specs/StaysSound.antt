@@ -7,6 +7,7 @@ use native.Mathlib.Omega.{arith}
 use lib.Dec.{eqb}
 use borrow.Author.Tests.{eqb-true}
 use Rattle.ids.specs.Tests.{and-parts, all-at}
+use Rattle.limits.specs.Limits.{registrations, testGroups}
 use Rattle.record_layouts.specs.Questions.{firstFailed, numbersOf, row}
 use Rattle.year.specs.declared.Listing.{Listing}
 use Rattle.year.specs.declared.Terms.{Terms}
@@ -35,7 +36,7 @@ use Rattle.book_outcome.specs.Made.{within, permits}
 
 -- the listed registrations of a test are of its place
 own-group : {T : Terms} → SoundTerms T → (l : Listing) (z p : ℕ) → everyListed T l (inGroup T z p) ≡ true
-    → (i : ℕ) → i < 64 → listed l i ≡ true → 3 * zone T i + product T i ≡ testGroup z p
+    → (i : ℕ) → i < registrations → listed l i ≡ true → 3 * zone T i + product T i ≡ testGroup z p
 unfolding everyListed inGroup
 own-group {T} s l z p e i m t =
     let here : inGroup T z p i ≡ true = rw t at (all-at (size T) (λ j. not (listed l j) || inGroup T z p j) e i (omega (arith, size-is s))) in

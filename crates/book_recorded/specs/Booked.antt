@@ -6,13 +6,14 @@ use mathlib.Core.Path.{_≡_, refl, sym, fun-ext}
 use lib.ListN.{length, getD, replicate}
 use Rattle.ids.specs.Ids.{tabulate}
 use Rattle.ids.specs.Sets.{getD-replicate-same}
+use Rattle.limits.specs.Limits.{registrations, eventLimit}
 use Rattle.year.specs.declared.Listing.{Listing}
 use Rattle.year.specs.declared.Event.{Event}
 use Rattle.year.specs.declared.Amounts.{Amounts}
 use Rattle.year.specs.declared.Year.{Year}
 use Rattle.year.specs.Year.{newYear, noClearings, noEvent, noRetest, noAmounts, listed}
 use Rattle.year.specs.Steps.{clearedBy, retestBy}
-use Rattle.owed.specs.Facts.{registrations, factsOf}
+use Rattle.owed.specs.Facts.{factsOf}
 use Rattle.owed.specs.Owed.{amounts}
 use Rattle.record_heads.specs.declared.EventHead.{EventHead}
 use Rattle.record_heads.specs.declared.ClearingHead.{ClearingHead}
@@ -49,7 +50,7 @@ booked rs =
       closed = y .closed;
       terms = y .terms;
       clearings = y .clearings;
-      events = y .events ++ replicate (16 - y .accepted) noEvent;
+      events = y .events ++ replicate (eventLimit - y .accepted) noEvent;
       accepted = y .accepted;
       tests = y .tests;
       retests = y .retests;
@@ -66,7 +67,7 @@ pub facts-booked : (rs : List Record) → factsOf (booked rs) ≡ factsOf (recor
 unfolding booked recorded
 facts-booked rs =
     let es = eventsIn rs in
-    let event = fun-ext (padded es (16 - length es)) in
+    let event = fun-ext (padded es (eventLimit - length es)) in
     cc
 
 -- one clearing more, if it is the registration's
@@ -76,14 +77,14 @@ summed-more cs true c = cc (length-more cs c, sum-more (λ c. c .price * c .kw) 
 summed-more cs false c = rw (append-nil cs)
 
 module _ (rs : List Record) (l : Listing) where
-  pub booked-more : (h : Head) → ((e : EventHead) → h ≡ head.Event e → booked rs .accepted < 16)
+  pub booked-more : (h : Head) → ((e : EventHead) → h ≡ head.Event e → booked rs .accepted < eventLimit)
       → yearBy (booked rs) l h ≡ booked (rs ++ record { head = h; listing = l } ∷ [])
   unfolding yearBy booked recorded termsIn clearingsIn eventsIn testsIn retestsIn
   booked-more (head.Opening o) room = simp (gather-more, billed-more, append-nil, some-more, last-more)
   booked-more (head.Registration r) room = simp (gather-more, billed-more, append-nil, last-alone, set-table)
   booked-more (head.Lse j) room = simp (gather-more, billed-more, append-nil, last-alone, set-table)
   booked-more (head.Event e) room =
-      simp (gather-more, billed-more, append-nil, some-more, set-filled (gather event rs) 16 noEvent (eventOf e l) (room e refl)) (simp length-more)
+      simp (gather-more, billed-more, append-nil, some-more, set-filled (gather event rs) eventLimit noEvent (eventOf e l) (room e refl)) (simp length-more)
   booked-more (head.Test t) room = simp (gather-more, billed-more, append-nil, some-more, last-alone, set-table)
   booked-more (head.Close c) room = simp (gather-more, billed-more, append-nil, some-more, last-more, facts-booked) (simp length-more)
   booked-more (head.Clearing c) room =

@@ -5,6 +5,7 @@ use mathlib.Core.List.{List, [], _∷_, _++_}
 use lib.Dec.{eqb, ltb}
 use lib.ListN.{length}
 use Rattle.ids.specs.Ids.{tabulate}
+use Rattle.limits.specs.Limits.{registrations, lses, testGroups}
 use Rattle.year.specs.declared.Registration.{Registration}
 use Rattle.year.specs.declared.Clearings.{Clearings}
 use Rattle.year.specs.declared.Event.{Event}
@@ -14,7 +15,6 @@ use Rattle.year.specs.declared.Terms.{Terms}
 use Rattle.year.specs.declared.Year.{Year}
 use Rattle.year.specs.Year.{noRegistration, noTest, noRetest, noAmounts, testGroup, listed}
 use Rattle.year.specs.Steps.{retestBy}
-use Rattle.owed.specs.Facts.{registrations, lses, testGroups}
 use Rattle.record_heads.specs.declared.OpeningHead.{OpeningHead}
 use Rattle.record_heads.specs.declared.CloseHead.{CloseHead}
 use Rattle.record_heads.specs.declared.ClearingHead.{ClearingHead}

@@ -6,6 +6,7 @@ use mathlib.Core.Path.{_≡_, refl, ap, sym, _∙_}
 use native.Mathlib.Omega.{arith}
 use lib.IntN.{ℤ, pos, negℤ, _+ℤ_, _-ℤ_, +ℤ-assoc, +ℤ-comm, negℤ-+ℤ}
 use Rattle.ids.specs.Ids.{at, sumTo}
+use Rattle.limits.specs.Limits.{parties, sellers}
 use Rattle.year.specs.declared.Terms.{Terms}
 use Rattle.year.specs.declared.Amounts.{Amounts}
 use Rattle.year.specs.Sound.{SoundAmounts}
@@ -37,14 +38,14 @@ module _ {T : Terms} {k : ℕ} {a b : Amounts} {xs : List ℕ} (f : Starts T k a
   difference c = less (column c a) (column c b)
 
   -- who has no line has no difference
-  blank-line : (c : Column) (i : ℕ) → i < 16 → cond (party c T i) (difference c i) (pos 0) ≡ difference c i
+  blank-line : (c : Column) (i : ℕ) → i < parties → cond (party c T i) (difference c i) (pos 0) ≡ difference c i
   blank-line c i l = go (party c T i) (now .blank c i l) (before .blank c i l)
     where
       go : (p : Bool) → (p ≡ false → at (column c a) i ≡ 0) → (p ≡ false → at (column c b) i ≡ 0) → cond p (difference c i) (pos 0) ≡ difference c i
       go true p q = refl
       go false p q = rw (p refl, q refl)
 
-  blank-lines : (s : ℕ) → s < 16
+  blank-lines : (s : ℕ) → s < sellers
       → cond (party pays T s) (difference pays s +ℤ difference tests s) (pos 0)
       ≡ pos (at (column pays a) s + at (column tests a) s) -ℤ pos (at (column pays b) s + at (column tests b) s)
   unfolding party
@@ -61,14 +62,14 @@ module _ {T : Terms} {k : ℕ} {a b : Amounts} {xs : List ℕ} (f : Starts T k a
   unfolding party column
   credits-are =
       credits-read f A B
-      ∙ rw (sum-differences 16 _ (at (column gets a)) (at (column gets b)) (blank-line gets), sum-differences 16 _ (at (column receives a)) (at (column receives b)) (blank-line receives))
+      ∙ rw (sum-differences parties _ (at (column gets a)) (at (column gets b)) (blank-line gets), sum-differences parties _ (at (column receives a)) (at (column receives b)) (blank-line receives))
       (differences (sumIn gets a) (sumIn gets b) (sumIn receives a) (sumIn receives b))
 
   charges-are : chargesIn xs ≡ pos (sumIn gets a + sumIn receives a) -ℤ pos (sumIn gets b + sumIn receives b)
   unfolding party column
   charges-are =
       charges-read f A B
-      ∙ sum-differences 16 _ (λ s. at (column pays a) s + at (column tests a) s) (λ s. at (column pays b) s + at (column tests b) s) blank-lines
+      ∙ sum-differences parties _ (λ s. at (column pays a) s + at (column tests a) s) (λ s. at (column pays b) s + at (column tests b) s) blank-lines
       ∙ rw (now .balanced, before .balanced)
 
   pub balanced : chargesIn xs ≡ creditsIn xs

@@ -5,13 +5,14 @@ use mathlib.Core.Path.{_≡_, refl, _∙_}
 use native.Mathlib.Omega.{arith}
 use Rattle.ids.specs.Ids.{at, sumTo}
 use Rattle.ids.specs.Sums.{sum-same}
+use Rattle.limits.specs.Limits.{parties, lses}
 use Rattle.year.specs.declared.Terms.{Terms}
 use Rattle.year.specs.declared.Amounts.{Amounts}
 use Rattle.year.specs.declared.Year.{Year}
 use Rattle.year.specs.Year.{noAmounts, obligation}
 use Rattle.ids.specs.Sets.{getD-replicate-same}
 use Rattle.year.specs.Sound.{Sound}
-use Rattle.owed.specs.Facts.{factsOf, lses}
+use Rattle.owed.specs.Facts.{factsOf}
 use Rattle.owed.specs.Owed.{amounts, credit, lse, charges, credits}
 use Rattle.owed_laws.specs.Limits.{limits}
 use Rattle.owed_laws.specs.Balance.{balance}
@@ -20,18 +21,18 @@ use Rattle.claim_history.specs.Columns.{Column, pays, tests, gets, recei
 use Rattle.claim_history.specs.Blank.{owes-none}
 
 abbrev pub sumIn : Column → Amounts → ℕ
-sumIn c a = sumTo 16 (at (column c a))
+sumIn c a = sumTo parties (at (column c a))
 
 pub record Billed (T : Terms) (a : Amounts) : Type 0 where
-  pub blank : (c : Column) (i : ℕ) → i < 16 → party c T i ≡ false → at (column c a) i ≡ 0
-  pub balanced : sumTo 16 (λ s. at (column pays a) s + at (column tests a) s) ≡ sumIn gets a + sumIn receives a
+  pub blank : (c : Column) (i : ℕ) → i < parties → party c T i ≡ false → at (column c a) i ≡ 0
+  pub balanced : sumTo parties (λ s. at (column pays a) s + at (column tests a) s) ≡ sumIn gets a + sumIn receives a
 
 pub none-at : (c : Column) (i : ℕ) → at (column c noAmounts) i ≡ 0
 unfolding column
-none-at pays i = getD-replicate-same 16 i 0
-none-at tests i = getD-replicate-same 16 i 0
-none-at gets i = getD-replicate-same 16 i 0
-none-at receives i = getD-replicate-same 16 i 0
+none-at pays i = getD-replicate-same parties i 0
+none-at tests i = getD-replicate-same parties i 0
+none-at gets i = getD-replicate-same parties i 0
+none-at receives i = getD-replicate-same parties i 0
 
 -- before the first close
 pub billed-none : (T : Terms) → Billed T noAmounts
@@ -43,11 +44,11 @@ pub billed-amounts : {y : Year} → Sound y → Known (factsOf y) → 0 < sumTo 
 unfolding owes charges credits
 billed-amounts {y} S K l k =
     let F = factsOf y in
-    let own : (c : Column) (i : ℕ) → i < 16 → at (column c (amounts F k)) i ≡ owes c F k i = λ c. amounts-at c F k in
+    let own : (c : Column) (i : ℕ) → i < parties → at (column c (amounts F k)) i ≡ owes c F k i = λ c. amounts-at c F k in
     record {
       blank = λ c i b e. own c i b ∙ owes-none S K c k i e;
       balanced =
-          sum-same 16 (λ s b. omega (arith, own pays s b, own tests s b))
+          sum-same parties (λ s b. omega (arith, own pays s b, own tests s b))
           ∙ balance (limits S) k l
-          ∙ omega (arith, sum-same 16 {f = at (column gets (amounts F k))} {g = credit F k} (own gets), sum-same 16 {f = at (column receives (amounts F k))} {g = lse F k} (own receives));
+          ∙ omega (arith, sum-same parties {f = at (column gets (amounts F k))} {g = credit F k} (own gets), sum-same parties {f = at (column receives (amounts F k))} {g = lse F k} (own receives));
     }

@@ -6,11 +6,12 @@ use native.Mathlib.Omega.{arith}
 use lib.Dec.{eqb}
 use borrow.Author.Tests.{ltb-false}
 use Rattle.ids.specs.Tests.{any-at}
+use Rattle.limits.specs.Limits.{registrations}
 use Rattle.year.specs.declared.Year.{Year}
 use Rattle.year.specs.Year.{known, seller, obligation, size}
 use Rattle.year.specs.Sound.{Sound}
 use Rattle.year.specs.Limits.{size-is}
-use Rattle.owed.specs.Facts.{factsOf, registrations}
+use Rattle.owed.specs.Facts.{factsOf}
 use Rattle.owed_laws.specs.Parties.{Known, compliance-none, test-none, credit-none, lse-none}
 use Rattle.statement.specs.Statement.{hasRegistration, hasObligation}
 use Rattle.claim_history.specs.Columns.{Column, pays, tests, gets, receives, party, owes}

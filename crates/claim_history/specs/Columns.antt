@@ -12,12 +12,13 @@ use borrow.Author.Tests.{eqb-true, ltb-true}
 use Rattle.ids.specs.Ids.{at}
 use Rattle.ids.specs.Tables.{getD-tabulate}
 use Rattle.ids.specs.Tests.{and-parts, any-some}
+use Rattle.limits.specs.Limits.{parties, sellers, lses}
 use Rattle.year.specs.declared.Terms.{Terms}
 use Rattle.year.specs.declared.Amounts.{Amounts}
-use Rattle.year.specs.Year.{known, seller, obligation, size, sellers}
+use Rattle.year.specs.Year.{known, seller, obligation, size}
 use Rattle.year.specs.Sound.{SoundTerms}
-use Rattle.year.specs.Limits.{seller-below, lses-is}
-use Rattle.owed.specs.Facts.{Facts, lses}
+use Rattle.year.specs.Limits.{seller-below, lse-count-is}
+use Rattle.owed.specs.Facts.{Facts}
 use Rattle.owed.specs.Owed.{compliance, test, credit, lse, amounts}
 use Rattle.statement.specs.Statement.{hasRegistration, hasObligation}
 use Rattle.statement.specs.ReadBack.{complianceIn, testIn, creditIn, lseIn}
@@ -53,31 +54,31 @@ lineIn tests x s = testIn x s
 lineIn gets x s = creditIn x s
 lineIn receives x j = lseIn x j
 
-registered-below : (T : Terms) → SoundTerms T → (s : ℕ) → hasRegistration T s ≡ true → s < 16
+registered-below : (T : Terms) → SoundTerms T → (s : ℕ) → hasRegistration T s ≡ true → s < sellers
 unfolding hasRegistration
 registered-below T S s e =
     let r = any-some (size T) (λ i. known T i && eqb (seller T i) s) e in
     let q = eqb-true (seller T (r .0)) s (and-parts (known T (r .0)) (eqb (seller T (r .0)) s) (r .2) .1) in
     rw q at (seller-below S (r .0))
 
-obliged-below : (T : Terms) → SoundTerms T → (j : ℕ) → hasObligation T j ≡ true → j < 16
+obliged-below : (T : Terms) → SoundTerms T → (j : ℕ) → hasObligation T j ≡ true → j < lses
 unfolding hasObligation obligation
-obliged-below T S j e = elim (decLt j 16) [
+obliged-below T S j e = elim (decLt j parties) [
   | yes l ↦ l
   | no n ↦
-      let z : at (T .obligations) j ≡ 0 = List·getD-eq-default (T .obligations) 0 (omega (arith, lses-is S)) in
+      let z : at (T .obligations) j ≡ 0 = List·getD-eq-default (T .obligations) 0 (omega (arith, lse-count-is S)) in
       absurd (omega (arith, ltb-true 0 (at (T .obligations) j) e))
 ]
 
 -- the parties are among the sixteen ids
-pub party-below : (c : Column) {T : Terms} → SoundTerms T → (i : ℕ) → party c T i ≡ true → i < 16
+pub party-below : (c : Column) {T : Terms} → SoundTerms T → (i : ℕ) → party c T i ≡ true → i < parties
 unfolding party
 party-below pays {T} S i e = registered-below T S i e
 party-below tests {T} S i e = registered-below T S i e
 party-below gets {T} S i e = registered-below T S i e
 party-below receives {T} S i e = obliged-below T S i e
 
-pub amounts-at : (c : Column) (F : Facts) (k i : ℕ) → i < 16 → at (column c (amounts F k)) i ≡ owes c F k i
+pub amounts-at : (c : Column) (F : Facts) (k i : ℕ) → i < parties → at (column c (amounts F k)) i ≡ owes c F k i
 unfolding column owes amounts
 amounts-at pays F k i l = getD-tabulate (compliance F k) sellers i 0 l
 amounts-at tests F k i l = getD-tabulate (test F k) sellers i 0 l

@@ -14,7 +14,7 @@ use Rattle.record_layouts.specs.LayoutLaws.{every}
 use Rattle.record_layouts.specs.Questions.{firstFailed, recordNumber}
 use Rattle.year.specs.declared.Year.{Year}
 use Rattle.year.specs.Sound.{Sound}
-use Rattle.year.specs.Limits.{lses-is}
+use Rattle.year.specs.Limits.{lse-count-is}
 use Rattle.owed.specs.Facts.{factsOf}
 use Rattle.owed.specs.Owed.{amounts}
 use Rattle.statement.specs.Statement.{statementOf}
@@ -84,7 +84,7 @@ close-statement y c S e =
     let rest = drop (length s) (c .buffer) in
     let f = starts {T = y .terms} {k = k} (amounts (factsOf y) k) (y .billed) rest (S .terms) (close-month y c e) in
     let long : length s ≡ bytesFor (14 + 130 * sellersIn (s ++ rest) + 46 * lsesIn (s ++ rest)) =
-    rw (f .sellers, f .lses) (statement-length (S .terms) k (amounts (factsOf y) k) (y .billed) ∙ ap bytesFor (bits-counted (S .terms) k (amounts (factsOf y) k) (y .billed) ∙ rw (lses-is (S .terms)))) in
+    rw (f .sellers, f .lses) (statement-length (S .terms) k (amounts (factsOf y) k) (y .billed) ∙ ap bytesFor (bits-counted (S .terms) k (amounts (factsOf y) k) (y .billed) ∙ rw (lse-count-is (S .terms)))) in
     rw (close-buffer y c e) (take-at s rest (bytesFor (14 + 130 * sellersIn (s ++ rest) + 46 * lsesIn (s ++ rest))) long)
 
 -- the statements of a list by its first call

@@ -8,6 +8,7 @@ use lib.ListN.{length, drop}
 use lib.Seq.{drop-at}
 use Rattle.ids.specs.Ids.{at}
 use Rattle.ids.specs.Tables.{is-tabulate}
+use Rattle.limits.specs.Limits.{nominatedLimit}
 use Rattle.record_layouts.specs.Layout.{sizeOf}
 use Rattle.record_numbers.specs.Reductions.{isReduction, withReductions}
 use Rattle.record_numbers.specs.Replaced.{writes}
@@ -43,7 +44,7 @@ module _ (s : ℕ) (rs : List Record) (y : Year) (c : Call) where
           accepted e (not-failed (c .bytes) (accepted-record y c e)) (at (numbersOf (c .bytes))) (same-numbers (termsIn rs) s (numbersOf (c .bytes))) refl refl
 
   -- the record with the reductions f, written
-  pub chosen : accepts y c ≡ true → (f : ℕ → ℕ) → ((j : ℕ) → f j ≤ 100000) → (buffer : List ℕ) → length buffer ≡ length (c .buffer)
+  pub chosen : accepts y c ≡ true → (f : ℕ → ℕ) → ((j : ℕ) → f j ≤ nominatedLimit) → (buffer : List ℕ) → length buffer ≡ length (c .buffer)
       → Varied s rs (shown y c) (record { bytes = bytesBy (withReductions (isOwn (termsIn rs) s) f (numbersOf (c .bytes))) ++ drop (consumed (c .bytes)) (c .bytes); buffer = buffer })
   chosen e f small buffer l =
       let zero = not-failed (c .bytes) (accepted-record y c e) in

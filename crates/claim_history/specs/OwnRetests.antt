@@ -11,6 +11,7 @@ use lib.ListN.{List·getD-eq-default}
 use Rattle.ids.specs.Ids.{tabulate}
 use Rattle.ids.specs.Tests.{all-at}
 use Rattle.ids.specs.Tables.{length-tabulate, getD-tabulate}
+use Rattle.limits.specs.Limits.{registrations}
 use Rattle.year.specs.declared.Listing.{Listing}
 use Rattle.year.specs.declared.Retest.{Retest}
 use Rattle.year.specs.declared.Year.{Year}
@@ -39,7 +40,7 @@ module _ (s : ℕ) (y : Year) (c : Call) (S : Sound y) where
   abbrev listing : Listing
   listing = recordIn (c .bytes) .listing
 
-  unlisted : everyListed (y .terms) listing (λ j. eqb (seller (y .terms) j) s) ≡ true → (i : ℕ) → i < 64 → (seller (y .terms) i ≡ s → ⊥) → listed listing i ≡ false
+  unlisted : everyListed (y .terms) listing (λ j. eqb (seller (y .terms) j) s) ≡ true → (i : ℕ) → i < registrations → (seller (y .terms) i ≡ s → ⊥) → listed listing i ≡ false
   unfolding everyListed
   unlisted all i l n =
       go (listed listing i) (all-at (size (y .terms)) (λ j. not (listed listing j) || eqb (seller (y .terms) j) s) all i (omega (arith, size-is (S .terms))))
@@ -59,10 +60,10 @@ module _ (s : ℕ) (y : Year) (c : Call) (S : Sound y) where
           let r = is-retest s (recordIn (c .bytes) .head) o in
           let own = rw (r .2) at (retest-own {l = listing} {t = r .0} (rw (r .1) at (accepted-admitted y c e))) in
           let new : ℕ → Retest = λ i. cond (listed listing i) (retestBy listing i) (retestOf y i) in (
-            tabulate 64 new,
+            tabulate registrations new,
             rw (r .1),
-            λ i n. elim (decLt i 64) [
-              | yes l ↦ rw (getD-tabulate new 64 i noRetest l, unlisted own i l n)
-              | no l ↦ List·getD-eq-default (y .retests) noRetest (omega (arith, S .retests .long)) ∙ sym (List·getD-eq-default (tabulate 64 new) noRetest (omega (arith, length-tabulate new 64)))
+            λ i n. elim (decLt i registrations) [
+              | yes l ↦ rw (getD-tabulate new registrations i noRetest l, unlisted own i l n)
+              | no l ↦ List·getD-eq-default (y .retests) noRetest (omega (arith, S .retests .long)) ∙ sym (List·getD-eq-default (tabulate registrations new) noRetest (omega (arith, length-tabulate new registrations)))
             ],
           )

@@ -11,6 +11,7 @@ use Rattle.ids.specs.Ids.{at, anyTo, tabulate}
 use Rattle.ids.specs.Sets.{related-set, related-next}
 use Rattle.ids.specs.Tests.{any-same}
 use Rattle.ids.specs.Tables.{length-tabulate, getD-tabulate}
+use Rattle.limits.specs.Limits.{registrations, sellers, testGroups, eventLimit}
 use Rattle.year.specs.declared.Clearings.{Clearings}
 use Rattle.year.specs.declared.Listing.{Listing}
 use Rattle.year.specs.declared.Event.{Event}
@@ -18,7 +19,7 @@ use Rattle.year.specs.declared.Test.{Test}
 use Rattle.year.specs.declared.Retest.{Retest}
 use Rattle.year.specs.declared.Terms.{Terms}
 use Rattle.year.specs.declared.Year.{Year}
-use Rattle.year.specs.Year.{newYear, noTest, noRetest, retestOf, noEvent, listed, reduction, second, deficit, seller, sellers}
+use Rattle.year.specs.Year.{newYear, noTest, noRetest, retestOf, noEvent, listed, reduction, second, deficit, seller}
 use Rattle.year.specs.Listing.{single}
 use Rattle.year.specs.Steps.{withTerms, withEvent, withTest, withRetests, retestBy, withRetest, withClose}
 use Rattle.year.specs.Sound.{Sound}
@@ -118,7 +119,7 @@ module _ {s : ℕ} {y z : Year} (h : Same s y z) where
         retestReduction = λ i own. ap (λ (x : Retest). x .reduction) (h .retests i (λ q. n (sym own ∙ q)));
       }
 
-  -- every registration is called in both or in neither
+  -- every registration is dispatched in both or in neither
   pub same-dispatched : (i : ℕ) → dispatched (factsOf y) i ≡ dispatched (factsOf z) i
   unfolding dispatched
   same-dispatched i =
@@ -138,13 +139,13 @@ module _ {s : ℕ} {y z : Year} (h : Same s y z) where
         terms = refl;
         clearings = refl;
         events = λ ev l. absurd (omega (arith, f .0));
-        tests = rw (f .2, g .2) (λ p. test-refl T s (getD (replicate 24 noTest) p noTest));
+        tests = rw (f .2, g .2) (λ p. test-refl T s (getD (replicate testGroups noTest) p noTest));
         retests = rw (f .3, g .3) (λ i n. refl);
         pays = h .pays;
         fails = h .fails;
       }
 
-  pub same-event : Sound y → Sound z → y .accepted < 16 → {e g : Event} → SameEvent (y .terms) s e g → Same s (withEvent y e) (withEvent z g)
+  pub same-event : Sound y → Sound z → y .accepted < eventLimit → {e g : Event} → SameEvent (y .terms) s e g → Same s (withEvent y e) (withEvent z g)
   same-event S U l {e} {g} q =
       record {
         opened = h .opened;
@@ -172,7 +173,7 @@ module _ {s : ℕ} {y z : Year} (h : Same s y z) where
         terms = h .terms;
         clearings = h .clearings;
         events = h .events;
-        tests = related-set (SameTest (y .terms) s) noTest (y .tests) (z .tests) group (S .testGroups ∙ sym (U .testGroups)) q (h .tests);
+        tests = related-set (SameTest (y .terms) s) noTest (y .tests) (z .tests) group (S .groups ∙ sym (U .groups)) q (h .tests);
         retests = h .retests;
         pays = h .pays;
         fails = h .fails;
@@ -198,7 +199,7 @@ module _ {s : ℕ} {y z : Year} (h : Same s y z) where
   pub same-retest : {l m : Listing} → SameListing (y .terms) s l m → Same s (withRetest y l) (withRetest z m)
   unfolding listed
   same-retest {l} {m} q =
-      same-retests (λ i n. table-at 64 noRetest (λ j. cond (listed l j) (retestBy l j) (retestOf y j)) (λ j. cond (listed m j) (retestBy m j) (retestOf z j)) i
+      same-retests (λ i n. table-at registrations noRetest (λ j. cond (listed l j) (retestBy l j) (retestOf y j)) (λ j. cond (listed m j) (retestBy m j) (retestOf z j)) i
       (cc (q .listed, q .reductions i n, h .retests i n)))
 
   pub same-close : (k : ℕ) → Same s (withClose y (amounts (factsOf y) k)) (withClose z (amounts (factsOf z) k))

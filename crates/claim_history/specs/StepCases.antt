@@ -10,11 +10,12 @@ use borrow.Author.Tests.{ltb-true, not-true}
 use Rattle.ids.specs.Ids.{sumTo, anyTo}
 use Rattle.ids.specs.Sums.{sum-one}
 use Rattle.ids.specs.Tests.{and-parts, all-at, any-some}
+use Rattle.limits.specs.Limits.{closeLimit}
 use Rattle.year.specs.declared.Clearings.{Clearings}
 use Rattle.year.specs.declared.Listing.{Listing}
 use Rattle.year.specs.declared.Terms.{Terms}
 use Rattle.year.specs.declared.Year.{Year}
-use Rattle.year.specs.Year.{noClearings, listed, known, area, zone, product, obligation, size, lses}
+use Rattle.year.specs.Year.{noClearings, listed, known, area, zone, product, obligation, size, lseCount}
 use Rattle.year.specs.Steps.{withTerms, clearedBy}
 use Rattle.record_heads.specs.declared.OpeningHead.{OpeningHead}
 use Rattle.record_heads.specs.declared.EventHead.{EventHead}
@@ -62,13 +63,13 @@ in-group-known : (T : Terms) (z p i : ℕ) → inGroup T z p i ≡ true → know
 unfolding inGroup
 in-group-known T z p i e = and-parts (known T i) (eqb (zone T i) z && eqb (product T i) p) e .0
 
-some-obligation : (T : Terms) → anyTo (lses T) (λ j. ltb 0 (obligation T j)) ≡ true → 0 < sumTo (lses T) (obligation T)
+some-obligation : (T : Terms) → anyTo (lseCount T) (λ j. ltb 0 (obligation T j)) ≡ true → 0 < sumTo (lseCount T) (obligation T)
 some-obligation T e =
-    let r = any-some (lses T) (λ j. ltb 0 (obligation T j)) e in
-    omega (arith, ltb-true 0 (obligation T (r .0)) (r .2), sum-one {n = lses T} {i = r .0} (obligation T) (r .1))
+    let r = any-some (lseCount T) (λ j. ltb 0 (obligation T j)) e in
+    omega (arith, ltb-true 0 (obligation T (r .0)) (r .2), sum-one {n = lseCount T} {i = r .0} (obligation T) (r .1))
 
-is-open : (y : Year) → (y .opened && ltb (y .closed) 15) ≡ true → y .opened ≡ true
-is-open y e = and-parts (y .opened) (ltb (y .closed) 15) e .0
+is-open : (y : Year) → (y .opened && ltb (y .closed) closeLimit) ≡ true → y .opened ≡ true
+is-open y e = and-parts (y .opened) (ltb (y .closed) closeLimit) e .0
 
 module _ {y : Year} {l : Listing} {room : ℕ} where
   -- the terms change before the first event, test or close alone: a year that is not opened is not begun
@@ -106,11 +107,11 @@ module _ {y : Year} {l : Listing} {room : ℕ} where
     unfolding q6
     close-open = is-open y (a .six)
 
-    pub close-obliged : 0 < sumTo (lses (y .terms)) (obligation (y .terms))
+    pub close-obliged : 0 < sumTo (lseCount (y .terms)) (obligation (y .terms))
     unfolding q8
     close-obliged =
         some-obligation (y .terms)
-        (and-parts (anyTo (size (y .terms)) (known (y .terms))) (anyTo (lses (y .terms)) (λ j. ltb 0 (obligation (y .terms) j))) (a .eight) .1)
+        (and-parts (anyTo (size (y .terms)) (known (y .terms))) (anyTo (lseCount (y .terms)) (λ j. ltb 0 (obligation (y .terms) j))) (a .eight) .1)
 
 pub does : (h : Head) → StepCases h
 unfolding yearBy q7

@@ -6,6 +6,7 @@ use mathlib.Core.Path.{_≡_, refl, sym, _∙_}
 use native.Mathlib.Nat.{not-suc-le-zero}
 use native.Mathlib.Omega.{arith}
 use lib.ListN.{length, getD, replicate}
+use Rattle.limits.specs.Limits.{registrations, testGroups}
 use Rattle.year.specs.declared.Listing.{Listing}
 use Rattle.year.specs.declared.Event.{Event}
 use Rattle.year.specs.declared.Test.{Test}
@@ -17,8 +18,8 @@ use Rattle.year.specs.ListingLaws.{single-listed}
 use Rattle.year.specs.Steps.{withTerms}
 use Rattle.year.specs.Sound.{SoundTerms, Sound}
 use Rattle.year.specs.StaysSound.{sound-new}
-use Rattle.year.specs.Limits.{size-is, lses-is}
-use Rattle.owed.specs.Facts.{factsOf, registrations, testGroups}
+use Rattle.year.specs.Limits.{size-is, lse-count-is}
+use Rattle.owed.specs.Facts.{factsOf}
 use Rattle.owed_laws.specs.Parties.{Known}
 use Rattle.record_heads.specs.declared.Head.{Head}
 use Rattle.question_list.specs.Questions.{monthBegun}
@@ -50,10 +51,10 @@ knows : {T : Terms} → SoundTerms T → (l : Listing) → Knows T l → (i : �
 knows S x k i l = k i (omega (arith, size-is S))
 
 -- a test that is not taken lists nothing
-blank-tests : (T : Terms) {ts : List Test} → ts ≡ replicate 24 noTest → (p : ℕ) → Knows T (getD ts p noTest .listing)
+blank-tests : (T : Terms) {ts : List Test} → ts ≡ replicate testGroups noTest → (p : ℕ) → Knows T (getD ts p noTest .listing)
 unfolding listed
 blank-tests T e p =
-    rw (e, getD-replicate-same 24 p noTest) (λ i l q. never (getD-replicate-same 64 i false) q)
+    rw (e, getD-replicate-same testGroups p noTest) (λ i l q. never (getD-replicate-same registrations i false) q)
 
 pub kept-new : StepInvariants newYear
 kept-new =
@@ -112,7 +113,7 @@ module _ {y : Year} (k : StepInvariants y) {l : Listing} {room : ℕ} where
         begun = λ b. close-open a;
         unbilled = λ b. never b refl;
         known = record { events = k .known .events; tests = k .known .tests };
-        billed = billed-amounts (k .sound) (k .known) (rw (lses-is (k .sound .terms)) at (close-obliged a)) (c .month);
+        billed = billed-amounts (k .sound) (k .known) (rw (lse-count-is (k .sound .terms)) at (close-obliged a)) (c .month);
       })
   kept-by (retest t q) = rw q (λ a s.
       record {

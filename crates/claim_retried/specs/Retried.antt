@@ -15,6 +15,7 @@ use Rattle.ids.specs.Sums.{sum-zero}
 use Rattle.ids.specs.Tests.{and-parts, any-same, any-at, any-some, none-at, all-at}
 use Rattle.ids.specs.Tables.{getD-tabulate}
 use Rattle.ids.specs.Sets.{getD-replicate-same}
+use Rattle.limits.specs.Limits.{registrations, testGroups}
 use Rattle.year.specs.declared.Listing.{Listing}
 use Rattle.year.specs.declared.Retest.{Retest}
 use Rattle.year.specs.declared.Year.{Year}
@@ -23,7 +24,7 @@ use Rattle.year.specs.Steps.{withTerms, retestBy}
 use Rattle.year.specs.Sound.{Sound}
 use Rattle.year.specs.Limits.{each-anywhere, size-is}
 use Rattle.year.specs.Year as year
-use Rattle.owed.specs.Facts.{Facts, factsOf, registrations}
+use Rattle.owed.specs.Facts.{Facts, factsOf}
 use Rattle.owed.specs.Retests.{belowQuarter, testEntry, failed, testedKw, failedKw, hadRetest}
 use Rattle.record_heads.specs.declared.Head.{Head}
 use Rattle.record_heads.specs.declared.Head.the-variants as head
@@ -65,22 +66,22 @@ abbrev placed : Year → ℕ → ℕ
 placed y i = testGroup (zone (y .terms) i) (product (y .terms) i)
 
 abbrev pub InTest : Year → Type 0
-InTest y = (i : ℕ) → i < 64 → retestOf y i .taken ≡ true → year.listed (factsOf y .test (placed y i) .listing) i ≡ true
+InTest y = (i : ℕ) → i < registrations → retestOf y i .taken ≡ true → year.listed (factsOf y .test (placed y i) .listing) i ≡ true
 
 -- a test lists registrations of its place alone
-own-group : {y : Year} → Sound y → (p i : ℕ) → i < 64 → year.listed (factsOf y .test p .listing) i ≡ true → placed y i ≡ p
+own-group : {y : Year} → Sound y → (p i : ℕ) → i < registrations → year.listed (factsOf y .test p .listing) i ≡ true → placed y i ≡ p
 unfolding listed
-own-group {y} S p i l e = elim (decLt p 24) [
+own-group {y} S p i l e = elim (decLt p testGroups) [
   | yes b ↦ S .tests p b .own i l e
-  | no b ↦ never (getD-replicate-same 64 i false) (rw (List·getD-eq-default (y .tests) noTest {n = p} (omega (arith, S .testGroups))) at e)
+  | no b ↦ never (getD-replicate-same registrations i false) (rw (List·getD-eq-default (y .tests) noTest {n = p} (omega (arith, S .groups))) at e)
 ]
 
 -- one that is not taken lists none
-not-listed : {y : Year} → Sound y → (p i : ℕ) → i < 64 → getD (y .tests) p noTest .taken ≡ false → year.listed (factsOf y .test p .listing) i ≡ false
+not-listed : {y : Year} → Sound y → (p i : ℕ) → i < registrations → getD (y .tests) p noTest .taken ≡ false → year.listed (factsOf y .test p .listing) i ≡ false
 unfolding listed
-not-listed {y} S p i l e = elim (decLt p 24) [
+not-listed {y} S p i l e = elim (decLt p testGroups) [
   | yes b ↦ S .tests p b .untaken e i l
-  | no b ↦ rw (List·getD-eq-default (y .tests) noTest {n = p} (omega (arith, S .testGroups))) (getD-replicate-same 64 i false)
+  | no b ↦ rw (List·getD-eq-default (y .tests) noTest {n = p} (omega (arith, S .groups))) (getD-replicate-same registrations i false)
 ]
 
 -- where none is retested, nobody has had a retest
@@ -100,7 +101,7 @@ none-had y none p s = go (anyTo registrations had) refl
 -- before the first event, test or close there is no retest
 pub blank : {y : Year} → Sound y → y .started ≡ false → (i : ℕ) → retestOf y i .taken ≡ false
 blank S e i =
-    rw (S .fresh e .3) (each-anywhere (λ (x : Retest). x .taken ≡ false) {d = noRetest} refl (each-replicate (λ (x : Retest). x .taken ≡ false) noRetest 64 {v = noRetest} refl) i)
+    rw (S .fresh e .3) (each-anywhere (λ (x : Retest). x .taken ≡ false) {d = noRetest} refl (each-replicate (λ (x : Retest). x .taken ≡ false) noRetest registrations {v = noRetest} refl) i)
 
 module _ {y : Year} (k : StepInvariants y) (b : InTest y) {l : Listing} {room : ℕ} where
   -- a test comes where none of its registrations is retested
@@ -108,7 +109,7 @@ module _ {y : Year} (k : StepInvariants y) (b : InTest y) {l : Listing} {room : 
     abbrev q : ℕ
     q = testGroup (t .zone) (t .product)
 
-    same-tested : (p i : ℕ) → i < 64 → retestOf y i .taken ≡ true → year.listed (factsOf y .test p .listing) i ≡ year.listed (factsOf (yearBy y l (head.Test t)) .test p .listing) i
+    same-tested : (p i : ℕ) → i < registrations → retestOf y i .taken ≡ true → year.listed (factsOf y .test p .listing) i ≡ year.listed (factsOf (yearBy y l (head.Test t)) .test p .listing) i
     unfolding yearBy
     same-tested p i m e = elim (ℕ-discrete p q) [
       | yes h ↦ same-bool _ _
@@ -121,7 +122,7 @@ module _ {y : Year} (k : StepInvariants y) (b : InTest y) {l : Listing} {room : 
     unfolding hadRetest testEntry yearBy
     test-had p s = any-same registrations (λ i m. go i m (retestOf y i .taken) refl)
       where
-        go : (i : ℕ) → i < 64 → (d : Bool) → retestOf y i .taken ≡ d → (testEntry (factsOf y) p s i && d) ≡ (testEntry (factsOf (yearBy y l (head.Test t))) p s i && d)
+        go : (i : ℕ) → i < registrations → (d : Bool) → retestOf y i .taken ≡ d → (testEntry (factsOf y) p s i && d) ≡ (testEntry (factsOf (yearBy y l (head.Test t))) p s i && d)
         go i m true e = rw (same-tested p i m e)
         go i m false e = and-false (testEntry (factsOf y) p s i) ∙ sym (and-false (testEntry (factsOf (yearBy y l (head.Test t))) p s i))
 
@@ -133,23 +134,23 @@ module _ {y : Year} (k : StepInvariants y) (b : InTest y) {l : Listing} {room : 
     abbrev z : Year
     z = yearBy y l (head.Retest t)
 
-    lists-failed : (i : ℕ) → i < 64 → listed l i ≡ failed (factsOf y) r (t .seller) i
+    lists-failed : (i : ℕ) → i < registrations → listed l i ≡ failed (factsOf y) r (t .seller) i
     unfolding q21 listsExactly
     lists-failed i m =
         beq-true (listed l i) (failed (factsOf y) r (t .seller) i)
         (all-at (size (y .terms)) (λ j. Bool·beq (listed l j) (failed (factsOf y) r (t .seller) j)) (a .twenty-one) i (omega (arith, size-is (k .sound .terms))))
 
     -- so a registration that it lists is in that test, and the seller's
-    listed-entry : (i : ℕ) → i < 64 → listed l i ≡ true → (year.listed (factsOf y .test r .listing) i ≡ true) × (factsOf y .seller i ≡ t .seller)
+    listed-entry : (i : ℕ) → i < registrations → listed l i ≡ true → (year.listed (factsOf y .test r .listing) i ≡ true) × (factsOf y .seller i ≡ t .seller)
     unfolding failed testEntry
     listed-entry i m e =
         let entry = and-parts (testEntry (factsOf y) r (t .seller) i) (ltb (year.reduction (factsOf y .test r .listing) i) (year.committed (factsOf y .terms) i)) (sym (lists-failed i m) ∙ e) .0 in
         let parts = and-parts (year.listed (factsOf y .test r .listing) i) (eqb (factsOf y .seller i) (t .seller)) entry in
         (parts .0, eqb-true (factsOf y .seller i) (t .seller) (parts .1))
 
-    some-listed : (i : ℕ) × (i < 64) × (listed l i ≡ true)
+    some-listed : (i : ℕ) × (i < registrations) × (listed l i ≡ true)
     unfolding q20 belowQuarter failedKw
-    some-listed = go (anyTo 64 (failed (factsOf y) r (t .seller))) refl
+    some-listed = go (anyTo registrations (failed (factsOf y) r (t .seller))) refl
       where
         F : Facts
         F = factsOf y
@@ -164,19 +165,19 @@ module _ {y : Year} (k : StepInvariants y) (b : InTest y) {l : Listing} {room : 
         some =
             ltb-true 0 (failedKw F r (t .seller) * 4) (and-parts (ltb 0 (failedKw F r (t .seller) * 4)) (ltb (failedKw F r (t .seller) * 4) (testedKw F r (t .seller))) below .0)
 
-        go : (d : Bool) → anyTo 64 (failed (factsOf y) r (t .seller)) ≡ d → (i : ℕ) × (i < 64) × (listed l i ≡ true)
+        go : (d : Bool) → anyTo registrations (failed (factsOf y) r (t .seller)) ≡ d → (i : ℕ) × (i < registrations) × (listed l i ≡ true)
         go true e =
-            let f = any-some 64 (failed (factsOf y) r (t .seller)) e in
+            let f = any-some registrations (failed (factsOf y) r (t .seller)) e in
             (f .0, f .1, lists-failed (f .0) (f .1) ∙ f .2)
         go false e =
-            let none : sumTo 64 (only (failed (factsOf y) r (t .seller)) (year.committed (factsOf y .terms))) ≡ 0 =
-            sum-zero 64 (λ i m. rw (none-at 64 (failed (factsOf y) r (t .seller)) e i m)) in
+            let none : sumTo registrations (only (failed (factsOf y) r (t .seller)) (year.committed (factsOf y .terms))) ≡ 0 =
+            sum-zero registrations (λ i m. rw (none-at registrations (failed (factsOf y) r (t .seller)) e i m)) in
             absurd (omega (arith, some, none))
 
     -- after it those are retested that were, and those that it lists
-    taken-is : (i : ℕ) → i < 64 → retestOf z i .taken ≡ (listed l i || retestOf y i .taken)
+    taken-is : (i : ℕ) → i < registrations → retestOf z i .taken ≡ (listed l i || retestOf y i .taken)
     unfolding yearBy
-    taken-is i m = rw (getD-tabulate (λ j. cond (listed l j) (retestBy l j) (retestOf y j)) 64 i noRetest m) (go (listed l i))
+    taken-is i m = rw (getD-tabulate (λ j. cond (listed l j) (retestBy l j) (retestOf y j)) registrations i noRetest m) (go (listed l i))
       where
         go : (d : Bool) → cond d (retestBy l i) (retestOf y i) .taken ≡ (d || retestOf y i .taken)
         go true = refl
@@ -195,13 +196,13 @@ module _ {y : Year} (k : StepInvariants y) (b : InTest y) {l : Listing} {room : 
     retest-had p s =
         same-bool _ _
         (λ e.
-        let f = any-some 64 (λ i. testEntry (factsOf y) p s i && retestOf z i .taken) e in
+        let f = any-some registrations (λ i. testEntry (factsOf y) p s i && retestOf z i .taken) e in
         let i = f .0 in
         let parts = and-parts (testEntry (factsOf y) p s i) (retestOf z i .taken) (f .2) in
         there i (f .1) (parts .0) (listed l i) refl (sym (taken-is i (f .1)) ∙ parts .1))
         (λ e. or-elim (hadRetest (factsOf y) p s) (eqb r p && eqb (t .seller) s) e had again)
       where
-        there : (i : ℕ) → i < 64 → testEntry (factsOf y) p s i ≡ true → (d : Bool) → listed l i ≡ d → (d || retestOf y i .taken) ≡ true
+        there : (i : ℕ) → i < registrations → testEntry (factsOf y) p s i ≡ true → (d : Bool) → listed l i ≡ d → (d || retestOf y i .taken) ≡ true
             → (hadRetest (factsOf y) p s || (eqb r p && eqb (t .seller) s)) ≡ true
         there i m entry true o g =
             let mine = listed-entry i m o in
@@ -210,22 +211,22 @@ module _ {y : Year} (k : StepInvariants y) (b : InTest y) {l : Listing} {room : 
             let seller : t .seller ≡ s = sym (mine .1) ∙ eqb-true (factsOf y .seller i) s (parts .1) in
             rw (eq-eqb r p group, eq-eqb (t .seller) s seller) (or-true (hadRetest (factsOf y) p s))
         there i m entry false o g =
-            rw (any-at 64 (λ j. testEntry (factsOf y) p s j && retestOf y j .taken) i m (rw (entry, g)))
+            rw (any-at registrations (λ j. testEntry (factsOf y) p s j && retestOf y j .taken) i m (rw (entry, g)))
 
-        had : hadRetest (factsOf y) p s ≡ true → anyTo 64 (λ i. testEntry (factsOf y) p s i && retestOf z i .taken) ≡ true
+        had : hadRetest (factsOf y) p s ≡ true → anyTo registrations (λ i. testEntry (factsOf y) p s i && retestOf z i .taken) ≡ true
         had e =
-            let f = any-some 64 (λ i. testEntry (factsOf y) p s i && retestOf y i .taken) e in
+            let f = any-some registrations (λ i. testEntry (factsOf y) p s i && retestOf y i .taken) e in
             let parts = and-parts (testEntry (factsOf y) p s (f .0)) (retestOf y (f .0) .taken) (f .2) in
-            any-at 64 (λ i. testEntry (factsOf y) p s i && retestOf z i .taken) (f .0) (f .1) (rw (parts .0, taken-is (f .0) (f .1), parts .1) (or-true (listed l (f .0))))
+            any-at registrations (λ i. testEntry (factsOf y) p s i && retestOf z i .taken) (f .0) (f .1) (rw (parts .0, taken-is (f .0) (f .1), parts .1) (or-true (listed l (f .0))))
 
-        again : (eqb r p && eqb (t .seller) s) ≡ true → anyTo 64 (λ i. testEntry (factsOf y) p s i && retestOf z i .taken) ≡ true
+        again : (eqb r p && eqb (t .seller) s) ≡ true → anyTo registrations (λ i. testEntry (factsOf y) p s i && retestOf z i .taken) ≡ true
         again e =
             let f = some-listed in
             let mine = listed-entry (f .0) (f .1) (f .2) in
             let parts = and-parts (eqb r p) (eqb (t .seller) s) e in
             let group = eqb-true r p (parts .0) in
             let seller = eqb-true (t .seller) s (parts .1) in
-            any-at 64 (λ i. testEntry (factsOf y) p s i && retestOf z i .taken) (f .0) (f .1)
+            any-at registrations (λ i. testEntry (factsOf y) p s i && retestOf z i .taken) (f .0) (f .1)
             (rw (taken-is (f .0) (f .1), f .2, ← group, mine .0, eq-eqb (factsOf y .seller (f .0)) s (mine .1 ∙ seller)))
 
   -- what an accepted record makes of it

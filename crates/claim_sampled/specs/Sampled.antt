@@ -6,6 +6,7 @@ use mathlib.Core.Path.{_≡_, refl, sym, ap}
 use lib.ListN.{length}
 use Rattle.ids.specs.Ids.{at}
 use Rattle.ids.specs.Tables.{tabulate-same}
+use Rattle.limits.specs.Limits.{nominatedLimit}
 use Rattle.record_numbers.specs.Reductions.{isReduction, withReductions}
 use Rattle.record_numbers.specs.Replaced.{writes}
 use Rattle.record_numbers.specs.Calls.{bytesBy, writeNumber}
@@ -67,5 +68,5 @@ as-typed samples kw vs given = same (made samples vs) (typed kw vs) (tabulate-sa
 pub made-written : (samples : ℕ → Sample) (vs : List ℕ) (room : ℕ) → writeNumber vs room ≡ 0 → writeNumber (made samples vs) room ≡ 0
 made-written samples vs = writes any (λ j. kwOf (reductionOf (samples j))) vs (λ j. kw-most (samples j))
 
-pub samples-give : (kw : ℕ → ℕ) (vs : List ℕ) → ((j : ℕ) → kw j ≤ 100000) → Give (λ j. sampleOf (kw j)) kw vs
+pub samples-give : (kw : ℕ → ℕ) (vs : List ℕ) → ((j : ℕ) → kw j ≤ nominatedLimit) → Give (λ j. sampleOf (kw j)) kw vs
 samples-give kw vs small j r = let e = sample-of (kw j) (small j) in record { numbers = rw e; kilowatts = rw e }

@@ -41,7 +41,7 @@ bytes (c then s) = code c ∷ bytes s
 
 -- the buffer that the records are lent
 abbrev pub blank : List ℕ
-blank = replicate 354 0
+blank = replicate statementLimit 0
 
 -- opening; registrations 0 and 1; LSEs 0 and 1
 abbrev pub parties : List ℕ

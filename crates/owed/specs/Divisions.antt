@@ -3,9 +3,10 @@ use Prim.Native.Nat.{ℕ}
 use mathlib.Core.Bool.{Bool, _&&_}
 use lib.Dec.{eqb, ltb}
 use Rattle.ids.specs.Ids.{sumTo, countTo}
+use Rattle.limits.specs.Limits.{registrations, lses}
 use Rattle.allotment.specs.Divisions.{divisions}
 use Rattle.year.specs.Year.{listed, obligation}
-use Rattle.owed.specs.Facts.{Facts, registrations, lses}
+use Rattle.owed.specs.Facts.{Facts}
 use Rattle.owed.specs.Owed.{ofSeller, short, over, measured, offShort, e}
 
 module _ (F : Facts) where
@@ -23,7 +24,7 @@ module _ (F : Facts) where
   abbrev pub eDivisions : ℕ → ℕ → ℕ
   eDivisions ev = divisionsOf (listed (F .event ev .listing)) (over F ev)
 
-  -- and of the off-peak u of those that are measured apart
+  -- and of the off-peak u of those that are measured off-peak
   abbrev pub offDivisions : ℕ → ℕ → ℕ
   offDivisions ev = divisionsOf (measured F ev) (offShort F ev)
 

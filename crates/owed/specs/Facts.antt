@@ -17,7 +17,7 @@ pub record Facts : Type 0 where
   -- how many events are accepted; event ev in order of acceptance
   pub events : ℕ
   pub event : ℕ → Event
-  -- the test at a place, 3 × zone + product; one that was not taken lists nothing
+  -- the test of a group, 3 × zone + product; one that was not taken lists nothing
   pub test : ℕ → Test
   -- registration i's retest
   pub retest : ℕ → Retest
@@ -25,13 +25,3 @@ pub record Facts : Type 0 where
 -- the facts of a year
 abbrev pub factsOf : Year → Facts
 factsOf y = record { terms = y .terms; seller = seller (y .terms); clearings = clearingsOf y; events = y .accepted; event = eventAt y; test = testAt y; retest = retestOf y }
-
--- as many ids of registrations and LSEs there are, and places of tests
-abbrev pub registrations : ℕ
-registrations = 64
-
-abbrev pub lses : ℕ
-lses = 16
-
-abbrev pub testGroups : ℕ
-testGroups = 24

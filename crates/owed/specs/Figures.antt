@@ -6,6 +6,7 @@ use mathlib.Core.Path.{_≡_, refl}
 use lib.ListN.{length, getD}
 use Rattle.ids.specs.Ids.{at, holds, sumTo, anyTo}
 use Rattle.units.specs.Units.{convert}
+use Rattle.limits.specs.Limits.{registrations}
 use Rattle.calendar.specs.Calendar.{limited, annual, offPeak, days, due}
 use Rattle.allotment.specs.Allot.{share}
 use Rattle.allotment.specs.Divisions.{divisions}
@@ -53,7 +54,7 @@ abbrev plain : List Bool → List ℕ → Listing
 plain listed reductions = record { listed = listed; reductions = reductions; second = []; deficits = [] }
 
 -- Year A, with registration 0 of this product and registration 1 of this seller; registration 2, of 400 kW at 0, in their area, registration 3, at 0
--- too, alone in another; the place of registration 4, which is not known, says 700 kW at 20,000 in their area. Events of these periods list these
+-- too, alone in another; the row of registration 4, which is not known, says 700 kW at 20,000 in their area. Events of these periods list these
 -- registrations, a test all in the area, with reductions of v, 2,100 and v. Registration 0 has so many clearings, of this price × kW and kW in all.
 abbrev cleared : ℕ → ℕ → ℕ → ℕ → ℕ → List ℕ → List Bool → ℕ → Facts
 cleared count value kw product seller periods listed v =
@@ -137,9 +138,9 @@ clearing-figures : (rate (clearedA 2 (1 * 100 + 3 * 201) (1 + 3)) 0 ≡ 175) × 
 unfolding sumTo anyTo convert days share beforeCap unforced own ofArea areaRate rate ofSeller shareOf dispatched dispatchCount shortfallOver u cap measured offU asked daily spent revenue excess e creditLimit B listed reduction second deficit known area product committed fieldRate obligation
 clearing-figures = (refl, refl, refl, refl, refl, refl, refl, refl)
 
--- 1,000 kW at 10,000 and 2,000 kW at 15,000 lend 40,000,000 / 3,000 to the third, rounded down; with its own 400 kW in the divisor it would be
--- 11,764, with weights of 1 it would be 12,500. Alone in its area registration 3 stays at 0; registration 4 has no rate, and lends none. Where registration
--- 0's clearings come to 0 it borrows too, and registration 1 alone lends.
+-- the third borrows the average of 1,000 kW at 10,000 and 2,000 kW at 15,000, 40,000,000 / 3,000 rounded down; with its own 400 kW in the divisor it would be
+-- 11,764, with weights of 1 it would be 12,500. Alone in its area registration 3 stays at 0; registration 4 has no rate, and adds none. Where registration
+-- 0's clearings come to 0 it borrows too, of registration 1 alone.
 -- At 13,333 a day without any reduction costs 410 × 13,333 / 2, the cap is 410 × 13,333, revenue to the end of June 30 times that, B is 13,333, and
 -- 200 kW of excess are credited at most 200 × 13,333 / 5 a day, 30 days of which are 15,999 cents.
 borrowed-figures : (rate A 2 ≡ 13333) × (rate A 3 ≡ 0) × (rate A 4 ≡ 0) × (rate (clearedA 1 0 5) 0 ≡ 15000) × (rate (clearedA 1 0 5) 2 ≡ 15000)
@@ -149,7 +150,7 @@ borrowed-figures : (rate A 2 ≡ 13333) × (rate A 3 ≡ 0) × (rate A 4 ≡ 0) 
 unfolding sumTo anyTo convert days share beforeCap unforced own ofArea areaRate rate ofSeller shareOf dispatched dispatchCount shortfallOver u cap measured offU asked daily spent revenue excess e creditLimit B listed reduction second deficit known area product committed fieldRate obligation
 borrowed-figures = (refl, refl, refl, refl, refl, refl, refl, refl, refl, refl)
 
--- Three parties divide three times, and never where their weights are all 0; no party never does. In A seller 0's entry lacks 400 kW and seller 1's gives
+-- Three parties divide three times, and never where their weights are all 0; no party never does. In A seller 0's entry is short 400 kW and seller 1's gives
 -- 100 more: one division each, none where nothing is lacking or nothing given more; both entries divide the charges, though the first has no excess; two
 -- of sixteen LSEs are known. Where both entries are seller 0's, which is short, u and e divide by two, e of an excess of 0, and the credits never.
 division-figures : (divisions 3 1 ≡ 3) × (divisions 3 0 ≡ 0) × (divisions 0 5 ≡ 0)
@@ -196,7 +197,7 @@ retest-figures : (result (retried 400 false 900 []) 0 0 ≡ 400) × (result (ret
 unfolding sumTo anyTo convert days raised unforced own ofArea areaRate rate ofSeller dispatched shortfallOver result B testCharge listed reduction second deficit known area product committed fieldRate obligation
 retest-figures = (refl, refl, refl, refl, refl, refl, refl, refl, refl)
 
--- Events of these periods, some with off-peak measured apart, list seller 0's Limited registration of 1,000 kW at 10,000 and its Annual one of 2,000 at 15,000, seller 1's Annual one of 500 at 20,000,
+-- Events of these periods, some of them dual, list seller 0's Limited registration of 1,000 kW at 10,000 and its Annual one of 2,000 at 15,000, seller 1's Annual one of 500 at 20,000,
 -- seller 2's Limited one of 1,000 at 10,000 and seller 3's Annual one of 3,000 at 10,000. First reductions are 600, 2,000, v, 1,100 and 2,990, second ones 1,500, 1,000, 0, 5,000 and 0; seller 0 has a deficit of 100.
 abbrev measuredApart : List (ℕ × Bool) → ℕ → Facts
 measuredApart periods v =
@@ -222,7 +223,7 @@ dual-figures : (u dualOnce 0 0 ≡ 310) × (offU dualOnce 0 0 ≡ 0) × (offU du
 unfolding sumTo convert days due share beforeCap unforced own ofArea areaRate rate ofSeller shareOf dispatchCount shortfallOver u measured offU asked cap daily spent charge excess e divisions divisionsOf listed reduction second deficit known area product committed fieldRate obligation
 dual-figures = (refl, refl, refl, refl, refl, refl, refl, refl, refl, refl, refl, refl, refl, refl, refl, refl, refl)
 
--- Two such events and one of period 3 with a single figure: n is 3, 310 × 10,000 / 3; off-peak is still divided by 52; in the third nothing is measured apart.
+-- Two such events and one of period 3 with a single figure: n is 3, 310 × 10,000 / 3; off-peak is still divided by 52; the third is not dual.
 abbrev dualTwice : Facts
 dualTwice = measuredApart ((3, true) ∷ (3, true) ∷ (3, false) ∷ []) 300
 

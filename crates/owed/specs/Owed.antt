@@ -1,4 +1,4 @@
--- What is owed (document 01, with document 02's C-11, C-12, C-15 and C-17), in the document's order, over facts. Amounts are to date at month k; i is a registration, s a seller, a an area, j an LSE, ev an event, p the place of a test.
+-- What is owed (document 01, with document 02's C-11, C-12, C-15 and C-17), in the document's order, over facts. Amounts are to date at month k; i is a registration, s a seller, a an area, j an LSE, ev an event, p the group of a test, a zone and product.
 -- a - b is 0 where b is the larger, so "at least 0" is written as `-`; a / 0 is 0, so nothing is allotted where all weights are 0.
 -- A sum or an allotment over some registrations runs over all ids, in rising order, with 0 for the others.
 use Prim.Native.Nat.{ℕ, zero, suc, _+_, _-_, _*_, _/_, min, max}
@@ -6,19 +6,20 @@ use mathlib.Core.Bool.{Bool, not, _&&_, _||_, cond}
 use lib.Dec.{leb, ltb, eqb}
 use Rattle.ids.specs.Ids.{sumTo, countTo, anyTo, tabulate, only, keyed}
 use Rattle.units.specs.Units.{convert}
+use Rattle.limits.specs.Limits.{registrations, sellers, lses, testGroups}
 use Rattle.calendar.specs.Calendar.{limited, offPeak, days, due}
 use Rattle.allotment.specs.Allot.{share}
 use Rattle.year.specs.declared.Listing.{Listing}
 use Rattle.year.specs.declared.Terms.{Terms}
 use Rattle.year.specs.declared.Amounts.{Amounts}
-use Rattle.year.specs.Year.{listed, reduction, second, deficit, known, area, product, committed, fieldRate, obligation, sellers}
-use Rattle.owed.specs.Facts.{Facts, registrations, lses, testGroups}
+use Rattle.year.specs.Year.{listed, reduction, second, deficit, known, area, product, committed, fieldRate, obligation}
+use Rattle.owed.specs.Facts.{Facts}
 
 -- a period of the daily charge's first rule
 abbrev pub oneOrThree : ℕ → Bool
 oneOrThree period = eqb period 1 || eqb period 3
 
--- step 3: the daily charge before the cap, of u unforced kilowatts at rate q with n calls, in thousandths of a cent
+-- step 3: the daily charge before the cap, of u unforced kilowatts at rate q with a dispatch count of n, in thousandths of a cent
 unfoldable pub beforeCap : ℕ → ℕ → ℕ → ℕ → ℕ
 beforeCap period n u q = u * q / cond (oneOrThree period) (max n 2) 52
 
@@ -27,7 +28,7 @@ unfoldable pub raised : ℕ → ℕ
 raised b = b + max (b / 5) 2000
 
 module _ (F : Facts) where
-  -- the terms; what event ev lists, and the test at place p
+  -- the terms; what event ev lists, and the test of group p
   abbrev T : Terms
   T = F .terms
 
@@ -85,7 +86,7 @@ module _ (F : Facts) where
   abbrev pub shortfall : ℕ → ℕ → ℕ
   shortfall ev = shortfallOver (listed (inEvent ev)) (reduction (inEvent ev)) (deficit (inEvent ev))
 
-  -- what an entry lacks, max(0, c − v), and what it gives more, max(0, v − c)
+  -- what an entry is short, max(0, c − v), and what it is over, max(0, v − c)
   abbrev pub shortOf : (ℕ → Bool) → (ℕ → ℕ) → ℕ → ℕ
   shortOf picked reduction = only picked (λ i. committed T i - reduction i)
 
@@ -102,7 +103,7 @@ module _ (F : Facts) where
   unfoldable pub u : ℕ → ℕ → ℕ
   u ev i = shareOf (short ev) (shortfall ev) i
 
-  -- steps 1 and 2 of what is measured off-peak apart: of all entries but Limited ones, by their second reductions, the whole deficit taken off here too
+  -- steps 1 and 2 off-peak, of a dual event: of all entries but Limited ones, by their second reductions, the whole deficit taken off here too
   unfoldable pub measured : ℕ → ℕ → Bool
   measured ev i = F .event ev .dual && (listed (inEvent ev) i && not (eqb (product T i) limited))
 
@@ -115,7 +116,7 @@ module _ (F : Facts) where
   unfoldable pub offU : ℕ → ℕ → ℕ
   offU ev i = shareOf (offShort ev) (offShortfall ev) i
 
-  -- step 3 of an entry: the higher of what u and what the off-peak u comes to, of which the second is 0 where nothing is measured apart
+  -- step 3 of an entry: the higher of what u and what the off-peak u comes to, of which the second is 0 where the event is not dual
   unfoldable pub asked : ℕ → ℕ → ℕ
   asked ev i =
       let first = beforeCap (F .event ev .period) (dispatchCount i) (u ev i) (rate i) in

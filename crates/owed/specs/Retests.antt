@@ -1,10 +1,11 @@
--- What decides whether a seller may retest (document 02, C-15): its entries in the test at a place as it was recorded, whatever events list since and whatever retests say. p is the place of a test, s a seller, i a registration.
+-- What decides whether a seller may retest (document 02, C-15): its entries in the test of a group as it was recorded, whatever events list since and whatever retests say. p is the group of a test, s a seller, i a registration.
 use Prim.Native.Nat.{ℕ, _*_}
 use mathlib.Core.Bool.{Bool, _&&_}
 use lib.Dec.{ltb, eqb}
 use Rattle.ids.specs.Ids.{sumTo, anyTo, only}
+use Rattle.limits.specs.Limits.{registrations}
 use Rattle.year.specs.Year.{listed, reduction, committed}
-use Rattle.owed.specs.Facts.{Facts, registrations}
+use Rattle.owed.specs.Facts.{Facts}
 
 -- are failed kW × 4 between 1 and one less than tested kW
 unfoldable pub belowQuarter : ℕ → ℕ → Bool

@@ -5,9 +5,10 @@ use mathlib.Core.Path.{_≡_, refl, sym, fun-ext}
 use lib.Dec.{eqb}
 use borrow.Author.Tests.{eqb-true}
 use Rattle.ids.specs.Ids.{sumTo, keyed}
+use Rattle.limits.specs.Limits.{registrations, lses}
 use Rattle.allotment.specs.Allot.{Allotted, allotted, share, share-zero}
 use Rattle.year.specs.Year as year
-use Rattle.owed.specs.Facts.{Facts, registrations, lses}
+use Rattle.owed.specs.Facts.{Facts}
 use Rattle.owed.specs.Owed.{shareOf, shortfall, short, over, u, offShortfall, offShort, offU, charge, excess, e, creditShare, charges, credits, lse}
 
 module _ (F : Facts) where

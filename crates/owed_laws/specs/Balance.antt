@@ -5,9 +5,9 @@ use native.Mathlib.Omega.{arith}
 use native.Mathlib.Nat.{le-trans, min-le-left}
 use Rattle.ids.specs.Ids.{sumTo}
 use Rattle.ids.specs.Sums.{sum-add, sum-le}
-use Rattle.year.specs.Year.{sellers}
+use Rattle.limits.specs.Limits.{registrations, sellers, lses}
 use Rattle.year.specs.Year as year
-use Rattle.owed.specs.Facts.{Facts, registrations, lses}
+use Rattle.owed.specs.Facts.{Facts}
 use Rattle.owed.specs.Owed.{ofSeller, charge, creditShare, creditLimit, creditOf, compliance, credit, test, charges, credits, lse}
 use Rattle.owed_laws.specs.Limits.{Limits}
 use Rattle.owed_laws.specs.Sellers.{sellers-events}

@@ -10,10 +10,11 @@ use Rattle.ids.specs.Ids.{sumTo, only, keyed}
 use Rattle.ids.specs.Sums.{sum-bound}
 use Rattle.ids.specs.Tests.{cond-le}
 use Rattle.units.specs.Units.{convert-scaled}
+use Rattle.limits.specs.Limits.{registrations, nominatedLimit, unforcedLimit, nominatedSum, unforcedSum, rateLimit}
 use Rattle.calendar.specs.Calendar.{due, days-le}
 use Rattle.allotment.specs.Allot.{share-most}
 use Rattle.year.specs.Year as year
-use Rattle.owed.specs.Facts.{Facts, registrations}
+use Rattle.owed.specs.Facts.{Facts}
 use Rattle.owed.specs.Owed.{raised, D, unforced, own, areaRate, rate, ofSeller, shareOf, shortfallOver, shortOf, overOf, over, u, measured, offU, cap, daily, spent, charge, excess, e, creditLimit, creditOf, stands, result, testShortfall, B, testCharge}
 use Rattle.owed_laws.specs.Limits.{Limits}
 use Rattle.owed_laws.specs.Rates.{worth-most, area-rate-some}
@@ -29,19 +30,19 @@ module _ {F : Facts} (L : Limits F) where
   unfolding unforced
   unforced-scaled a = convert-scaled a (L .factor) (L .requirement)
 
-  pub unforced-one : {a : ℕ} → a ≤ 100000 → unforced F a ≤ 144000
+  pub unforced-one : {a : ℕ} → a ≤ nominatedLimit → unforced F a ≤ unforcedLimit
   unforced-one {a} h = omega (arith, unforced-scaled a)
 
   -- an entry's weights
-  pub short-le : (p : ℕ → Bool) (v : ℕ → ℕ) (i : ℕ) → shortOf F p v i ≤ 100000
+  pub short-le : (p : ℕ → Bool) (v : ℕ → ℕ) (i : ℕ) → shortOf F p v i ≤ nominatedLimit
   short-le p v i = cond-le (p i) (omega (arith, L .committed i))
 
-  pub over-le : (p : ℕ → Bool) {v : ℕ → ℕ} → ((i : ℕ) → v i ≤ 100000) → (i : ℕ) → overOf F p v i ≤ 100000
+  pub over-le : (p : ℕ → Bool) {v : ℕ → ℕ} → ((i : ℕ) → v i ≤ nominatedLimit) → (i : ℕ) → overOf F p v i ≤ nominatedLimit
   over-le p h i = cond-le (p i) (omega (arith, h i))
 
   -- a seller's: what is committed, the shortfall, the excess
-  pub committed-le : (p : ℕ → Bool) (s : ℕ) → ofSeller F s (only p (year.committed (F .terms))) ≤ 6400000
-  committed-le p s = ofSeller-le F s 100000 (λ i. cond-le (p i) (L .committed i))
+  pub committed-le : (p : ℕ → Bool) (s : ℕ) → ofSeller F s (only p (year.committed (F .terms))) ≤ nominatedSum
+  committed-le p s = ofSeller-le F s nominatedLimit (λ i. cond-le (p i) (L .committed i))
 
   shortfall-scaled : (p : ℕ → Bool) (v d : ℕ → ℕ) (s : ℕ)
       → shortfallOver F p v d s * 100 ≤ (ofSeller F s (only p (year.committed (F .terms))) - ofSeller F s (only p v)) * 144
@@ -49,32 +50,32 @@ module _ {F : Facts} (L : Limits F) where
   shortfall-scaled p v d s =
       omega (arith, unforced-scaled (ofSeller F s (only p (year.committed (F .terms))) - ofSeller F s (only p v)))
 
-  pub shortfall-le : (p : ℕ → Bool) (v d : ℕ → ℕ) (s : ℕ) → shortfallOver F p v d s ≤ 9216000
+  pub shortfall-le : (p : ℕ → Bool) (v d : ℕ → ℕ) (s : ℕ) → shortfallOver F p v d s ≤ unforcedSum
   shortfall-le p v d s = omega (arith, shortfall-scaled p v d s, committed-le p s)
 
   pub excess-le : (ev s : ℕ) → excess F ev s ≤ ofSeller F s (over F ev)
   excess-le ev s = omega (arith, excess-is F s ev)
 
   -- an entry's shares: at most one registration's kilowatts
-  shortfall-lack : (p : ℕ → Bool) (v d : ℕ → ℕ) (s : ℕ) → shortfallOver F p v d s * 100000 ≤ 144000 * ofSeller F s (shortOf F p v)
+  shortfall-lack : (p : ℕ → Bool) (v d : ℕ → ℕ) (s : ℕ) → shortfallOver F p v d s * nominatedLimit ≤ unforcedLimit * ofSeller F s (shortOf F p v)
   shortfall-lack p v d s = omega (arith, net-is F s p v, shortfall-scaled p v d s)
 
-  share-le : (p : ℕ → Bool) (v d : ℕ → ℕ) (i : ℕ) → shareOf F (shortOf F p v) (shortfallOver F p v d) i ≤ 144000
+  share-le : (p : ℕ → Bool) (v d : ℕ → ℕ) (i : ℕ) → shareOf F (shortOf F p v) (shortfallOver F p v d) i ≤ unforcedLimit
   unfolding shareOf ofSeller
   share-le p v d i =
       let s = F .seller i in
-      share-most registrations (keyed (F .seller) (shortOf F p v) s) (shortfallOver F p v d s) i 144000
+      share-most registrations (keyed (F .seller) (shortOf F p v) s) (shortfallOver F p v d s) i unforcedLimit
       (le-trans (mul-le-mul-left (shortfallOver F p v d s) (cond-le (eqb s s) (short-le p v i))) (shortfall-lack p v d s))
 
-  pub u-le : (ev i : ℕ) → u F ev i ≤ 144000
+  pub u-le : (ev i : ℕ) → u F ev i ≤ unforcedLimit
   unfolding u
   u-le ev i = share-le (year.listed (F .event ev .listing)) (year.reduction (F .event ev .listing)) (year.deficit (F .event ev .listing)) i
 
-  pub off-u-le : (ev i : ℕ) → offU F ev i ≤ 144000
+  pub off-u-le : (ev i : ℕ) → offU F ev i ≤ unforcedLimit
   unfolding offU
   off-u-le ev i = share-le (measured F ev) (year.second (F .event ev .listing)) (year.deficit (F .event ev .listing)) i
 
-  pub e-le : (ev i : ℕ) → e F ev i ≤ 100000
+  pub e-le : (ev i : ℕ) → e F ev i ≤ nominatedLimit
   unfolding ofSeller
   e-le ev i =
       let s = F .seller i in
@@ -94,8 +95,8 @@ module _ {F : Facts} (L : Limits F) where
   charge-le k ev i = cond-le (leb (due (year.product (F .terms) i) (F .event ev .month)) k) (omega (arith, mul-le-mul (daily-le ev (spent F ev i) i) (D-le k)))
 
   -- all e of an event, and what is allotted of its charges
-  pub e-sum : (ev : ℕ) → sumTo registrations (e F ev) ≤ 6400000
-  e-sum ev = sum-bound registrations 100000 (e F ev) (λ i l. e-le ev i)
+  pub e-sum : (ev : ℕ) → sumTo registrations (e F ev) ≤ nominatedSum
+  e-sum ev = sum-bound registrations nominatedLimit (e F ev) (λ i l. e-le ev i)
 
   pub charged-fits : (k ev : ℕ) → sumTo registrations (charge F k ev) * sumTo registrations (e F ev) < 2 ^ 63
   charged-fits k ev = omega (arith, mul-le-mul (sum-bound registrations 5270400000 (charge F k ev) (λ i l. charge-le k ev i)) (e-sum ev))
@@ -118,11 +119,11 @@ module _ {F : Facts} (L : Limits F) where
 
   -- a test's base, at most the highest rate, its rate, and its charge
   pub worth-le : (p : ℕ → Bool) (s : ℕ)
-      → ofSeller F s (only p (λ i. year.committed (F .terms) i * rate F i)) ≤ ofSeller F s (only p (year.committed (F .terms))) * 100000
+      → ofSeller F s (only p (λ i. year.committed (F .terms) i * rate F i)) ≤ ofSeller F s (only p (year.committed (F .terms))) * rateLimit
   unfolding ofSeller
-  worth-le p s = worth-most registrations (F .seller) (year.committed (F .terms)) (rate F) p s 100000 (L .rate)
+  worth-le p s = worth-most registrations (F .seller) (year.committed (F .terms)) (rate F) p s rateLimit (L .rate)
 
-  pub B-le : (p s : ℕ) → B F p s ≤ 100000
+  pub B-le : (p s : ℕ) → B F p s ≤ rateLimit
   unfolding B
   B-le p s = div-le-of-le-mul (ofSeller F s (only (stands F p) (year.committed (F .terms)))) (worth-le (stands F p) s)
 
@@ -131,7 +132,7 @@ module _ {F : Facts} (L : Limits F) where
   raised-le p s = omega (arith, B-le p s)
 
   -- by what is committed in it
-  pub test-scaled : (k p s : ℕ) → testCharge F k p s * 100000 ≤ ofSeller F s (only (stands F p) (year.committed (F .terms))) * 6324480000
+  pub test-scaled : (k p s : ℕ) → testCharge F k p s * nominatedLimit ≤ ofSeller F s (only (stands F p) (year.committed (F .terms))) * 6324480000
   unfolding testCharge
   test-scaled k p s =
       let a = testShortfall F p s in

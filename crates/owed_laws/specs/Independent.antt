@@ -8,8 +8,9 @@ use borrow.Author.Tests.{eqb-true}
 use Rattle.ids.specs.Ids.{sumTo, anyTo, only, keyed}
 use Rattle.ids.specs.Sums.{sum-same}
 use Rattle.ids.specs.Tests.{any-same}
+use Rattle.limits.specs.Limits.{registrations, testGroups}
 use Rattle.year.specs.Year as year
-use Rattle.owed.specs.Facts.{Facts, registrations, testGroups}
+use Rattle.owed.specs.Facts.{Facts}
 use Rattle.owed.specs.Owed.{unforced, rate, ofSeller, shareOf, dispatched, dispatchCount, shortfallOver, shortOf, u, measured, offU, asked, cap, daily, spent, charge, stands, result, B, testCharge, compliance, test}
 
 -- two facts that agree in what is seller r's, along the accepted events and at every test

@@ -8,9 +8,10 @@ use lib.Dec.{eqb}
 use Rattle.ids.specs.Ids.{only}
 use Rattle.ids.specs.Sums.{sum-zero}
 use Rattle.units.specs.Units.{convert-zero}
+use Rattle.limits.specs.Limits.{registrations, lses, testGroups}
 use Rattle.allotment.specs.Allot.{share-zero}
 use Rattle.year.specs.Year as year
-use Rattle.owed.specs.Facts.{Facts, registrations, lses, testGroups}
+use Rattle.owed.specs.Facts.{Facts}
 use Rattle.owed.specs.Owed.{D, raised, unforced, ofSeller, shortfallOver, stands, result, testShortfall, B, testCharge, compliance, test, credit, charges, credits, lse}
 use Rattle.owed_laws.specs.Unlisted.{u-unlisted, off-unlisted, charge-none, credit-unlisted}
 

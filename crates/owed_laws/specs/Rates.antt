@@ -9,8 +9,9 @@ use borrow.Author.Tests.{ltb-true, lt-ltb, eq-eqb, ne-eqb}
 use Rattle.ids.specs.Ids.{sumTo, only, keyed}
 use Rattle.ids.specs.Sums.{sum-mul, sum-le, sum-one}
 use Rattle.ids.specs.Tests.{cond-le}
+use Rattle.limits.specs.Limits.{registrations, rateLimit}
 use Rattle.year.specs.Year as year
-use Rattle.owed.specs.Facts.{Facts, registrations}
+use Rattle.owed.specs.Facts.{Facts}
 use Rattle.owed.specs.Owed.{own, hasOwnRate, ofArea, areaRate, rate}
 
 -- what kilowatts are worth at rates, all of a key that are picked: at most their most, and at least as much where no rate is 0
@@ -39,28 +40,28 @@ module _ (n : ℕ) (key kw q : ℕ → ℕ) (p : ℕ → Bool) (k : ℕ) where
       go true true c h = omega (arith, mul-le-mul-left c (h refl))
 
 -- a registration's own
-pub own-le : (F : Facts) (i : ℕ) → year.fieldRate (F .terms) i ≤ 100000 → F .clearings i .value ≤ 100000 * F .clearings i .kw → own F i ≤ 100000
+pub own-le : (F : Facts) (i : ℕ) → year.fieldRate (F .terms) i ≤ rateLimit → F .clearings i .value ≤ rateLimit * F .clearings i .kw → own F i ≤ rateLimit
 unfolding own
 own-le F i f v = cond-le (year.known (F .terms) i) (go (ltb 0 (F .clearings i .count)))
   where
-    go : (b : Bool) → cond b (F .clearings i .value / F .clearings i .kw) (year.fieldRate (F .terms) i) ≤ 100000
+    go : (b : Bool) → cond b (F .clearings i .value / F .clearings i .kw) (year.fieldRate (F .terms) i) ≤ rateLimit
     go true = div-le-of-le-mul (F .clearings i .kw) (omega (arith, v))
     go false = f
 
 module _ (F : Facts) where
-  area-rate-le : ((i : ℕ) → own F i ≤ 100000) → (a : ℕ) → areaRate F a ≤ 100000
+  area-rate-le : ((i : ℕ) → own F i ≤ rateLimit) → (a : ℕ) → areaRate F a ≤ rateLimit
   unfolding ofArea areaRate
-  area-rate-le h a = div-le-of-le-mul (ofArea F a (only (hasOwnRate F) (year.committed (F .terms)))) (worth-most registrations (year.area (F .terms)) (year.committed (F .terms)) (own F) (hasOwnRate F) a 100000 h)
+  area-rate-le h a = div-le-of-le-mul (ofArea F a (only (hasOwnRate F) (year.committed (F .terms)))) (worth-most registrations (year.area (F .terms)) (year.committed (F .terms)) (own F) (hasOwnRate F) a rateLimit h)
 
-  pub rate-le : ((i : ℕ) → own F i ≤ 100000) → (i : ℕ) → rate F i ≤ 100000
+  pub rate-le : ((i : ℕ) → own F i ≤ rateLimit) → (i : ℕ) → rate F i ≤ rateLimit
   unfolding rate
   rate-le h i = go (year.known (F .terms) i && eqb (own F i) 0)
     where
-      go : (b : Bool) → cond b (areaRate F (year.area (F .terms) i)) (own F i) ≤ 100000
+      go : (b : Bool) → cond b (areaRate F (year.area (F .terms) i)) (own F i) ≤ rateLimit
       go true = area-rate-le h (year.area (F .terms) i)
       go false = h i
 
-  -- the rate of an area where registration j lends
+  -- the rate of an area where registration j has a rate of its own
   pub area-rate-some : (j : ℕ) → j < registrations → 1 ≤ own F j → 1 ≤ year.committed (F .terms) j → 1 ≤ areaRate F (year.area (F .terms) j)
   unfolding ofArea areaRate
   area-rate-some j l some-rate some =

@@ -6,8 +6,9 @@ use lib.Dec.{ltb, eqb}
 use borrow.Author.Tests.{eqb-true}
 use Rattle.ids.specs.Sums.{sum-same}
 use Rattle.ids.specs.Tests.{and-parts, any-same}
+use Rattle.limits.specs.Limits.{registrations}
 use Rattle.year.specs.Year as year
-use Rattle.owed.specs.Facts.{Facts, registrations}
+use Rattle.owed.specs.Facts.{Facts}
 use Rattle.owed.specs.Retests.{testEntry, failed, testedKw, failedKw, hadRetest}
 use Rattle.owed_laws.specs.Independent.{Same}
 

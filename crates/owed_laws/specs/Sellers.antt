@@ -1,4 +1,4 @@
--- Sums over a seller's registrations: their laws, and the sums of what entries lack and give more.
+-- Sums over a seller's registrations: their laws, and the sums of what entries are short and over.
 use Prim.Native.Nat.{ℕ, _+_, _*_, _-_, _≤_, _<_}
 use mathlib.Core.Bool.{Bool, true, false, cond}
 use mathlib.Core.Path.{_≡_, refl, sym, _∙_}
@@ -8,9 +8,9 @@ use lib.Dec.{eqb}
 use Rattle.ids.specs.Ids.{sumTo, only, keyed}
 use Rattle.ids.specs.Sums.{sum-add, sum-mul, sum-same, sum-le, sum-zero, sum-swap, sum-at, sum-bound}
 use Rattle.ids.specs.Tests.{cond-le}
-use Rattle.year.specs.Year.{sellers}
+use Rattle.limits.specs.Limits.{registrations, sellers}
 use Rattle.year.specs.Year as year
-use Rattle.owed.specs.Facts.{Facts, registrations}
+use Rattle.owed.specs.Facts.{Facts}
 use Rattle.owed.specs.Owed.{ofSeller, shortOf, overOf, short, over, excess}
 use Rattle.owed_laws.specs.Limits.{Limits}
 
@@ -30,7 +30,7 @@ module _ (F : Facts) (s : ℕ) where
       go true e = e
       go false e = omega arith
 
-  pub ofSeller-le : (b : ℕ) {f : ℕ → ℕ} → ((i : ℕ) → f i ≤ b) → ofSeller F s f ≤ 64 * b
+  pub ofSeller-le : (b : ℕ) {f : ℕ → ℕ} → ((i : ℕ) → f i ≤ b) → ofSeller F s f ≤ registrations * b
   unfolding ofSeller
   ofSeller-le b {f} h = sum-bound registrations b (keyed (F .seller) f s) (λ i l. cond-le (eqb (F .seller i) s) (h i))
 

@@ -7,11 +7,11 @@ use Rattle.ids.specs.Ids.{sumTo, tabulate, only}
 use Rattle.ids.specs.Sums.{sum-add, sum-mul, sum-le, sum-swap, sum-mono, sum-one, sum-bound}
 use Rattle.ids.specs.Tables.{length-tabulate, getD-tabulate}
 use Rattle.ids.specs.Each.{Each}
+use Rattle.limits.specs.Limits.{registrations, parties, sellers, lses, testGroups, nominatedLimit, obligationLimit}
 use Rattle.allotment.specs.Allot.{one-share}
 use Rattle.year.specs.Sound.{SoundAmounts, Fits42}
-use Rattle.year.specs.Year.{sellers}
 use Rattle.year.specs.Year as year
-use Rattle.owed.specs.Facts.{Facts, registrations, lses, testGroups}
+use Rattle.owed.specs.Facts.{Facts}
 use Rattle.owed.specs.Owed.{ofSeller, dispatched, charge, creditOf, stands, testCharge, compliance, test, credit, charges, credits, lse, amounts}
 use Rattle.owed_laws.specs.Limits.{Limits}
 use Rattle.owed_laws.specs.Sellers.{ofSeller-mono, ofSeller-le, ofSeller-sum, sellers-sum, sellers-events}
@@ -21,7 +21,7 @@ use Rattle.owed_laws.specs.Balance.{sellers-credits}
 use Rattle.owed_laws.specs.Bounds.{D-le, cap-le, test-scaled}
 
 pub obligations-le : {F : Facts} → Limits F → sumTo lses (year.obligation (F .terms)) ≤ 16000000
-obligations-le {F} L = sum-bound lses 1000000 (year.obligation (F .terms)) (λ j l. L .obligation j)
+obligations-le {F} L = sum-bound lses obligationLimit (year.obligation (F .terms)) (λ j l. L .obligation j)
 
 module _ {F : Facts} (L : Limits F) (k : ℕ) where
   -- compliance along the first m events: a registration's, a seller's, all sellers'
@@ -60,14 +60,14 @@ module _ {F : Facts} (L : Limits F) (k : ℕ) where
       go true false c = omega arith
       go false b c = omega arith
 
-  tests-scaled : (s : ℕ) → test F k s * 100000 ≤ ofSeller F s (year.committed (F .terms)) * 6324480000
+  tests-scaled : (s : ℕ) → test F k s * nominatedLimit ≤ ofSeller F s (year.committed (F .terms)) * 6324480000
   unfolding test
   tests-scaled s =
       let c : ℕ → ℕ = λ p. ofSeller F s (only (stands F p) (year.committed (F .terms))) in
       omega (
         arith,
-        sum-mul testGroups (λ p. testCharge F k p s) 100000,
-        sum-le testGroups {f = λ p. testCharge F k p s * 100000} {g = λ p. c p * 6324480000} (λ p l. test-scaled L k p s),
+        sum-mul testGroups (λ p. testCharge F k p s) nominatedLimit,
+        sum-le testGroups {f = λ p. testCharge F k p s * nominatedLimit} {g = λ p. c p * 6324480000} (λ p l. test-scaled L k p s),
         sum-mul testGroups c 6324480000,
         stands-once s,
       )
@@ -76,18 +76,18 @@ module _ {F : Facts} (L : Limits F) (k : ℕ) where
   pub test-most : (m s : ℕ) → m ≤ testGroups → sumTo m (λ p. testCharge F k p s) ≤ 404766720000
   unfolding test
   test-most m s l =
-      omega (arith, sum-mono (λ p. testCharge F k p s) l, tests-scaled s, ofSeller-le F s 100000 (L .committed))
+      omega (arith, sum-mono (λ p. testCharge F k p s) l, tests-scaled s, ofSeller-le F s nominatedLimit (L .committed))
 
   sellers-test : sumTo sellers (test F k) ≤ 404766720000
   sellers-test =
       let c : ℕ → ℕ = λ s. ofSeller F s (year.committed (F .terms)) in
       omega (
         arith,
-        sum-mul sellers (test F k) 100000,
-        sum-le sellers {f = λ s. test F k s * 100000} {g = λ s. c s * 6324480000} (λ s l. tests-scaled s),
+        sum-mul sellers (test F k) nominatedLimit,
+        sum-le sellers {f = λ s. test F k s * nominatedLimit} {g = λ s. c s * 6324480000} (λ s l. tests-scaled s),
         sum-mul sellers c 6324480000,
         sellers-sum L (year.committed (F .terms)),
-        sum-bound registrations 100000 (year.committed (F .terms)) (λ i l. L .committed i),
+        sum-bound registrations nominatedLimit (year.committed (F .terms)) (λ i l. L .committed i),
       )
 
   -- all charges
@@ -99,9 +99,9 @@ module _ {F : Facts} (L : Limits F) (k : ℕ) where
   lse-le j l = omega (arith, one-share (lse-allotted F k) l, charges-le)
 
   -- a table of sixteen amounts
-  fits : (f : ℕ → ℕ) → ((i : ℕ) → i < 16 → f i ≤ 742072320000) → Each Fits42 0 16 (tabulate 16 f)
+  fits : (f : ℕ → ℕ) → ((i : ℕ) → i < parties → f i ≤ 742072320000) → Each Fits42 0 parties (tabulate parties f)
   fits f h =
-      record { long = length-tabulate f 16; at = λ i l. rw (getD-tabulate f 16 i 0 l) (omega (arith, h i l)) }
+      record { long = length-tabulate f parties; at = λ i l. rw (getD-tabulate f parties i 0 l) (omega (arith, h i l)) }
 
   pub sound-amounts : SoundAmounts (amounts F k)
   unfolding amounts compliance test credit

@@ -1,4 +1,4 @@
--- A registration that an event does not list has no share in it and gets no credit, and one that is not measured apart no off-peak share; one without a share is not charged.
+-- A registration that an event does not list has no share in it and gets no credit, and one that is not measured off-peak no off-peak share; one without a share is not charged.
 use Prim.Native.Nat.{ℕ, _*_, _/_, _≤_, max}
 use mathlib.Core.Bool.{false, cond, and-false}
 use mathlib.Core.Path.{_≡_}
@@ -7,10 +7,11 @@ use native.Mathlib.Nat.{zero-mul, zero-div, zero-min}
 use lib.Dec.{eqb, leb}
 use Rattle.ids.specs.Ids.{keyed}
 use Rattle.ids.specs.Tests.{cond-le}
+use Rattle.limits.specs.Limits.{registrations}
 use Rattle.calendar.specs.Calendar.{offPeak, due}
 use Rattle.allotment.specs.Allot.{share-zero}
 use Rattle.year.specs.Year as year
-use Rattle.owed.specs.Facts.{Facts, registrations}
+use Rattle.owed.specs.Facts.{Facts}
 use Rattle.owed.specs.Owed.{oneOrThree, beforeCap, D, rate, shareOf, dispatchCount, short, over, shortfall, excess, u, measured, offShort, offShortfall, offU, asked, daily, spent, charge, e, creditShare, creditLimit, creditOf}
 
 -- a weight of 0
@@ -20,7 +21,7 @@ share-none F weight amount i z =
     share-zero registrations (keyed (F .seller) weight (F .seller i)) (amount (F .seller i)) i
     (omega (arith, cond-le (eqb (F .seller i) (F .seller i)) {x = weight i} {b = 0} (omega arith)))
 
--- one that is not measured apart has no off-peak share
+-- one that is not measured off-peak has no off-peak share
 pub off-none : (F : Facts) (ev i : ℕ) → measured F ev i ≡ false → offU F ev i ≡ 0
 unfolding offU
 off-none F ev i e = share-none F (offShort F ev) (offShortfall F ev) i (rw e)

@@ -3,9 +3,10 @@ use Prim.Native.Nat.{ℕ}
 use mathlib.Core.Bool.{Bool, not, _&&_, _||_, Bool·beq}
 use lib.Dec.{eqb}
 use Rattle.ids.specs.Ids.{anyTo, allTo}
+use Rattle.limits.specs.Limits.{sellers}
 use Rattle.year.specs.declared.Listing.{Listing}
 use Rattle.year.specs.declared.Terms.{Terms}
-use Rattle.year.specs.Year.{listed, deficit, known, seller, area, zone, product, size, sellers}
+use Rattle.year.specs.Year.{listed, deficit, known, seller, area, zone, product, size}
 
 module _ (T : Terms) where
   -- is registration i known, and in the area; and of the zone and product

@@ -3,6 +3,7 @@ ghost use mathlib.Core.Path.{_≡_};
 ghost use mathlib.Core.Bool.{_&&_};
 ghost use Prim.Native.Nat.{_<_};
 ghost use lib.Dec.{eqb};
+ghost use Rattle.limits.specs.Limits.{registrations};
 ghost use Rattle.year_cells.specs.Layout.{yearIn};
 ghost use Rattle.question_conditions.specs.Meets.{fulfils};
 use crate::Condition;
@@ -18,7 +19,7 @@ pub fn in_group(r: Registration, zone: u64, product: u64) -> bool
 
 // Does a registration meet the condition?
 pub fn meets(year: &Cells, i: usize, condition: Condition) -> bool
-    requires { ⌜ i < 64 ⌝ }
+    requires { ⌜ i < registrations ⌝ }
     ensures { λ b. ⌜ b ≡ fulfils (yearIn (now (year .entry))) condition i ⌝ }
 {
     let r = year_cells::registration_at(year, i);

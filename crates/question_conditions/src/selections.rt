@@ -1,6 +1,7 @@
 // Is one registration among those that are meant?
 ghost use mathlib.Core.Path.{_≡_};
 ghost use Prim.Native.Nat.{_<_};
+ghost use Rattle.limits.specs.Limits.{registrations};
 ghost use Rattle.owed.specs.Facts.{factsOf};
 ghost use Rattle.owed.specs.Owed.{dispatched};
 ghost use Rattle.year_cells.specs.Layout.{yearIn, ValidCells};
@@ -15,7 +16,7 @@ use year_cells::Cells;
 // Does an accepted event list the registration?
 fn is_dispatched(year: &Cells, i: usize) -> bool
     requires { ⌜ ValidCells (now year) ⌝ }
-    requires { ⌜ i < 64 ⌝ }
+    requires { ⌜ i < registrations ⌝ }
     ensures { λ r. ⌜ r ≡ dispatched (factsOf (yearIn (now (year .entry)))) i ⌝ }
 {
     let n = year_cells::events_accepted(year);
@@ -32,7 +33,7 @@ fn is_dispatched(year: &Cells, i: usize) -> bool
 // Is a registration selected?
 pub fn is_selected(year: &Cells, i: usize, selection: Selection) -> bool
     requires { ⌜ ValidCells (now year) ⌝ }
-    requires { ⌜ i < 64 ⌝ }
+    requires { ⌜ i < registrations ⌝ }
     ensures { λ b. ⌜ b ≡ selects (yearIn (now (year .entry))) selection i ⌝ }
 {
     let r = year_cells::registration_at(year, i);

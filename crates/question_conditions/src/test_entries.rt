@@ -2,6 +2,7 @@
 ghost use mathlib.Core.Path.{_≡_};
 ghost use mathlib.Core.Bool.{_&&_};
 ghost use Prim.Native.Nat.{_<_};
+ghost use Rattle.limits.specs.Limits.{registrations};
 ghost use Rattle.owed.specs.Facts.{factsOf};
 ghost use Rattle.owed.specs.Retests.{testEntry, failed};
 ghost use Rattle.year_cells.specs.Layout.{yearIn, ValidCells};
@@ -10,7 +11,7 @@ use year_cells::Cells;
 // Has the test of a place an entry of it, as the seller's?
 pub fn is_entry(year: &Cells, i: usize, group: u64, seller: u64) -> bool
     requires { ⌜ ValidCells (now year) ⌝ }
-    requires { ⌜ i < 64 ⌝ }
+    requires { ⌜ i < registrations ⌝ }
     ensures { λ b. ⌜ b ≡ testEntry (factsOf (yearIn (now (year .entry)))) group seller i ⌝ }
 {
     let r = year_cells::registration_at(year, i);
@@ -20,7 +21,7 @@ pub fn is_entry(year: &Cells, i: usize, group: u64, seller: u64) -> bool
 // Was the entry's reduction in that test below its commitment?
 pub fn has_failed(year: &Cells, i: usize, group: u64, seller: u64) -> bool
     requires { ⌜ ValidCells (now year) ⌝ }
-    requires { ⌜ i < 64 ⌝ }
+    requires { ⌜ i < registrations ⌝ }
     ensures { λ b. ⌜ b ≡ failed (factsOf (yearIn (now (year .entry)))) group seller i ⌝ }
 {
     let r = year_cells::registration_at(year, i);
@@ -31,7 +32,7 @@ pub fn has_failed(year: &Cells, i: usize, group: u64, seller: u64) -> bool
 // Is it retested?
 pub fn is_retested(year: &Cells, i: usize, group: u64, seller: u64) -> bool
     requires { ⌜ ValidCells (now year) ⌝ }
-    requires { ⌜ i < 64 ⌝ }
+    requires { ⌜ i < registrations ⌝ }
     ensures { λ b. ⌜ b ≡ (let F = factsOf (yearIn (now (year .entry))) in testEntry F group seller i && F .retest i .taken) ⌝ }
 {
     let retest = year_tested::retest_at(year, i);

@@ -1,9 +1,10 @@
-// The questions put to what calls registrations up: an event, a test.
+// The questions put to an event and to a test.
 ghost use mathlib.Core.Path.{_≡_};
 ghost use mathlib.Core.Bool.{_&&_};
 ghost use Prim.Native.Nat.{ℕ};
 ghost use lib.ListN.{length};
 ghost use Rattle.ids.specs.Ids.{at};
+ghost use Rattle.year_cells.specs.Places.{listingWidth};
 ghost use Rattle.record_layouts.specs.Questions.{firstFailed};
 ghost use Rattle.year.specs.Year.{product};
 ghost use Rattle.calendar.specs.Calendar.{callable};
@@ -11,6 +12,7 @@ ghost use Rattle.year_cells.specs.Layout.{listingAt, yearIn, ValidCells};
 ghost use Rattle.record_heads.specs.Within.{GroupWithin};
 ghost use Rattle.question_conditions.specs.Entries.{everyListed};
 ghost use Rattle.question_list.specs.Questions.{monthBegun, questions};
+use limits::EVENT_LIMIT;
 use question_conditions::Condition;
 use question_conditions::Selection;
 use question_list::may_test;
@@ -27,7 +29,7 @@ use year_cells::Cells;
 // Question 11 of an event.
 fn may_call(year: &Cells, e: EventHead, listing: &[u64]) -> bool
     requires { ⌜ ValidCells (now year) ⌝ }
-    requires { ⌜ length (now listing) ≡ 208 ⌝ }
+    requires { ⌜ length (now listing) ≡ listingWidth ⌝ }
     ensures { λ r. ⌜ r ≡ (let y = yearIn (now (year .entry)) in monthBegun (y .closed) (e .month) && everyListed (y .terms) (listingAt (at (now (listing .entry)))) (λ i. callable (product (y .terms) i) (e .month) (e .period))) ⌝ }
 {
     month_begun(year, e.month)
@@ -37,7 +39,7 @@ fn may_call(year: &Cells, e: EventHead, listing: &[u64]) -> bool
 // Of an event.
 pub fn event_number(year: &Cells, e: EventHead, listing: &[u64]) -> u64
     requires { ⌜ ValidCells (now year) ⌝ }
-    requires { ⌜ length (now listing) ≡ 208 ⌝ }
+    requires { ⌜ length (now listing) ≡ listingWidth ⌝ }
     ensures { λ n. ⌜ ((room : ℕ) → n ≡ firstFailed (questions monthBegun (yearIn (now (year .entry))) (record { head = Head.Event e; listing = listingAt (at (now (listing .entry))) }) room)) ⌝ }
 {
     let first = open_number(year);
@@ -50,7 +52,7 @@ pub fn event_number(year: &Cells, e: EventHead, listing: &[u64]) -> u64
     if !may_call(year, e, listing) {
         return 11;
     }
-    if year_cells::events_accepted(year) < 16 {
+    if year_cells::events_accepted(year) < EVENT_LIMIT {
         0
     } else {
         12
@@ -61,7 +63,7 @@ pub fn event_number(year: &Cells, e: EventHead, listing: &[u64]) -> u64
 pub fn test_number(year: &Cells, t: TestHead, listing: &[u64]) -> u64
     requires { ⌜ ValidCells (now year) ⌝ }
     requires { ⌜ GroupWithin (t .zone) (t .product) ⌝ }
-    requires { ⌜ length (now listing) ≡ 208 ⌝ }
+    requires { ⌜ length (now listing) ≡ listingWidth ⌝ }
     ensures { λ n. ⌜ ((room : ℕ) → n ≡ firstFailed (questions monthBegun (yearIn (now (year .entry))) (record { head = Head.Test t; listing = listingAt (at (now (listing .entry))) }) room)) ⌝ }
 {
     let first = open_number(year);

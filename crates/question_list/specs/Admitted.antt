@@ -7,6 +7,7 @@ use lib.Dec.{ltb, eqb}
 use lib.ListN.{getD}
 use borrow.Author.Tests.{not-true, ltb-true, leb-true, eqb-true}
 use Rattle.ids.specs.Tests.{and-parts}
+use Rattle.limits.specs.Limits.{testGroups, eventLimit, clearingLimit, closeLimit, statementLimit}
 use Rattle.record_layouts.specs.Questions.{firstFailed}
 use Rattle.record_numbers.specs.Accepted.{passed}
 use Rattle.ids.specs.Sets.{getD-replicate-same}
@@ -67,9 +68,9 @@ pub not-started : {rule : ℕ → ℕ → Bool} {y : Year} {r : Record} {room : 
 not-started {y = y} e a = not-true (y .started) (sym e ∙ a .seven)
 
 module _ {rule : ℕ → ℕ → Bool} {y : Year} {l : Listing} {room : ℕ} where
-  pub event-room : {e : EventHead} → Admitted rule y (record { head = Event e; listing = l }) room → y .accepted < 16
+  pub event-room : {e : EventHead} → Admitted rule y (record { head = Event e; listing = l }) room → y .accepted < eventLimit
   unfolding q12
-  event-room a = ltb-true (y .accepted) 16 (a .twelve)
+  event-room a = ltb-true (y .accepted) eventLimit (a .twelve)
 
   pub test-group : {t : TestHead} → Admitted rule y (record { head = Test t; listing = l }) room → everyListed (y .terms) l (inGroup (y .terms) (t .zone) (t .product)) ≡ true
   unfolding q10
@@ -96,22 +97,22 @@ module _ {rule : ℕ → ℕ → Bool} {y : Year} {l : Listing} {room : ℕ} whe
         go : (b : Bool) → y .started ≡ b → b ≡ true
         go true e = refl
         go false e =
-            let blank = ap (λ (x : test.Test). x .taken) (getD-replicate-same 24 (testGroup (t .zone) (t .product)) noTest) in
+            let blank = ap (λ (x : test.Test). x .taken) (getD-replicate-same testGroups (testGroup (t .zone) (t .product)) noTest) in
             absurd (let z : _≡_ {A = ℕ} 0 1 = cc (retest-tested, S .fresh e .2, blank) in omega arith)
 
-  pub clearings-few : {c : ClearingHead} → Admitted rule y (record { head = Clearing c; listing = l }) room → clearingsOf y (c .registration) .count < 4
+  pub clearings-few : {c : ClearingHead} → Admitted rule y (record { head = Clearing c; listing = l }) room → clearingsOf y (c .registration) .count < clearingLimit
   unfolding q17
-  clearings-few {c} a = ltb-true (clearingsOf y (c .registration) .count) 4 (a .seventeen)
+  clearings-few {c} a = ltb-true (clearingsOf y (c .registration) .count) clearingLimit (a .seventeen)
 
   module _ {c : CloseHead} (a : Admitted rule y (record { head = Close c; listing = l }) room) where
-    pub not-finished : y .closed < 15
+    pub not-finished : y .closed < closeLimit
     unfolding q6
-    not-finished = ltb-true (y .closed) 15 (and-parts (y .opened) (ltb (y .closed) 15) (a .six) .1)
+    not-finished = ltb-true (y .closed) closeLimit (and-parts (y .opened) (ltb (y .closed) closeLimit) (a .six) .1)
 
     pub next-month : c .month ≡ y .closed + 1
     unfolding q15
     next-month = eqb-true (c .month) (y .closed + 1) (a .fifteen)
 
-    pub room-to-close : 354 ≤ room
+    pub room-to-close : statementLimit ≤ room
     unfolding q16
-    room-to-close = leb-true 354 room (a .sixteen)
+    room-to-close = leb-true statementLimit room (a .sixteen)

@@ -4,12 +4,13 @@ use mathlib.Core.Bool.{Bool, true, not, _&&_, _||_}
 use mathlib.Core.List.{List, [], _∷_}
 use lib.Dec.{leb, ltb, eqb}
 use Rattle.ids.specs.Ids.{anyTo}
+use Rattle.limits.specs.Limits.{eventLimit, clearingLimit, closeLimit, statementLimit}
 use Rattle.calendar.specs.Calendar.{callable, testable}
 use Rattle.year.specs.declared.Listing.{Listing}
 use Rattle.year.specs.declared.Test.{Test}
 use Rattle.year.specs.declared.Terms.{Terms}
 use Rattle.year.specs.declared.Year.{Year}
-use Rattle.year.specs.Year.{clearingsOf, known, seller, product, obligation, size, lses, testAt, testGroup}
+use Rattle.year.specs.Year.{clearingsOf, known, seller, product, obligation, size, lseCount, testAt, testGroup}
 use Rattle.owed.specs.Facts.{factsOf}
 use Rattle.owed.specs.Owed.{dispatched}
 use Rattle.owed.specs.Retests.{belowQuarter, failed, testedKw, failedKw, hadRetest}
@@ -31,7 +32,7 @@ mayTest z product m = monthBegun z m && testable product m
 
 -- are there a registration and an LSE
 abbrev pub hasParties : Terms → Bool
-hasParties T = anyTo (size T) (known T) && anyTo (lses T) (λ j. ltb 0 (obligation T j))
+hasParties T = anyTo (size T) (known T) && anyTo (lseCount T) (λ j. ltb 0 (obligation T j))
 
 abbrev passed : Head → Bool
 passed h = true
@@ -46,7 +47,7 @@ module _ (y : Year) where
 
   -- for an opening: is there no year? For others: is there one, with month 15 not closed?
   unfoldable pub q6 : Head → Bool
-  q6 = forOpening (λ o. not (y .opened)) (λ h. y .opened && ltb (y .closed) 15)
+  q6 = forOpening (λ o. not (y .opened)) (λ h. y .opened && ltb (y .closed) closeLimit)
 
   -- for registration, LSE and clearing: is no event, test or close accepted yet?
   unfoldable pub q7 : Head → Bool
@@ -70,7 +71,7 @@ module _ (y : Year) where
 
   -- has a clearing's registration fewer than four?
   unfoldable pub q17 : Head → Bool
-  q17 = forClearing (λ c. ltb (clearingsOf y (c .registration) .count) 4) passed
+  q17 = forClearing (λ c. ltb (clearingsOf y (c .registration) .count) clearingLimit) passed
 
   -- does an event's month pass the time rule, has a test's and a retest's begun, and may each product be called or tested then? Where there was a test, is a retest's month not before its?
   unfoldable pub q11 : (ℕ → ℕ → Bool) → Listing → Head → Bool
@@ -93,7 +94,7 @@ module _ (y : Year) where
 
   -- are fewer than 16 events accepted (for an event)?
   unfoldable pub q12 : Head → Bool
-  q12 = forEvent (λ e. ltb (y .accepted) 16) passed
+  q12 = forEvent (λ e. ltb (y .accepted) eventLimit) passed
 
   -- is the zone and product untested (for a test)?
   unfoldable pub q13 : Head → Bool
@@ -109,7 +110,7 @@ module _ (y : Year) where
 
 -- is the lent buffer large enough to close?
 unfoldable pub q16 : ℕ → Head → Bool
-q16 room = forClose (λ c. leb 354 room) passed
+q16 room = forClose (λ c. leb statementLimit room) passed
 
 -- the questions in order, with their numbers, by the time rule for events
 unfoldable pub questions : (ℕ → ℕ → Bool) → Year → Record → ℕ → List (ℕ × Bool)

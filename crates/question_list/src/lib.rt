@@ -3,9 +3,11 @@ ghost use mathlib.Core.Path.{_≡_};
 ghost use mathlib.Core.Bool.{_&&_};
 ghost use mathlib.Core.List.{[], _∷_};
 ghost use lib.Dec.{ltb};
+ghost use Rattle.limits.specs.Limits.{closeLimit};
 ghost use Rattle.record_layouts.specs.Questions.{firstFailed};
 ghost use Rattle.year_cells.specs.Layout.{yearIn, ValidCells};
 ghost use Rattle.question_list.specs.Questions.{monthBegun, mayTest, hasParties};
+use limits::CLOSE_LIMIT;
 use question_conditions::Selection;
 use question_listings::any_lse;
 use question_listings::any_selected;
@@ -13,9 +15,9 @@ use year_cells::Cells;
 
 // Question 6 of any record but an opening.
 pub fn is_open(year: &Cells) -> bool
-    ensures { λ r. ⌜ r ≡ (let y = yearIn (now (year .entry)) in y .opened && ltb (y .closed) 15) ⌝ }
+    ensures { λ r. ⌜ r ≡ (let y = yearIn (now (year .entry)) in y .opened && ltb (y .closed) closeLimit) ⌝ }
 {
-    year_cells::opened(year) && year_cells::closed(year) < 15
+    year_cells::opened(year) && year_cells::closed(year) < CLOSE_LIMIT
 }
 
 // Question 8.
@@ -29,7 +31,7 @@ fn has_parties(year: &Cells) -> bool
 // Questions 6 and 8 of an event, a test, a retest or a close: the number of the first that fails, or 0.
 pub fn open_number(year: &Cells) -> u64
     requires { ⌜ ValidCells (now year) ⌝ }
-    ensures { λ r. ⌜ r ≡ (let y = yearIn (now (year .entry)) in firstFailed ((6, y .opened && ltb (y .closed) 15) ∷ (8, hasParties (y .terms)) ∷ [])) ⌝ }
+    ensures { λ r. ⌜ r ≡ (let y = yearIn (now (year .entry)) in firstFailed ((6, y .opened && ltb (y .closed) closeLimit) ∷ (8, hasParties (y .terms)) ∷ [])) ⌝ }
 {
     if !is_open(year) {
         return 6;

@@ -11,6 +11,7 @@ use borrow.Author.Tests.{eqb-true, eqb-false}
 use Rattle.ids.specs.Ids.{at, holds, anyTo, allTo, tabulate}
 use Rattle.ids.specs.Tests.{any-step, all-same}
 use Rattle.ids.specs.Tables.{getD-tabulate, is-tabulate}
+use Rattle.limits.specs.Limits.{sellers}
 use Rattle.year.specs.declared.Listing.{Listing}
 use Rattle.year.specs.declared.Terms.{Terms}
 use Rattle.year.specs.Year.{listed, deficit, seller, size}
@@ -18,13 +19,13 @@ use Rattle.question_conditions.specs.Entries.{deficitsListed}
 
 -- each seller is marked that has an entry among the first i registrations
 pub record Marked (T : Terms) (l : Listing) (marks : List Bool) (i : ℕ) : Type 0 where
-  pub long : length marks ≡ 16
-  pub marked : (s : ℕ) → s < 16 → holds marks s ≡ anyTo i (λ j. listed l j && eqb (seller T j) s)
+  pub long : length marks ≡ sellers
+  pub marked : (s : ℕ) → s < sellers → holds marks s ≡ anyTo i (λ j. listed l j && eqb (seller T j) s)
 
 module _ (T : Terms) (l : Listing) where
-  pub marked-none : Marked T l (replicate 16 false) 0
+  pub marked-none : Marked T l (replicate sellers false) 0
   unfolding anyTo
-  marked-none = record { long = length-replicate 16 false; marked = λ s m. getD-replicate 16 s false false m }
+  marked-none = record { long = length-replicate sellers false; marked = λ s m. getD-replicate sellers s false false m }
 
   module _ {marks : List Bool} (i : ℕ) (h : Marked T l marks i) where
     -- a registration that is not listed, and one that is
@@ -32,11 +33,11 @@ module _ (T : Terms) (l : Listing) where
     marked-same e =
         record { long = h .long; marked = λ s m. h .marked s m ∙ sym (any-step i _ ∙ rw e (or-false _)) }
 
-    pub marked-more : listed l i ≡ true → seller T i < 16 → Marked T l (set marks (seller T i) true) (i + 1)
+    pub marked-more : listed l i ≡ true → seller T i < sellers → Marked T l (set marks (seller T i) true) (i + 1)
     marked-more e b =
         record { long = length-set marks (seller T i) true ∙ h .long; marked = λ s m. go s m (eqb (seller T i) s) refl }
       where
-        go : (s : ℕ) → s < 16 → (t : Bool) → eqb (seller T i) s ≡ t → holds (set marks (seller T i) true) s ≡ anyTo (i + 1) (λ j. listed l j && eqb (seller T j) s)
+        go : (s : ℕ) → s < sellers → (t : Bool) → eqb (seller T i) s ≡ t → holds (set marks (seller T i) true) s ≡ anyTo (i + 1) (λ j. listed l j && eqb (seller T j) s)
         go s m true q =
             let here : seller T i ≡ s = eqb-true (seller T i) s q in
             rw (any-step i (λ j. listed l j && eqb (seller T j) s), e, q, or-true (anyTo i (λ j. listed l j && eqb (seller T j) s)), here)
@@ -46,12 +47,12 @@ module _ (T : Terms) (l : Listing) where
             (getD-set-other marks (seller T i) s true false (λ z. eqb-false (seller T i) s q (sym z)) ∙ h .marked s m)
 
   pub marked-all : {marks : List Bool} {i : ℕ} → Marked T l marks i → i ≡ size T
-      → marks ≡ tabulate 16 (λ s. anyTo (size T) (λ j. listed l j && eqb (seller T j) s))
+      → marks ≡ tabulate sellers (λ s. anyTo (size T) (λ j. listed l j && eqb (seller T j) s))
   marked-all {marks} {i} h e =
-      is-tabulate (λ s. anyTo (size T) (λ j. listed l j && eqb (seller T j) s)) 16 false marks (h .long) (λ s m. rw e at (h .marked s m))
+      is-tabulate (λ s. anyTo (size T) (λ j. listed l j && eqb (seller T j) s)) sellers false marks (h .long) (λ s m. rw e at (h .marked s m))
 
   -- every deficit's seller is marked
-  pub deficits-listed : {marks : List Bool} → marks ≡ tabulate 16 (λ s. anyTo (size T) (λ i. listed l i && eqb (seller T i) s))
-      → allTo 16 (λ s. eqb (deficit l s) 0 || holds marks s) ≡ deficitsListed T l
+  pub deficits-listed : {marks : List Bool} → marks ≡ tabulate sellers (λ s. anyTo (size T) (λ i. listed l i && eqb (seller T i) s))
+      → allTo sellers (λ s. eqb (deficit l s) 0 || holds marks s) ≡ deficitsListed T l
   unfolding deficitsListed
-  deficits-listed e = rw e (all-same 16 (λ s m. rw (getD-tabulate (λ s. anyTo (size T) (λ i. listed l i && eqb (seller T i) s)) 16 s _ m)))
+  deficits-listed e = rw e (all-same sellers (λ s m. rw (getD-tabulate (λ s. anyTo (size T) (λ i. listed l i && eqb (seller T i) s)) sellers s _ m)))

@@ -5,16 +5,21 @@ ghost use Prim.Native.Nat.{_<_};
 ghost use lib.Dec.{eqb};
 ghost use lib.ListN.{length};
 ghost use Rattle.ids.specs.Ids.{at, anyTo, tabulate};
+ghost use Rattle.limits.specs.Limits.{registrations, sellers};
+ghost use Rattle.year_cells.specs.Places.{listingWidth};
 ghost use Rattle.year.specs.Year.{listed, seller, size};
 ghost use Rattle.year_cells.specs.Layout.{listingAt, yearIn, ValidCells};
 ghost use Rattle.question_conditions.specs.Entries.{everyListed, deficitsListed, listsExactly};
 ghost use Rattle.question_conditions.specs.Meets.{fulfils};
 ghost use Rattle.question_conditions.specs.Selects.{selects};
+use limits::REGISTRATIONS;
+use limits::SELLERS;
 use question_conditions::Condition;
 use question_conditions::Selection;
 use question_conditions::is_selected;
 use question_conditions::meets;
 use year_cells::Cells;
+use year_cells::DEFICITS_IN;
 
 mod registrations;
 
@@ -24,8 +29,8 @@ pub use registrations::committed_kw;
 
 // Does a registration meet the condition, if it is listed?
 fn passes(year: &Cells, listing: &[u64], condition: Condition, i: usize) -> bool
-    requires { ⌜ length (now listing) ≡ 208 ⌝ }
-    requires { ⌜ i < 64 ⌝ }
+    requires { ⌜ length (now listing) ≡ listingWidth ⌝ }
+    requires { ⌜ i < registrations ⌝ }
     ensures { λ r. ⌜ r ≡ (not (listed (listingAt (at (now (listing .entry)))) i) || fulfils (yearIn (now (year .entry))) condition i) ⌝ }
 {
     if listing[i] == 0 {
@@ -37,11 +42,11 @@ fn passes(year: &Cells, listing: &[u64], condition: Condition, i: usize) -> bool
 // Does every listed registration meet the condition?
 pub fn every_listed(year: &Cells, listing: &[u64], condition: Condition) -> bool
     requires { ⌜ ValidCells (now year) ⌝ }
-    requires { ⌜ length (now listing) ≡ 208 ⌝ }
+    requires { ⌜ length (now listing) ≡ listingWidth ⌝ }
     ensures { λ r. ⌜ r ≡ (let y = yearIn (now (year .entry)) in everyListed (y .terms) (listingAt (at (now (listing .entry)))) (fulfils y condition)) ⌝ }
 {
     let mut i: usize = 0;
-    while i < 64 {
+    while i < REGISTRATIONS {
         if !passes(year, listing, condition, i) {
             return false;
         }
@@ -51,14 +56,14 @@ pub fn every_listed(year: &Cells, listing: &[u64], condition: Condition) -> bool
 }
 
 // Which sellers have an entry.
-fn sellers_listed(year: &Cells, listing: &[u64]) -> [bool; 16]
+fn sellers_listed(year: &Cells, listing: &[u64]) -> [bool; SELLERS]
     requires { ⌜ ValidCells (now year) ⌝ }
-    requires { ⌜ length (now listing) ≡ 208 ⌝ }
-    ensures { λ r. ⌜ r ≡ (let T = yearIn (now (year .entry)) .terms in tabulate 16 (λ s. anyTo (size T) (λ i. listed (listingAt (at (now (listing .entry)))) i && eqb (seller T i) s))) ⌝ }
+    requires { ⌜ length (now listing) ≡ listingWidth ⌝ }
+    ensures { λ r. ⌜ r ≡ (let T = yearIn (now (year .entry)) .terms in tabulate sellers (λ s. anyTo (size T) (λ i. listed (listingAt (at (now (listing .entry)))) i && eqb (seller T i) s))) ⌝ }
 {
-    let mut sellers = [false; 16];
+    let mut sellers = [false; SELLERS];
     let mut i: usize = 0;
-    while i < 64 {
+    while i < REGISTRATIONS {
         if listing[i] != 0 {
             let r = year_cells::registration_at(year, i);
             let s = r.seller as usize;
@@ -72,13 +77,13 @@ fn sellers_listed(year: &Cells, listing: &[u64]) -> [bool; 16]
 // Has every deficit's seller an entry?
 fn deficits_listed(year: &Cells, listing: &[u64]) -> bool
     requires { ⌜ ValidCells (now year) ⌝ }
-    requires { ⌜ length (now listing) ≡ 208 ⌝ }
+    requires { ⌜ length (now listing) ≡ listingWidth ⌝ }
     ensures { λ r. ⌜ r ≡ deficitsListed (yearIn (now (year .entry)) .terms) (listingAt (at (now (listing .entry)))) ⌝ }
 {
     let sellers = sellers_listed(year, listing);
     let mut s: usize = 0;
-    while s < 16 {
-        if listing[128 + s] != 0 && !sellers[s] {
+    while s < SELLERS {
+        if listing[DEFICITS_IN + s] != 0 && !sellers[s] {
             return false;
         }
         s += 1;
@@ -89,7 +94,7 @@ fn deficits_listed(year: &Cells, listing: &[u64]) -> bool
 // Does every listed registration meet the condition, and has every deficit's seller an entry?
 pub fn entries_pass(year: &Cells, listing: &[u64], condition: Condition) -> bool
     requires { ⌜ ValidCells (now year) ⌝ }
-    requires { ⌜ length (now listing) ≡ 208 ⌝ }
+    requires { ⌜ length (now listing) ≡ listingWidth ⌝ }
     ensures { λ r. ⌜ r ≡ (let y = yearIn (now (year .entry)) in let l = listingAt (at (now (listing .entry))) in everyListed (y .terms) l (fulfils y condition) && deficitsListed (y .terms) l) ⌝ }
 {
     every_listed(year, listing, condition) && deficits_listed(year, listing)
@@ -98,11 +103,11 @@ pub fn entries_pass(year: &Cells, listing: &[u64], condition: Condition) -> bool
 // Are exactly those listed that are selected?
 pub fn lists_exactly(year: &Cells, listing: &[u64], selection: Selection) -> bool
     requires { ⌜ ValidCells (now year) ⌝ }
-    requires { ⌜ length (now listing) ≡ 208 ⌝ }
+    requires { ⌜ length (now listing) ≡ listingWidth ⌝ }
     ensures { λ r. ⌜ r ≡ (let y = yearIn (now (year .entry)) in listsExactly (y .terms) (listingAt (at (now (listing .entry)))) (selects y selection)) ⌝ }
 {
     let mut i: usize = 0;
-    while i < 64 {
+    while i < REGISTRATIONS {
         let listed = listing[i] != 0;
         if listed != is_selected(year, i, selection) {
             return false;

@@ -3,9 +3,12 @@ ghost use mathlib.Core.Path.{_≡_};
 ghost use lib.Dec.{ltb};
 ghost use Prim.Native.Nat.{_<_};
 ghost use Rattle.ids.specs.Ids.{sumTo, anyTo, only};
-ghost use Rattle.year.specs.Year.{committed, obligation, lses};
+ghost use Rattle.limits.specs.Limits.{registrations};
+ghost use Rattle.year.specs.Year.{committed, obligation, lseCount};
 ghost use Rattle.year_cells.specs.Layout.{yearIn, ValidCells};
 ghost use Rattle.question_conditions.specs.Selects.{selects};
+use limits::LSES;
+use limits::REGISTRATIONS;
 use question_conditions::Selection;
 use question_conditions::is_selected;
 use units::Nominated;
@@ -14,10 +17,10 @@ use year_cells::Cells;
 // Is there a registration that is selected?
 pub fn any_selected(year: &Cells, selection: Selection) -> bool
     requires { ⌜ ValidCells (now year) ⌝ }
-    ensures { λ r. ⌜ r ≡ anyTo 64 (selects (yearIn (now (year .entry))) selection) ⌝ }
+    ensures { λ r. ⌜ r ≡ anyTo registrations (selects (yearIn (now (year .entry))) selection) ⌝ }
 {
     let mut i: usize = 0;
-    while i < 64 {
+    while i < REGISTRATIONS {
         if is_selected(year, i, selection) {
             return true;
         }
@@ -29,7 +32,7 @@ pub fn any_selected(year: &Cells, selection: Selection) -> bool
 // What a registration commits, if it is selected.
 fn committed_by(year: &Cells, i: usize, selection: Selection) -> u64
     requires { ⌜ ValidCells (now year) ⌝ }
-    requires { ⌜ i < 64 ⌝ }
+    requires { ⌜ i < registrations ⌝ }
     ensures { λ r. ⌜ r ≡ (let y = yearIn (now (year .entry)) in only (selects y selection) (committed (y .terms)) i) ⌝ }
 {
     let r = year_cells::registration_at(year, i);
@@ -44,11 +47,11 @@ fn committed_by(year: &Cells, i: usize, selection: Selection) -> u64
 // What the selected registrations commit.
 pub fn committed_kw(year: &Cells, selection: Selection) -> Nominated
     requires { ⌜ ValidCells (now year) ⌝ }
-    ensures { λ r. ⌜ r .0 ≡ (let y = yearIn (now (year .entry)) in sumTo 64 (only (selects y selection) (committed (y .terms)))) ⌝ }
+    ensures { λ r. ⌜ r .0 ≡ (let y = yearIn (now (year .entry)) in sumTo registrations (only (selects y selection) (committed (y .terms)))) ⌝ }
 {
     let mut sum: u64 = 0;
     let mut i: usize = 0;
-    while i < 64 {
+    while i < REGISTRATIONS {
         sum += committed_by(year, i, selection);
         i += 1;
     }
@@ -58,10 +61,10 @@ pub fn committed_kw(year: &Cells, selection: Selection) -> Nominated
 // Is there an LSE?
 pub fn any_lse(year: &Cells) -> bool
     requires { ⌜ ValidCells (now year) ⌝ }
-    ensures { λ r. ⌜ r ≡ (let T = yearIn (now (year .entry)) .terms in anyTo (lses T) (λ j. ltb 0 (obligation T j))) ⌝ }
+    ensures { λ r. ⌜ r ≡ (let T = yearIn (now (year .entry)) .terms in anyTo (lseCount T) (λ j. ltb 0 (obligation T j))) ⌝ }
 {
     let mut j: usize = 0;
-    while j < 16 {
+    while j < LSES {
         if 0 < year_cells::obligation_of(year, j) {
             return true;
         }

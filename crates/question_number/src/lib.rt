@@ -2,11 +2,13 @@
 ghost use mathlib.Core.Path.{_≡_};
 ghost use lib.ListN.{length};
 ghost use Rattle.ids.specs.Ids.{at};
+ghost use Rattle.year_cells.specs.Places.{listingWidth};
 ghost use Rattle.record_layouts.specs.Questions.{firstFailed};
 ghost use Rattle.year.specs.declared.Listing.{Listing};
 ghost use Rattle.year_cells.specs.Layout.{listingAt, yearIn, ValidCells};
 ghost use Rattle.record_heads.specs.Within.{Within};
 ghost use Rattle.question_list.specs.Questions.{monthBegun, questions};
+use limits::STATEMENT_BYTES;
 use question_event_and_test::event_number;
 use question_event_and_test::test_number;
 use question_list::open_number;
@@ -30,14 +32,14 @@ fn close_number(year: &Cells, c: CloseHead, room: usize) -> u64
     if c.month != year_cells::closed(year) + 1 {
         return 15;
     }
-    if room < 354 { 16 } else { 0 }
+    if room < STATEMENT_BYTES { 16 } else { 0 }
 }
 
 // The number of the first question from 6 on that fails, or 0. The listing is a row by id.
 pub fn number_of(year: &Cells, head: Head, listing: &[u64], room: usize) -> u64
     requires { ⌜ ValidCells (now year) ⌝ }
     requires { ⌜ Within head ⌝ }
-    requires { ⌜ length (now listing) ≡ 208 ⌝ }
+    requires { ⌜ length (now listing) ≡ listingWidth ⌝ }
     ensures { λ n. ⌜ n ≡ firstFailed (questions monthBegun (yearIn (now (year .entry))) (record { head = head; listing = listingAt (at (now (listing .entry))) }) room) ⌝ }
 {
     match head {

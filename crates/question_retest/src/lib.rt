@@ -5,6 +5,7 @@ ghost use Prim.Native.Nat.{ℕ};
 ghost use lib.Dec.{leb, eqb};
 ghost use lib.ListN.{length, getD};
 ghost use Rattle.ids.specs.Ids.{at};
+ghost use Rattle.year_cells.specs.Places.{listingWidth};
 ghost use Rattle.record_layouts.specs.Questions.{firstFailed};
 ghost use Rattle.year.specs.Year.{seller, noTest, testGroup};
 ghost use Rattle.year_cells.specs.Layout.{listingAt, yearIn, ValidCells};
@@ -28,7 +29,7 @@ mod retestable;
 // Question 10: is every listed registration known, of the zone and product, and the seller's?
 fn lists_own(year: &Cells, t: RetestHead, listing: &[u64]) -> bool
     requires { ⌜ ValidCells (now year) ⌝ }
-    requires { ⌜ length (now listing) ≡ 208 ⌝ }
+    requires { ⌜ length (now listing) ≡ listingWidth ⌝ }
     ensures { λ r. ⌜ r ≡ (let T = yearIn (now (year .entry)) .terms in let l = listingAt (at (now (listing .entry))) in everyListed T l (inGroup T (t .zone) (t .product)) && everyListed T l (λ i. eqb (seller T i) (t .seller))) ⌝ }
 {
     every_listed(year, listing, Condition::InGroup(t.zone, t.product))
@@ -55,7 +56,7 @@ fn in_time(year: &Cells, t: RetestHead) -> bool
 pub fn retest_number(year: &Cells, t: RetestHead, listing: &[u64]) -> u64
     requires { ⌜ ValidCells (now year) ⌝ }
     requires { ⌜ GroupWithin (t .zone) (t .product) ⌝ }
-    requires { ⌜ length (now listing) ≡ 208 ⌝ }
+    requires { ⌜ length (now listing) ≡ listingWidth ⌝ }
     ensures { λ n. ⌜ ((room : ℕ) → n ≡ firstFailed (questions monthBegun (yearIn (now (year .entry))) (record { head = Head.Retest t; listing = listingAt (at (now (listing .entry))) }) room)) ⌝ }
 {
     let first = open_number(year);

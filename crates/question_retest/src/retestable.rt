@@ -1,8 +1,9 @@
-// May a seller retest: question 20, and the place of the test that is retested.
+// May a seller retest: question 20, and the group of the test that is retested.
 ghost use mathlib.Core.Path.{_≡_};
 ghost use mathlib.Core.Bool.{not, _&&_};
 ghost use Prim.Native.Nat.{_≤_};
 ghost use lib.ListN.{getD};
+ghost use Rattle.limits.specs.Limits.{nominatedSum};
 ghost use Rattle.year.specs.Year.{noTest, testGroup};
 ghost use Rattle.owed.specs.Facts.{factsOf};
 ghost use Rattle.owed.specs.Retests.{belowQuarter, testedKw, failedKw, hadRetest};
@@ -15,7 +16,7 @@ use record_heads::RetestHead;
 use units::Nominated;
 use year_cells::Cells;
 
-// The place of the test of its zone and product.
+// The group of a retest: its zone and product.
 pub fn group_of(t: RetestHead) -> u64
     requires { ⌜ GroupWithin (t .zone) (t .product) ⌝ }
     ensures { λ r. ⌜ r ≡ testGroup (t .zone) (t .product) ⌝ }
@@ -25,7 +26,7 @@ pub fn group_of(t: RetestHead) -> u64
 
 // Are failed kW × 4 between 1 and one less than tested kW?
 fn below_quarter(failed: Nominated, tested: Nominated) -> bool
-    requires { ⌜ failed .0 ≤ 6400000 ⌝ }
+    requires { ⌜ failed .0 ≤ nominatedSum ⌝ }
     ensures { λ r. ⌜ r ≡ belowQuarter (failed .0) (tested .0) ⌝ }
 {
     let four = failed.0 * 4;

@@ -1,4 +1,4 @@
-// Numbers held against lowest and highest values: one by one, in a column, in items.
+// Numbers compared with lowest and highest values: one by one, in a column, in items.
 ghost use mathlib.Core.Path.{_≡_};
 ghost use mathlib.Core.Bool.{true};
 ghost use Prim.Native.Nat.{_+_, _*_, _≤_, _<_};
@@ -41,7 +41,7 @@ fn hold_all(low: u64, high: u64, width: u8) -> bool
     low == 0 && (1u64 << width) - 1 <= high
 }
 
-// Is each of n numbers, so far apart from a place on, within these limits? Where they were read from fields of so many bits, limits that hold all of these need no test.
+// Is each of n numbers, a stride from each other from a place on, within these limits? Where they were read from fields of so many bits, limits that hold all of these need no test.
 fn column_within(
     read: bool,
     width: u8,

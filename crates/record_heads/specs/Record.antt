@@ -25,7 +25,7 @@ pub record Record : Type 0 where
   pub head : Head
   pub listing : Listing
 
--- the head of a record with these numbers, by its kind; kind 8 is an event of period 3, with on-peak and off-peak measured apart; a number that is none, which question 1 does not let pass, reads as a close of no month
+-- the head of a record with these numbers, by its kind; kind 8 is an event of period 3 that is dual, with two figures an entry; a number that is none, which question 1 does not let pass, reads as a close of no month
 unfoldable pub headOf : List ℕ → Head
 headOf vs =
     let v = at vs in

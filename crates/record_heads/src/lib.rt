@@ -25,7 +25,7 @@ pub struct LseHead {
     pub obligation: u64,
 }
 
-// An event of kind 4, or of kind 8, which is one of period 3 with two reductions an entry: on-peak and off-peak measured apart.
+// An event of kind 4, or of kind 8, which is one of period 3 with two reductions an entry, on-peak and off-peak: it is dual.
 pub struct EventHead {
     pub area: u64,
     pub month: u64,

@@ -11,6 +11,7 @@ use lib.Dec.{leb, ltb, eqb}
 use lib.ListN.{length, getD}
 use Rattle.ids.specs.Ids.{at}
 use Rattle.ids.specs.Tests.{and-parts}
+use Rattle.limits.specs.Limits.{registrations, sellers, nominatedLimit, obligationLimit}
 use Rattle.record_layouts.specs.Layout.{Rule, noRule, noItems, bare, layouts, head, lists, listAt, itemsIn, rulesFor, itemAt, itemIn, mostNumbers}
 use Rattle.record_layouts.specs.LayoutLaws.{every, every-at, every-in, rules-long}
 use Rattle.record_layouts.specs.ListLaws.{rule-item}
@@ -38,17 +39,17 @@ module _ (rs : List ℕ) (fs : List Rule) (item : ℕ → ℕ) where
   pub record EntryLimits : Type 0 where
     pub some : 1 ≤ at rs 0
     pub inside : at rs 0 < length fs
-    pub id : item 0 < 64
-    pub kilowatts : item (at rs 0) ≤ 100000
+    pub id : item 0 < registrations
+    pub kilowatts : item (at rs 0) ≤ nominatedLimit
     pub second : at rs 1 < length fs
-    pub more : (at rs 1 ≡ 0 → ⊥) → item (at rs 1) ≤ 100000
+    pub more : (at rs 1 ≡ 0 → ⊥) → item (at rs 1) ≤ nominatedLimit
     pub keeps : (v : ℕ → ℕ) (l : Listing) → withItem rs v l ≡ withAny (at rs 1) v (withEntry l (v 0) (v (at rs 0)))
 
   pub record DeficitLimits : Type 0 where
     pub none : rs ≡ []
     pub inside : 1 < length fs
-    pub id : item 0 < 16
-    pub kilowatts : item 1 ≤ 1000000
+    pub id : item 0 < sellers
+    pub kilowatts : item 1 ≤ obligationLimit
     pub keeps : (v : ℕ → ℕ) (l : Listing) → withItem rs v l ≡ withDeficit l (v 0) (v 1)
 
 abbrev below : List Rule → ℕ → ℕ → Bool
@@ -56,9 +57,9 @@ below fs f n = ltb f (length fs) && leb (getD fs f noRule .high) n
 
 -- every list of the table is of one or the other
 unfoldable itemLimits : List ℕ → List Rule → Bool
-itemLimits [] fs = below fs 0 15 && below fs 1 1000000
-itemLimits (r ∷ []) fs = leb 1 r && (below fs 0 63 && below fs r 100000)
-itemLimits (r ∷ t ∷ ts) fs = (leb 1 r && (below fs 0 63 && below fs r 100000)) && (leb 1 t && below fs t 100000)
+itemLimits [] fs = below fs 0 15 && below fs 1 obligationLimit
+itemLimits (r ∷ []) fs = leb 1 r && (below fs 0 63 && below fs r nominatedLimit)
+itemLimits (r ∷ t ∷ ts) fs = (leb 1 r && (below fs 0 63 && below fs r nominatedLimit)) && (leb 1 t && below fs t nominatedLimit)
 
 module _ (fs : List Rule) (item : ℕ → ℕ) (within : (f : ℕ) → f < length fs → item f ≤ getD fs f noRule .high) where
   is-below : (f n : ℕ) → below fs f n ≡ true → (f < length fs) × (item f ≤ n)
@@ -67,28 +68,28 @@ module _ (fs : List Rule) (item : ℕ → ℕ) (within : (f : ℕ) → f < lengt
       let l = ltb-true f (length fs) (a .0) in
       (l, omega (arith, within f l, leb-true (getD fs f noRule .high) n (a .1)))
 
-  an-entry : (r : ℕ) → (leb 1 r && (below fs 0 63 && below fs r 100000)) ≡ true
-      → (1 ≤ r) × ((0 < length fs) × (item 0 ≤ 63)) × ((r < length fs) × (item r ≤ 100000))
+  an-entry : (r : ℕ) → (leb 1 r && (below fs 0 63 && below fs r nominatedLimit)) ≡ true
+      → (1 ≤ r) × ((0 < length fs) × (item 0 ≤ 63)) × ((r < length fs) × (item r ≤ nominatedLimit))
   an-entry r e =
-      let a = and-parts (leb 1 r) (below fs 0 63 && below fs r 100000) e in
-      let b = and-parts (below fs 0 63) (below fs r 100000) (a .1) in
-      (leb-true 1 r (a .0), is-below 0 63 (b .0), is-below r 100000 (b .1))
+      let a = and-parts (leb 1 r) (below fs 0 63 && below fs r nominatedLimit) e in
+      let b = and-parts (below fs 0 63) (below fs r nominatedLimit) (a .1) in
+      (leb-true 1 r (a .0), is-below 0 63 (b .0), is-below r nominatedLimit (b .1))
 
   kept-as : (rs : List ℕ) → itemLimits rs fs ≡ true → EntryLimits rs fs item ⊎ DeficitLimits rs fs item
   unfolding itemLimits withItem
   kept-as [] e =
-      let a = and-parts (below fs 0 15) (below fs 1 1000000) e in
+      let a = and-parts (below fs 0 15) (below fs 1 obligationLimit) e in
       let id = is-below 0 15 (a .0) in
-      let kw = is-below 1 1000000 (a .1) in
+      let kw = is-below 1 obligationLimit (a .1) in
       inr (record { none = refl; inside = kw .0; id = omega (arith, id .1); kilowatts = kw .1; keeps = λ v l. refl })
   kept-as (r ∷ []) e =
       let a = an-entry r e in
       inl (record { some = a .0; inside = a .2 .0; id = omega (arith, a .1 .1); kilowatts = a .2 .1; second = a .1 .0; more = λ o. absurd (o refl); keeps = λ v l. refl })
   kept-as (r ∷ t ∷ ts) e =
-      let both = and-parts (leb 1 r && (below fs 0 63 && below fs r 100000)) (leb 1 t && below fs t 100000) e in
+      let both = and-parts (leb 1 r && (below fs 0 63 && below fs r nominatedLimit)) (leb 1 t && below fs t nominatedLimit) e in
       let a = an-entry r (both .0) in
-      let b = and-parts (leb 1 t) (below fs t 100000) (both .1) in
-      let kw = is-below t 100000 (b .1) in
+      let b = and-parts (leb 1 t) (below fs t nominatedLimit) (both .1) in
+      let kw = is-below t nominatedLimit (b .1) in
       let some = ne-eqb t 0 (λ z. omega (arith, leb-true 1 t (b .0))) in
       inl (record { some = a .0; inside = a .2 .0; id = omega (arith, a .1 .1); kilowatts = a .2 .1; second = kw .0; more = λ o. kw .1; keeps = λ v l. rw some })
 
@@ -98,7 +99,7 @@ item-limits-at k i l =
     every-in (λ x. itemLimits (x .reductions) (x .fields)) (lists k) noItems i
     (every-at (λ l. every (λ x. itemLimits (x .reductions) (x .fields)) (l .lists)) layouts (bare []) k refl refl) l
 
-sound-any : (t : ℕ) (item : ℕ → ℕ) {l : Listing} → ((t ≡ 0 → ⊥) → item t ≤ 100000) → SoundListing l → SoundListing (withAny t item l)
+sound-any : (t : ℕ) (item : ℕ → ℕ) {l : Listing} → ((t ≡ 0 → ⊥) → item t ≤ nominatedLimit) → SoundListing l → SoundListing (withAny t item l)
 sound-any t item {l} h s = go (eqb t 0) refl
   where
     go : (b : Bool) → eqb t 0 ≡ b → SoundListing (cond b l (withSecond l (item 0) (item t)))

@@ -3,6 +3,7 @@ ghost use mathlib.Core.Path.{_≡_};
 ghost use Prim.Native.Nat.{_+_, _<_};
 ghost use lib.ListN.{length, replicate};
 ghost use Rattle.ids.specs.Ids.{at};
+ghost use Rattle.year_cells.specs.Places.{listingWidth};
 ghost use Rattle.record_layouts.specs.Layout.{lists, placeOf, mostNumbers};
 ghost use Rattle.record_heads.specs.Record.{listingTo, listingIn};
 ghost use Rattle.record_listing.specs.Listed.{Permitted};
@@ -11,9 +12,13 @@ use record_layouts::lists_of;
 use record_layouts::part_at;
 use record_shapes::head_of;
 use record_shapes::list_at;
+use year_cells::DEFICITS_IN;
+use year_cells::LISTING_WIDTH;
+use year_cells::REDUCTIONS_IN;
+use year_cells::SECOND_IN;
 
 // List i of a record, which begins at a place: its items go into the row, as entries or as deficits. Answers where the next list begins.
-fn spread_list(values: &[u64], i: usize, from: usize, row: &mut [u64; 208]) -> usize
+fn spread_list(values: &[u64], i: usize, from: usize, row: &mut [u64; LISTING_WIDTH]) -> usize
     requires { ⌜ length (now values) ≡ mostNumbers ⌝ }
     requires { ⌜ Permitted (now values) ⌝ }
     requires { ⌜ i < length (lists (at (now values) 0)) ⌝ }
@@ -34,13 +39,13 @@ fn spread_list(values: &[u64], i: usize, from: usize, row: &mut [u64; 208]) -> u
     while k < n {
         let id = values[p] as usize;
         if reduction == 0 {
-            row[128 + id] = values[p + 1];
+            row[DEFICITS_IN + id] = values[p + 1];
         } else {
             row[id] = 1;
-            row[64 + id] = values[p + reduction];
+            row[REDUCTIONS_IN + id] = values[p + reduction];
         }
         if second != 0 {
-            row[144 + id] = values[p + second];
+            row[SECOND_IN + id] = values[p + second];
         }
         p += fields;
         k += 1;
@@ -49,10 +54,10 @@ fn spread_list(values: &[u64], i: usize, from: usize, row: &mut [u64; 208]) -> u
 }
 
 // What a record lists goes into a row of zeros, list by list.
-pub fn spread(values: &[u64], row: &mut [u64; 208])
+pub fn spread(values: &[u64], row: &mut [u64; LISTING_WIDTH])
     requires { ⌜ length (now values) ≡ mostNumbers ⌝ }
     requires { ⌜ Permitted (now values) ⌝ }
-    requires { ⌜ now row ≡ replicate 208 0 ⌝ }
+    requires { ⌜ now row ≡ replicate listingWidth 0 ⌝ }
     ensures { λ _. ⌜ Spreads (listingIn (now (values .entry))) (now (row .exit)) ⌝ }
 {
     let kind = values[0] as usize;

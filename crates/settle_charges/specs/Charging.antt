@@ -1,5 +1,5 @@
 -- An event's charges entry by entry.
-use Prim.Native.Nat.{ℕ, _+_, _*_, _/_, _≤_, _<_}
+use Prim.Native.Nat.{ℕ, _+_, _-_, _*_, _/_, _≤_, _<_}
 use mathlib.Core.Path.{_≡_, refl, sym, _∙_}
 use mathlib.Core.Bool.{Bool, true, false, not, _||_, cond, true≢false}
 use mathlib.Core.List.{List}
@@ -7,6 +7,7 @@ use native.Mathlib.Omega.{arith}
 use native.Mathlib.Numerals.{add-one}
 use lib.Dec.{eqb, leb}
 use borrow.Author.Tests.{eq-eqb, eqb-true}
+use Rattle.limits.specs.Limits.{registrations, sellers, eventLimit}
 use Rattle.calendar.specs.Calendar.{due}
 use Rattle.ids.specs.Ids.{at, sumTo}
 use Rattle.ids.specs.Sums.{sum-step, sum-bound}
@@ -21,17 +22,17 @@ use Rattle.owed_laws.specs.Cap.{spent-le}
 use Rattle.owed_laws.specs.Unlisted.{u-unlisted, off-unlisted, daily-none, charge-none}
 use Rattle.settle_shortfalls.specs.Sharing.{Shares, shares-aside}
 use Rattle.settle_table.specs.Columns.{Columns, columns-aside}
-use Rattle.settle_table.specs.Places.{dispatchCountRow, spentRow, complianceRow, shortRow, offURow}
+use Rattle.settle_table.specs.Places.{dispatchCountRow, spentRow, complianceRow, creditRow, shortRow, offURow}
 use Rattle.settle_table.specs.Rows.{Stored, Aside, Row, Renewed, Grown, none, aside-none, aside-then, aside-more, row-aside, row-same, renewed-first, renewed-kept, renewed-next, renewed-more, renewed-none, grown-first, grown-kept, grown-none, grown-more, grown-most}
 use Rattle.settle_charges.specs.declared.prices.Line.{Line}
 use Rattle.settle_charges.specs.Pricing.{lineAt, dailyOf}
 
 -- what an event's charges are made of: the terms, n, and the shares of its entries, off-peak too
 pub record Given (F : Facts) (ev : ℕ) (w : List ℕ) : Type 0 where
-  pub columns : Columns F 64 w
-  pub dispatchCount : Row w dispatchCountRow 64 (owed.dispatchCount F)
+  pub columns : Columns F registrations w
+  pub dispatchCount : Row w dispatchCountRow registrations (owed.dispatchCount F)
   pub shares : Shares F ev w
-  pub off : Row w offURow 64 (owed.offU F ev)
+  pub off : Row w offURow registrations (owed.offU F ev)
 
 -- the rows that its charges and credits are written to lie apart
 pub given-aside : {F : Facts} {ev p n : ℕ} {w v : List ℕ} → Given F ev w → Aside p n w v → spentRow ≤ p → p + n ≤ shortRow → Given F ev v
@@ -48,7 +49,7 @@ abbrev pub lineOf : Facts → ℕ → ℕ → ℕ → Line
 lineOf F ev i t =
     record { seller = F .seller i; product = year.product (F .terms) i; n = owed.dispatchCount F i; rate = owed.rate F i; cap = owed.cap F i; spent = t; u = record { 0 = owed.u F ev i }; off = record { 0 = owed.offU F ev i }; e = record { 0 = owed.e F ev i } }
 
-pub line-is : {F : Facts} {ev i t : ℕ} {w : List ℕ} → Given F ev w → i < 64 → at w (spentRow + i) ≡ t → lineAt w i ≡ lineOf F ev i t
+pub line-is : {F : Facts} {ev i t : ℕ} {w : List ℕ} → Given F ev w → i < registrations → at w (spentRow + i) ≡ t → lineAt w i ≡ lineOf F ev i t
 line-is {i = i} g l e =
     let c = g .columns in
     λ j. record { seller = c .seller .is i l j; product = c .product .is i l j; n = g .dispatchCount .is i l j; rate = c .rate .is i l j; cap = c .cap .is i l j; spent = e j; u = record { 0 = g .shares .u .is i l j }; off = record { 0 = g .off .is i l j }; e = record { 0 = g .shares .e .is i l j } }
@@ -59,28 +60,28 @@ complianceBy F k m s = sumTo m (λ ev. ofSeller F s (owed.charge F k ev))
 
 -- what the first m events took of the caps, and the sellers' charges
 pub record Billed (F : Facts) (k m : ℕ) (w : List ℕ) : Type 0 where
-  pub spent : Row w spentRow 64 (owed.spent F m)
-  pub compliance : Row w complianceRow 16 (complianceBy F k m)
+  pub spent : Row w spentRow registrations (owed.spent F m)
+  pub compliance : Row w complianceRow sellers (complianceBy F k m)
 
-pub billed-first : (F : Facts) (k : ℕ) {w : List ℕ} → Row w spentRow 64 none → Row w complianceRow 16 none → Billed F k 0 w
+pub billed-first : (F : Facts) (k : ℕ) {w : List ℕ} → Row w spentRow registrations none → Row w complianceRow sellers none → Billed F k 0 w
 unfolding owed.spent complianceBy sumTo
 billed-first F k a b = record { spent = row-same a (λ j l. refl); compliance = row-same b (λ j l. refl) }
 
-pub billed-all : {F : Facts} {k : ℕ} {w : List ℕ} → Billed F k (F .events) w → Row w complianceRow 16 (owed.compliance F k)
+pub billed-all : {F : Facts} {k : ℕ} {w : List ℕ} → Billed F k (F .events) w → Row w complianceRow sellers (owed.compliance F k)
 unfolding owed.compliance complianceBy
 billed-all h = row-same (h .compliance) (λ j l. refl)
 
-compliance-le : {F : Facts} → Limits F → (k m s : ℕ) → m ≤ 16 → complianceBy F k m s ≤ 5396889600000
+compliance-le : {F : Facts} → Limits F → (k m s : ℕ) → m ≤ eventLimit → complianceBy F k m s ≤ 5396889600000
 unfolding complianceBy
 compliance-le {F} L k m s l = omega (arith, sum-bound m 337305600000 _ (λ ev q. ofSeller-le F s 5270400000 (charge-le L k ev)))
 
 -- before entry i, with charges of sum `all` so far; w₀ is the table before the event
 pub record Charging (F : Facts) (k ev i : ℕ) (w₀ w : List ℕ) (all : ℕ) : Type 0 where
-  pub upto : i ≤ 64
+  pub upto : i ≤ registrations
   pub given : Given F ev w
-  pub aside : Aside spentRow 80 w₀ w
-  pub spent : Renewed w spentRow 64 (owed.spent F (ev + 1)) (owed.spent F ev) i
-  pub compliance : Grown w complianceRow 16 (complianceBy F k ev) (F .seller) (owed.charge F k ev) i
+  pub aside : Aside spentRow (creditRow - spentRow) w₀ w
+  pub spent : Renewed w spentRow registrations (owed.spent F (ev + 1)) (owed.spent F ev) i
+  pub compliance : Grown w complianceRow sellers (complianceBy F k ev) (F .seller) (owed.charge F k ev) i
   pub sum : all ≡ sumTo i (owed.charge F k ev)
 
 pub charging-first : {F : Facts} {k ev : ℕ} {w : List ℕ} → Given F ev w → Billed F k ev w → Charging F k ev 0 w w 0
@@ -136,7 +137,7 @@ charge-is F k ev i e p q = rw (p, q, e)
 
 module _ {F : Facts} {k ev i : ℕ} {w₀ w : List ℕ} {all : ℕ} (h : Charging F k ev i w₀ w all) where
   -- a registration without a share
-  pub charging-none : i < 64 → owed.u F ev i ≡ 0 → owed.offU F ev i ≡ 0 → Charging F k ev (i + 1) w₀ w all
+  pub charging-none : i < registrations → owed.u F ev i ≡ 0 → owed.offU F ev i ≡ 0 → Charging F k ev (i + 1) w₀ w all
   charging-none l none off =
       record {
         upto = omega arith;
@@ -149,20 +150,20 @@ module _ {F : Facts} {k ev i : ℕ} {w₀ w : List ℕ} {all : ℕ} (h : Chargin
 
   -- limits
   module _ (L : Limits F) where
-    pub spent-most : i < 64 → at w (spentRow + i) ≤ 14400000000
+    pub spent-most : i < registrations → at w (spentRow + i) ≤ 14400000000
     spent-most l = omega (arith, renewed-next (h .spent) l, spent-le F ev i, cap-le L i)
 
-    pub compliance-most : ev < 16 → (s : ℕ) → s < 16 → at w (complianceRow + s) ≤ 5734195200000
+    pub compliance-most : ev < eventLimit → (s : ℕ) → s < sellers → at w (complianceRow + s) ≤ 5734195200000
     compliance-most q s m = grown-most (h .compliance) 5396889600000 5270400000 (h .upto) (λ j a. compliance-le L k ev j (omega arith)) (λ j a. charge-le L k ev j) s m
 
     pub sum-most : all ≤ 337305600000
     sum-most = omega (arith, h .sum, sum-bound i 5270400000 (owed.charge F k ev) (λ j a. charge-le L k ev j), h .upto)
 
-  pub charging-more : {d c : ℕ} {m v : List ℕ} → i < 64 → F .seller i < 16 → d ≡ owed.daily F ev (owed.spent F ev i) i → c ≡ owed.charge F k ev i
+  pub charging-more : {d c : ℕ} {m v : List ℕ} → i < registrations → F .seller i < sellers → d ≡ owed.daily F ev (owed.spent F ev i) i → c ≡ owed.charge F k ev i
       → Stored (spentRow + i) (at w (spentRow + i) + d) w m → Stored (complianceRow + F .seller i) (at m (complianceRow + F .seller i) + c) m v
       → Charging F k ev (i + 1) w₀ v (all + c)
   charging-more l b e f s t =
-      let stores : Aside spentRow 80 w _ = aside-more (aside-more aside-none s (omega arith) (omega arith)) t (omega arith) (omega arith) in
+      let stores : Aside spentRow (creditRow - spentRow) w _ = aside-more (aside-more aside-none s (omega arith) (omega arith)) t (omega arith) (omega arith) in
       record {
         upto = omega arith;
         given = given-aside (h .given) stores (omega arith) (omega arith);
@@ -172,7 +173,7 @@ module _ {F : Facts} {k ev i : ℕ} {w₀ w : List ℕ} {all : ℕ} (h : Chargin
         sum = omega (arith, h .sum, sum-step i (owed.charge F k ev));
       }
 
-  pub charging-all : i ≡ 64 → Billed F k (ev + 1) w
+  pub charging-all : i ≡ registrations → Billed F k (ev + 1) w
   unfolding complianceBy ofSeller
   charging-all q =
       record {

@@ -2,6 +2,7 @@
 ghost use mathlib.Core.Bool.{cond};
 ghost use mathlib.Core.Path.{_≡_};
 ghost use Prim.Native.Nat.{_-_, _*_, _/_, _≤_, _<_, min, max};
+ghost use Rattle.limits.specs.Limits.{registrations, unforcedLimit, rateLimit};
 ghost use Rattle.settle_charges.specs.Pricing.{lineAt, dailyOf};
 use settle_table::Work;
 use units::Nominated;
@@ -21,7 +22,7 @@ pub struct Line {
 }
 
 pub fn line_at(work: &Work, i: usize) -> Line
-    requires { ⌜ i < 64 ⌝ }
+    requires { ⌜ i < registrations ⌝ }
     ensures { λ r. ⌜ r ≡ lineAt (now (work .entry)) i ⌝ }
 {
     let u = Unforced(settle_table::get(work, settle_table::U, i));
@@ -61,8 +62,8 @@ pub fn lesser(a: u64, b: u64) -> u64
 
 // The daily charge before the cap, in thousandths of a cent; `peak` where the event is of period 1 or 3.
 fn before_cap(peak: bool, n: u64, u: Unforced, rate: u64) -> u64
-    requires { ⌜ u .0 ≤ 144000 ⌝ }
-    requires { ⌜ rate ≤ 100000 ⌝ }
+    requires { ⌜ u .0 ≤ unforcedLimit ⌝ }
+    requires { ⌜ rate ≤ rateLimit ⌝ }
     ensures { λ r. ⌜ r ≡ u .0 * rate / cond peak (max n 2) 52 ⌝ }
 {
     let all = u.0 * rate;
@@ -75,9 +76,9 @@ fn before_cap(peak: bool, n: u64, u: Unforced, rate: u64) -> u64
 
 // The daily charge: the lesser of that, off-peak if it is higher, and the cap's rest.
 pub fn daily_of(peak: bool, line: Line) -> u64
-    requires { ⌜ line .u .0 ≤ 144000 ⌝ }
-    requires { ⌜ line .off .0 ≤ 144000 ⌝ }
-    requires { ⌜ line .rate ≤ 100000 ⌝ }
+    requires { ⌜ line .u .0 ≤ unforcedLimit ⌝ }
+    requires { ⌜ line .off .0 ≤ unforcedLimit ⌝ }
+    requires { ⌜ line .rate ≤ rateLimit ⌝ }
     ensures { λ r. ⌜ r ≡ dailyOf peak line ⌝ }
 {
     let u = line.u;

@@ -1,7 +1,8 @@
 -- The passes over the accepted events, one after the other.
-use Prim.Native.Nat.{ℕ, _+_, _≤_}
+use Prim.Native.Nat.{ℕ, _+_, _-_, _≤_}
 use mathlib.Core.List.{List}
 use native.Mathlib.Omega.{arith}
+use Rattle.limits.specs.Limits.{registrations, sellers}
 use Rattle.settle_charges.specs.Charging.{Given, Billed, billed-first}
 use Rattle.settle_credits.specs.Crediting.{creditBy, credit-first}
 use Rattle.owed.specs.Facts.{Facts}
@@ -13,22 +14,22 @@ use Rattle.settle_table.specs.Rows.{Aside, Row, none, mark, row-aside, row-with
 
 -- after m events
 pub record Run (F : Facts) (k m : ℕ) (w : List ℕ) : Type 0 where
-  pub columns : Columns F 64 w
-  pub dispatchCount : Row w dispatchCountRow 64 (owed.dispatchCount F)
-  pub dispatched : Row w dispatchedRow 64 (λ i. mark (owed.dispatched F i))
+  pub columns : Columns F registrations w
+  pub dispatchCount : Row w dispatchCountRow registrations (owed.dispatchCount F)
+  pub dispatched : Row w dispatchedRow registrations (λ i. mark (owed.dispatched F i))
   pub billed : Billed F k m w
-  pub credit : Row w creditRow 16 (creditBy F k m)
+  pub credit : Row w creditRow sellers (creditBy F k m)
 
 -- after pass 1
-pub run-first : {F : Facts} (k : ℕ) {w v : List ℕ} → Columns F 64 w → Row w dispatchCountRow 224 none → Aside dispatchCountRow 128 w v
-    → Row v dispatchCountRow 64 (owed.dispatchCount F) → Row v dispatchedRow 64 (λ i. mark (owed.dispatched F i)) → Run F k 0 v
+pub run-first : {F : Facts} (k : ℕ) {w v : List ℕ} → Columns F registrations w → Row w dispatchCountRow 224 none → Aside dispatchCountRow (spentRow - dispatchCountRow) w v
+    → Row v dispatchCountRow registrations (owed.dispatchCount F) → Row v dispatchedRow registrations (λ i. mark (owed.dispatched F i)) → Run F k 0 v
 run-first {F} k {w} {v} h z a n c =
     record {
       columns = columns-aside h a (omega arith) (omega arith);
       dispatchCount = n;
       dispatched = c;
-      billed = billed-first F k (fresh spentRow 64 (omega arith) (omega arith)) (fresh complianceRow 16 (omega arith) (omega arith));
-      credit = credit-first F k (fresh creditRow 16 (omega arith) (omega arith));
+      billed = billed-first F k (fresh spentRow registrations (omega arith) (omega arith)) (fresh complianceRow sellers (omega arith) (omega arith));
+      credit = credit-first F k (fresh creditRow sellers (omega arith) (omega arith));
     }
   where
     fresh : (p n : ℕ) → spentRow ≤ p → p + n ≤ shortRow → Row v p n none
@@ -45,12 +46,12 @@ run-aside h a b =
       credit = row-aside (h .credit) a (λ j l x y. omega arith);
     }
 
-pub given : {F : Facts} {k ev : ℕ} {w : List ℕ} → Run F k ev w → Shares F ev w → Row w offURow 64 (owed.offU F ev) → Given F ev w
+pub given : {F : Facts} {k ev : ℕ} {w : List ℕ} → Run F k ev w → Shares F ev w → Row w offURow registrations (owed.offU F ev) → Given F ev w
 given h s o = record { columns = h .columns; dispatchCount = h .dispatchCount; shares = s; off = o }
 
 -- its charges, then its credits
-pub run-more : {F : Facts} {k ev : ℕ} {w m v : List ℕ} → Run F k ev w → Aside spentRow 80 w m → Billed F k (ev + 1) m → Aside creditRow 16 m v
-    → Row v creditRow 16 (creditBy F k (ev + 1)) → Run F k (ev + 1) v
+pub run-more : {F : Facts} {k ev : ℕ} {w m v : List ℕ} → Run F k ev w → Aside spentRow (creditRow - spentRow) w m → Billed F k (ev + 1) m → Aside creditRow sellers m v
+    → Row v creditRow sellers (creditBy F k (ev + 1)) → Run F k (ev + 1) v
 run-more h a b c r =
     record {
       columns = columns-aside (columns-aside (h .columns) a (omega arith) (omega arith)) c (omega arith) (omega arith);

@@ -1,6 +1,7 @@
 // All amounts to date at a month, from the registrations that are entered into the working table and the year's cells.
 ghost use mathlib.Core.Path.{_≡_};
 ghost use Prim.Native.Nat.{_≤_};
+ghost use Rattle.limits.specs.Limits.{registrations, closeLimit};
 ghost use Rattle.year_cells.specs.Layout.{ValidCells};
 ghost use Rattle.owed.specs.Owed.{amounts};
 ghost use Rattle.settle_facts.specs.CellFacts.{facts};
@@ -12,7 +13,7 @@ use year_copies::numbers_at;
 
 // The rates in force, the passes over events' entries, those over tests' entries, and the LSEs.
 pub fn amounts_to_date(year: &Cells, work: &mut Work, k: u64) -> Amounts
-    requires { ⌜ ValidCells (now year) × Begun (now year) 64 (now work) × (1 ≤ k) × (k ≤ 15) ⌝ }
+    requires { ⌜ ValidCells (now year) × Begun (now year) registrations (now work) × (1 ≤ k) × (k ≤ closeLimit) ⌝ }
     ensures { λ r. ⌜ r ≡ amounts (facts (now (year .entry))) k ⌝ }
 {
     settle_rates::rate(year, work);

@@ -1,5 +1,6 @@
-// The closing's passes over the accepted events: calls first, then event by event in order of acceptance.
+// The closing's passes over the accepted events: the dispatch counts first, then event by event in order of acceptance.
 ghost use Prim.Native.Nat.{_+_, _≤_, _<_};
+ghost use Rattle.limits.specs.Limits.{registrations, sellers, eventLimit, closeLimit};
 ghost use Rattle.year_cells.specs.Layout.{ValidCells};
 ghost use Rattle.settle_facts.specs.CellFacts.{facts};
 ghost use Rattle.owed.specs.Owed.{dispatched, compliance, credit};
@@ -10,10 +11,10 @@ ghost use Rattle.settle_closing.specs.Passes.{Run};
 use settle_table::Work;
 use year_cells::Cells;
 
-// One event: its sums by seller, the shares of its entries, what is measured apart, its charges, its credits.
+// One event: its sums by seller, the shares of its entries, what is measured off-peak, its charges, its credits.
 fn bill_event(year: &Cells, work: &mut Work, ev: usize, k: u64)
     requires { ⌜ ValidCells (now year) ⌝ }
-    requires { ⌜ (ev < 16) × (1 ≤ k) × (k ≤ 15) ⌝ }
+    requires { ⌜ (ev < eventLimit) × (1 ≤ k) × (k ≤ closeLimit) ⌝ }
     requires { ⌜ Run (facts (now year)) k ev (now work) ⌝ }
     ensures run { λ _. ⌜ Run (facts (now (year .entry))) k (ev + 1) (now (work .exit)) ⌝ }
     ensures aside { λ _. ⌜ Aside dispatchCountRow passedPlaces (now (work .entry)) (now (work .exit)) ⌝ }
@@ -25,15 +26,15 @@ fn bill_event(year: &Cells, work: &mut Work, ev: usize, k: u64)
     settle_credits::credit(year, work, ev, k, charges);
 }
 
-// The sellers' compliance charges and excess credits to date at month k, and which registrations are called.
+// The sellers' compliance charges and excess credits to date at month k, and which registrations are dispatched.
 pub fn bill_events(year: &Cells, work: &mut Work, k: u64)
     requires { ⌜ ValidCells (now year) ⌝ }
-    requires { ⌜ (1 ≤ k) × (k ≤ 15) ⌝ }
-    requires { ⌜ Columns (facts (now year)) 64 (now work) ⌝ }
+    requires { ⌜ (1 ≤ k) × (k ≤ closeLimit) ⌝ }
+    requires { ⌜ Columns (facts (now year)) registrations (now work) ⌝ }
     requires { ⌜ Row (now work) dispatchCountRow 224 none ⌝ }
-    ensures compliance { λ _. ⌜ Row (now (work .exit)) complianceRow 16 (compliance (facts (now (year .entry))) k) ⌝ }
-    ensures credit { λ _. ⌜ Row (now (work .exit)) creditRow 16 (credit (facts (now (year .entry))) k) ⌝ }
-    ensures dispatched { λ _. ⌜ Row (now (work .exit)) dispatchedRow 64 (λ i. mark (dispatched (facts (now (year .entry))) i)) ⌝ }
+    ensures compliance { λ _. ⌜ Row (now (work .exit)) complianceRow sellers (compliance (facts (now (year .entry))) k) ⌝ }
+    ensures credit { λ _. ⌜ Row (now (work .exit)) creditRow sellers (credit (facts (now (year .entry))) k) ⌝ }
+    ensures dispatched { λ _. ⌜ Row (now (work .exit)) dispatchedRow registrations (λ i. mark (dispatched (facts (now (year .entry))) i)) ⌝ }
     ensures aside { λ _. ⌜ Aside dispatchCountRow passedPlaces (now (work .entry)) (now (work .exit)) ⌝ }
 {
     settle_dispatch::count(year, work);

@@ -5,6 +5,7 @@ use mathlib.Core.Bool.{true, false}
 use mathlib.Core.List.{List}
 use native.Mathlib.Omega.{arith}
 use lib.Dec.{lit<}
+use Rattle.limits.specs.Limits.{registrations, sellers, eventLimit}
 use Rattle.allotment.specs.declared.Allotment.{Allotment}
 use Rattle.allotment.specs.declared.Share.{Share}
 use Rattle.allotment.specs.Stepper.{Carried, Asks, Gives, Before, before-first, share-asks, share-value, share-next, share-skip, divisions-made}
@@ -24,35 +25,35 @@ use Rattle.settle_table.specs.Places.{creditRow, eRow}
 use Rattle.settle_table.specs.Rows.{Stored, Aside, Row, Grown, none, aside-none, aside-of, aside-more, row-same, grown-first, grown-none, grown-more, grown-most}
 
 -- the sum of all e
-pub excesses : {F : Facts} {ev : ℕ} {w : List ℕ} → Given F ev w → sumTo 64 (λ i. at w (eRow + i)) ≡ sumTo 64 (owed.e F ev)
-excesses g = sum-same 64 (λ i l. g .shares .e .is i l)
+pub excesses : {F : Facts} {ev : ℕ} {w : List ℕ} → Given F ev w → sumTo registrations (λ i. at w (eRow + i)) ≡ sumTo registrations (owed.e F ev)
+excesses g = sum-same registrations (λ i l. g .shares .e .is i l)
 
 -- a seller's credits of the first m events
 unfoldable pub creditBy : Facts → ℕ → ℕ → ℕ → ℕ
 creditBy F k m s = sumTo m (λ ev. ofSeller F s (creditOf F k ev))
 
-pub credit-first : (F : Facts) (k : ℕ) {w : List ℕ} → Row w creditRow 16 none → Row w creditRow 16 (creditBy F k 0)
+pub credit-first : (F : Facts) (k : ℕ) {w : List ℕ} → Row w creditRow sellers none → Row w creditRow sellers (creditBy F k 0)
 unfolding creditBy sumTo
 credit-first F k r = row-same r (λ j l. refl)
 
-pub credit-all : (F : Facts) (k : ℕ) {w : List ℕ} → Row w creditRow 16 (creditBy F k (F .events)) → Row w creditRow 16 (owed.credit F k)
+pub credit-all : (F : Facts) (k : ℕ) {w : List ℕ} → Row w creditRow sellers (creditBy F k (F .events)) → Row w creditRow sellers (owed.credit F k)
 unfolding creditBy owed.credit
 credit-all F k r = row-same r (λ j l. refl)
 
-by-le : {F : Facts} → Limits F → (k m s : ℕ) → m ≤ 16 → creditBy F k m s ≤ 749568000000
+by-le : {F : Facts} → Limits F → (k m s : ℕ) → m ≤ eventLimit → creditBy F k m s ≤ 749568000000
 unfolding creditBy
 by-le {F} L k m s l = omega (arith, sum-bound m 46848000000 _ (λ ev q. ofSeller-le F s 732000000 (credit-le L k ev)))
 
 -- before entry i, with the allotment of the event's charges; w₀ is the table before the event's credits
 pub record Crediting (F : Facts) (k ev i : ℕ) (w₀ w : List ℕ) (a : Allotment) : Type 0 where
-  pub upto : i ≤ 64
+  pub upto : i ≤ registrations
   pub given : Given F ev w
-  pub aside : Aside creditRow 16 w₀ w
-  pub before : Before 64 (year.listed (F .event ev .listing)) (owed.e F ev) (sumTo 64 (owed.charge F k ev)) i a
-  pub credit : Grown w creditRow 16 (creditBy F k ev) (F .seller) (creditOf F k ev) i
+  pub aside : Aside creditRow sellers w₀ w
+  pub before : Before registrations (year.listed (F .event ev .listing)) (owed.e F ev) (sumTo registrations (owed.charge F k ev)) i a
+  pub credit : Grown w creditRow sellers (creditBy F k ev) (F .seller) (creditOf F k ev) i
 
-pub crediting-first : {F : Facts} {k ev b t : ℕ} {w : List ℕ} {a : Allotment} → Given F ev w → Row w creditRow 16 (creditBy F k ev)
-    → b ≡ sumTo 64 (owed.charge F k ev) → t ≡ sumTo 64 (λ i. at w (eRow + i)) → Carried b t 0 0 a → Crediting F k ev 0 w w a
+pub crediting-first : {F : Facts} {k ev b t : ℕ} {w : List ℕ} {a : Allotment} → Given F ev w → Row w creditRow sellers (creditBy F k ev)
+    → b ≡ sumTo registrations (owed.charge F k ev) → t ≡ sumTo registrations (λ i. at w (eRow + i)) → Carried b t 0 0 a → Crediting F k ev 0 w w a
 crediting-first {F} {k} {ev} g r p q c =
     record {
       upto = omega arith;
@@ -64,7 +65,7 @@ crediting-first {F} {k} {ev} g r p q c =
 
 module _ {F : Facts} {k ev i : ℕ} {w₀ w : List ℕ} {a : Allotment} (h : Crediting F k ev i w₀ w a) where
   -- an entry that is not listed
-  pub crediting-none : i < 64 → year.listed (F .event ev .listing) i ≡ false → Crediting F k ev (i + 1) w₀ w a
+  pub crediting-none : i < registrations → year.listed (F .event ev .listing) i ≡ false → Crediting F k ev (i + 1) w₀ w a
   crediting-none l off =
       record {
         upto = omega arith;
@@ -74,10 +75,10 @@ module _ {F : Facts} {k ev i : ℕ} {w₀ w : List ℕ} {a : Allotment} (h : Cre
         credit = grown-none (h .credit) (credit-unlisted F ev i off k);
       }
 
-  pub credit-most : Limits F → ev < 16 → (s : ℕ) → s < 16 → at w (creditRow + s) ≤ 796416000000
+  pub credit-most : Limits F → ev < eventLimit → (s : ℕ) → s < sellers → at w (creditRow + s) ≤ 796416000000
   credit-most L q s m = grown-most (h .credit) 749568000000 732000000 (h .upto) (λ j x. by-le L k ev j (omega arith)) (λ j x. credit-le L k ev j) s m
 
-  pub asks : i < 64 → Limits F → Asks a (owed.e F ev i)
+  pub asks : i < registrations → Limits F → Asks a (owed.e F ev i)
   asks l L = share-asks (h .before) l (lit< tt) refl (omega (arith, charged-fits L k ev))
 
   -- a listed entry: its share of the charges, and its credit
@@ -86,7 +87,7 @@ module _ {F : Facts} {k ev i : ℕ} {w₀ w : List ℕ} {a : Allotment} (h : Cre
     unfolding creditOf creditShare creditLimit
     credit-is f z d = d ∙ rw (share-value (h .before) refl v, z, f)
 
-    pub crediting-more : {c : ℕ} {y : List ℕ} → i < 64 → year.listed (F .event ev .listing) i ≡ true → F .seller i < 16 → c ≡ creditOf F k ev i → Stored (creditRow + F .seller i) (at w (creditRow + F .seller i) + c) w y → Crediting F k ev (i + 1) w₀ y (r .next)
+    pub crediting-more : {c : ℕ} {y : List ℕ} → i < registrations → year.listed (F .event ev .listing) i ≡ true → F .seller i < sellers → c ≡ creditOf F k ev i → Stored (creditRow + F .seller i) (at w (creditRow + F .seller i) + c) w y → Crediting F k ev (i + 1) w₀ y (r .next)
     crediting-more l on b d t =
         record {
           upto = omega arith;
@@ -96,10 +97,10 @@ module _ {F : Facts} {k ev i : ℕ} {w₀ w : List ℕ} {a : Allotment} (h : Cre
           credit = grown-more (h .credit) t b refl d;
         }
 
-  pub crediting-all : i ≡ 64 → Row w creditRow 16 (creditBy F k (ev + 1))
+  pub crediting-all : i ≡ registrations → Row w creditRow sellers (creditBy F k (ev + 1))
   unfolding creditBy ofSeller
   crediting-all q = row-same (rw q at (h .credit .row)) (λ s m. sym (sum-step ev (λ d. ofSeller F s (creditOf F k d))))
 
-  pub crediting-divisions : i ≡ 64 → a .divisions ≡ creditDivisions F ev
+  pub crediting-divisions : i ≡ registrations → a .divisions ≡ creditDivisions F ev
   unfolding creditDivisions
   crediting-divisions q = divisions-made (h .before) q

@@ -1,5 +1,5 @@
 -- Pass 1, event by event and entry by entry.
-use Prim.Native.Nat.{ℕ, _+_, _≤_, _<_}
+use Prim.Native.Nat.{ℕ, _+_, _-_, _≤_, _<_}
 use mathlib.Core.Path.{_≡_, refl, ap, sym, _∙_}
 use mathlib.Core.Bool.{Bool, true, false, _&&_, _||_, cond}
 use mathlib.Core.List.{List}
@@ -9,13 +9,14 @@ use lib.ListN.{length}
 use Rattle.ids.specs.Ids.{at, sumTo, countTo, anyTo}
 use Rattle.ids.specs.Sums.{sum-step, sum-bound}
 use Rattle.ids.specs.Tests.{cond-le, any-step}
+use Rattle.limits.specs.Limits.{registrations}
 use Rattle.year.specs.Year as year
 use Rattle.owed.specs.Facts.{Facts}
 use Rattle.owed.specs.Owed.{oneOrThree, dispatchCount, dispatched}
-use Rattle.settle_table.specs.Places.{size, dispatchCountRow, dispatchedRow}
+use Rattle.settle_table.specs.Places.{dispatchCountRow, dispatchedRow, spentRow, size}
 use Rattle.settle_table.specs.Rows.{Stored, Aside, Row, Renewed, none, mark, aside-none, aside-more, row-same, row-within, renewed-first, renewed-kept, renewed-next, renewed-more, renewed-none}
 
--- n and the mark of a called registration, by the first m events
+-- n and the mark of a dispatched registration, by the first m events
 module _ (F : Facts) (m i : ℕ) where
   unfoldable pub dispatchCountBy : ℕ
   dispatchCountBy = countTo m (λ ev. year.listed (F .event ev .listing) i && oneOrThree (F .event ev .period))
@@ -26,25 +27,25 @@ module _ (F : Facts) (m i : ℕ) where
 -- after m events
 pub record Counting (F : Facts) (m : ℕ) (w : List ℕ) : Type 0 where
   pub long : length w ≡ size
-  pub dispatchCount : Row w dispatchCountRow 64 (dispatchCountBy F m)
-  pub dispatched : Row w dispatchedRow 64 (dispatchedBy F m)
+  pub dispatchCount : Row w dispatchCountRow registrations (dispatchCountBy F m)
+  pub dispatched : Row w dispatchedRow registrations (dispatchedBy F m)
 
-pub counting-first : (F : Facts) {w : List ℕ} → length w ≡ size → Row w dispatchCountRow 128 none → Counting F 0 w
+pub counting-first : (F : Facts) {w : List ℕ} → length w ≡ size → Row w dispatchCountRow (spentRow - dispatchCountRow) none → Counting F 0 w
 unfolding dispatchCountBy dispatchedBy sumTo anyTo
 counting-first F l r =
     record {
       long = l;
-      dispatchCount = row-same (row-within dispatchCountRow 64 r (omega arith) (omega arith)) (λ j m. refl);
-      dispatched = row-same (row-within dispatchedRow 64 r (omega arith) (omega arith)) (λ j m. refl);
+      dispatchCount = row-same (row-within dispatchCountRow registrations r (omega arith) (omega arith)) (λ j m. refl);
+      dispatched = row-same (row-within dispatchedRow registrations r (omega arith) (omega arith)) (λ j m. refl);
     }
 
 -- after all
 module _ {F : Facts} {w : List ℕ} (h : Counting F (F .events) w) where
-  pub dispatch-count-all : Row w dispatchCountRow 64 (dispatchCount F)
+  pub dispatch-count-all : Row w dispatchCountRow registrations (dispatchCount F)
   unfolding dispatchCount dispatchCountBy
   dispatch-count-all = row-same (h .dispatchCount) (λ j m. refl)
 
-  pub dispatched-all : Row w dispatchedRow 64 (λ i. mark (dispatched F i))
+  pub dispatched-all : Row w dispatchedRow registrations (λ i. mark (dispatched F i))
   unfolding dispatched dispatchedBy
   dispatched-all = row-same (h .dispatched) (λ j m. refl)
 
@@ -87,11 +88,11 @@ module _ (F : Facts) (ev i : ℕ) where
 
 -- event ev's entries, before entry i; w₀ is the table before the event
 pub record Counts (F : Facts) (ev i : ℕ) (w₀ w : List ℕ) : Type 0 where
-  pub upto : i ≤ 64
+  pub upto : i ≤ registrations
   pub long : length w ≡ size
-  pub aside : Aside dispatchCountRow 128 w₀ w
-  pub dispatchCount : Renewed w dispatchCountRow 64 (dispatchCountBy F (ev + 1)) (dispatchCountBy F ev) i
-  pub dispatched : Renewed w dispatchedRow 64 (dispatchedBy F (ev + 1)) (dispatchedBy F ev) i
+  pub aside : Aside dispatchCountRow (spentRow - dispatchCountRow) w₀ w
+  pub dispatchCount : Renewed w dispatchCountRow registrations (dispatchCountBy F (ev + 1)) (dispatchCountBy F ev) i
+  pub dispatched : Renewed w dispatchedRow registrations (dispatchedBy F (ev + 1)) (dispatchedBy F ev) i
 
 pub counts-first : {F : Facts} {ev : ℕ} {w : List ℕ} → Counting F ev w → Counts F ev 0 w w
 counts-first {F} {ev} h =
@@ -104,7 +105,7 @@ counts-first {F} {ev} h =
     }
 
 module _ {F : Facts} {ev i : ℕ} {w₀ w : List ℕ} (h : Counts F ev i w₀ w) where
-  pub counts-none : i < 64 → year.listed (F .event ev .listing) i ≡ false → Counts F ev (i + 1) w₀ w
+  pub counts-none : i < registrations → year.listed (F .event ev .listing) i ≡ false → Counts F ev (i + 1) w₀ w
   counts-none l off =
       record {
         upto = omega arith;
@@ -114,10 +115,10 @@ module _ {F : Facts} {ev i : ℕ} {w₀ w : List ℕ} (h : Counts F ev i w₀ w)
         dispatched = renewed-none (h .dispatched) l (dispatched-same F ev i off);
       }
 
-  pub counts-next : {m : List ℕ} → i < 64 → Stored (dispatchedRow + i) 1 w m → at m (dispatchCountRow + i) ≡ dispatchCountBy F ev i
+  pub counts-next : {m : List ℕ} → i < registrations → Stored (dispatchedRow + i) 1 w m → at m (dispatchCountRow + i) ≡ dispatchCountBy F ev i
   counts-next l s = s .others (dispatchCountRow + i) (λ e. omega arith) ∙ renewed-next (h .dispatchCount) l
 
-  pub counts-more : {n : ℕ} {m v : List ℕ} → i < 64 → year.listed (F .event ev .listing) i ≡ true → n ≡ mark (oneOrThree (F .event ev .period))
+  pub counts-more : {n : ℕ} {m v : List ℕ} → i < registrations → year.listed (F .event ev .listing) i ≡ true → n ≡ mark (oneOrThree (F .event ev .period))
       → Stored (dispatchedRow + i) 1 w m → Stored (dispatchCountRow + i) (at m (dispatchCountRow + i) + n) m v → Counts F ev (i + 1) w₀ v
   counts-more {n} {m} {v} l on e s t =
       record {
@@ -128,5 +129,5 @@ module _ {F : Facts} {ev i : ℕ} {w₀ w : List ℕ} (h : Counts F ev i w₀ w)
         dispatched = renewed-kept (renewed-more (h .dispatched) s (dispatched-one F ev i on)) t (omega arith) (λ a b. omega arith);
       }
 
-  pub counts-all : i ≡ 64 → Counting F (ev + 1) w
+  pub counts-all : i ≡ registrations → Counting F (ev + 1) w
   counts-all q = record { long = h .long; dispatchCount = rw q at (h .dispatchCount .done); dispatched = rw q at (h .dispatched .done) }

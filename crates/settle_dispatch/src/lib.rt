@@ -1,13 +1,15 @@
 // Pass 1 over the events' entries: how often events list each registration, and whether any does.
 ghost use mathlib.Core.Path.{_≡_};
-ghost use Prim.Native.Nat.{_+_, _<_};
+ghost use Prim.Native.Nat.{_+_, _-_, _<_};
 ghost use lib.ListN.{length};
+ghost use Rattle.limits.specs.Limits.{registrations, eventLimit};
 ghost use Rattle.year_cells.specs.Layout.{ValidCells};
 ghost use Rattle.settle_facts.specs.CellFacts.{facts};
 ghost use Rattle.owed.specs.Owed.{dispatchCount, dispatched};
-ghost use Rattle.settle_table.specs.Places.{size, dispatchCountRow, dispatchedRow};
+ghost use Rattle.settle_table.specs.Places.{dispatchCountRow, dispatchedRow, spentRow, size};
 ghost use Rattle.settle_table.specs.Rows.{Aside, Row, none, mark};
 ghost use Rattle.settle_dispatch.specs.Counting.{Counting};
+use limits::REGISTRATIONS;
 use settle_table::Work;
 use year_cells::Cells;
 
@@ -19,14 +21,14 @@ fn as_mark(b: bool) -> u64
 
 // One event's entries, after those of the events before it.
 fn count_event(year: &Cells, work: &mut Work, ev: usize)
-    requires { ⌜ ev < 16 ⌝ }
+    requires { ⌜ ev < eventLimit ⌝ }
     requires { ⌜ Counting (facts (now year)) ev (now work) ⌝ }
     ensures counted { λ _. ⌜ Counting (facts (now (year .entry))) (ev + 1) (now (work .exit)) ⌝ }
-    ensures aside { λ _. ⌜ Aside dispatchCountRow 128 (now (work .entry)) (now (work .exit)) ⌝ }
+    ensures aside { λ _. ⌜ Aside dispatchCountRow (spentRow - dispatchCountRow) (now (work .entry)) (now (work .exit)) ⌝ }
 {
     let one = as_mark(settle_facts::one_or_three(year, ev));
     let mut i: usize = 0;
-    while i < 64 {
+    while i < REGISTRATIONS {
         let x = settle_facts::look(year, ev, i);
         if x.listed {
             settle_table::put(work, settle_table::DISPATCHED, i, 1);
@@ -36,14 +38,14 @@ fn count_event(year: &Cells, work: &mut Work, ev: usize)
     }
 }
 
-// All events, later ones too: n and whether a registration is called do not depend on which event asks.
+// All events, later ones too: n and whether a registration is dispatched do not depend on which event asks.
 pub fn count(year: &Cells, work: &mut Work)
     requires { ⌜ ValidCells (now year) ⌝ }
     requires { ⌜ length (now work) ≡ size ⌝ }
-    requires { ⌜ Row (now work) dispatchCountRow 128 none ⌝ }
-    ensures dispatchCount { λ _. ⌜ Row (now (work .exit)) dispatchCountRow 64 (dispatchCount (facts (now (year .entry)))) ⌝ }
-    ensures dispatched { λ _. ⌜ Row (now (work .exit)) dispatchedRow 64 (λ i. mark (dispatched (facts (now (year .entry))) i)) ⌝ }
-    ensures aside { λ _. ⌜ Aside dispatchCountRow 128 (now (work .entry)) (now (work .exit)) ⌝ }
+    requires { ⌜ Row (now work) dispatchCountRow (spentRow - dispatchCountRow) none ⌝ }
+    ensures dispatchCount { λ _. ⌜ Row (now (work .exit)) dispatchCountRow registrations (dispatchCount (facts (now (year .entry)))) ⌝ }
+    ensures dispatched { λ _. ⌜ Row (now (work .exit)) dispatchedRow registrations (λ i. mark (dispatched (facts (now (year .entry))) i)) ⌝ }
+    ensures aside { λ _. ⌜ Aside dispatchCountRow (spentRow - dispatchCountRow) (now (work .entry)) (now (work .exit)) ⌝ }
 {
     let accepted = year_cells::events_accepted(year);
     let mut ev: usize = 0;

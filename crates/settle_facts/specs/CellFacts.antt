@@ -6,6 +6,8 @@ use mathlib.Core.List.{List}
 use native.Mathlib.Omega.{arith}
 use Rattle.ids.specs.Ids.{at}
 use Rattle.ids.specs.Tables.{getD-tabulate}
+use Rattle.limits.specs.Limits.{registrations, sellers, eventLimit}
+use Rattle.year_cells.specs.Places.{reductionsIn, deficitsIn, secondIn, eventListingIn, eventReductionsIn, eventDeficitsIn, eventSecondIn, eventWidth, eventsPlace}
 use Rattle.year.specs.Year.{noEvent, reduction, second, deficit}
 use Rattle.year.specs.Year as year
 use Rattle.year_cells.specs.Layout.{flag, yearIn}
@@ -21,33 +23,33 @@ abbrev pub lookAt : Facts → ℕ → ℕ → EventEntry
 lookAt F ev i = record { listed = year.listed (F .event ev .listing) i; reduction = record { 0 = year.reduction (F .event ev .listing) i }; second = record { 0 = year.second (F .event ev .listing) i } }
 
 -- where an event's numbers stand
-module _ (c : List ℕ) {ev : ℕ} (l : ev < 16) where
-  pub month-in : facts c .event ev .month ≡ at c (471 + 212 * ev + 1)
+module _ (c : List ℕ) {ev : ℕ} (l : ev < eventLimit) where
+  pub month-in : facts c .event ev .month ≡ at c (eventsPlace + eventWidth * ev + 1)
   month-in = rw (event-in c noEvent l)
 
-  pub period-in : facts c .event ev .period ≡ at c (471 + 212 * ev + 2)
+  pub period-in : facts c .event ev .period ≡ at c (eventsPlace + eventWidth * ev + 2)
   period-in = rw (event-in c noEvent l)
 
-  pub dual-in : facts c .event ev .dual ≡ flag (at c (471 + 212 * ev + 3))
+  pub dual-in : facts c .event ev .dual ≡ flag (at c (eventsPlace + eventWidth * ev + 3))
   dual-in = rw (event-in c noEvent l)
 
-  pub reduction-in : {i : ℕ} → i < 64 → year.reduction (facts c .event ev .listing) i ≡ at c (471 + 212 * ev + (68 + i))
+  pub reduction-in : {i : ℕ} → i < registrations → year.reduction (facts c .event ev .listing) i ≡ at c (eventsPlace + eventWidth * ev + (eventReductionsIn + i))
   unfolding reduction
   reduction-in {i} m =
-      let z : 471 + 212 * ev + (4 + (64 + i)) ≡ 471 + 212 * ev + (68 + i) = omega arith in
-      rw (event-in c noEvent l, ← z) (getD-tabulate (λ k. at c (471 + 212 * ev + (4 + (64 + k)))) 64 i 0 m)
+      let z : eventsPlace + eventWidth * ev + (eventListingIn + (reductionsIn + i)) ≡ eventsPlace + eventWidth * ev + (eventReductionsIn + i) = omega arith in
+      rw (event-in c noEvent l, ← z) (getD-tabulate (λ k. at c (eventsPlace + eventWidth * ev + (eventListingIn + (reductionsIn + k)))) registrations i 0 m)
 
-  pub second-in : {i : ℕ} → i < 64 → year.second (facts c .event ev .listing) i ≡ at c (471 + 212 * ev + (148 + i))
+  pub second-in : {i : ℕ} → i < registrations → year.second (facts c .event ev .listing) i ≡ at c (eventsPlace + eventWidth * ev + (eventSecondIn + i))
   unfolding second
   second-in {i} m =
-      let z : 471 + 212 * ev + (4 + (144 + i)) ≡ 471 + 212 * ev + (148 + i) = omega arith in
-      rw (event-in c noEvent l, ← z) (getD-tabulate (λ k. at c (471 + 212 * ev + (4 + (144 + k)))) 64 i 0 m)
+      let z : eventsPlace + eventWidth * ev + (eventListingIn + (secondIn + i)) ≡ eventsPlace + eventWidth * ev + (eventSecondIn + i) = omega arith in
+      rw (event-in c noEvent l, ← z) (getD-tabulate (λ k. at c (eventsPlace + eventWidth * ev + (eventListingIn + (secondIn + k)))) registrations i 0 m)
 
-  pub deficit-in : {s : ℕ} → s < 16 → year.deficit (facts c .event ev .listing) s ≡ at c (471 + 212 * ev + (132 + s))
+  pub deficit-in : {s : ℕ} → s < sellers → year.deficit (facts c .event ev .listing) s ≡ at c (eventsPlace + eventWidth * ev + (eventDeficitsIn + s))
   unfolding deficit
   deficit-in {s} m =
-      let z : 471 + 212 * ev + (4 + (128 + s)) ≡ 471 + 212 * ev + (132 + s) = omega arith in
-      rw (event-in c noEvent l, ← z) (getD-tabulate (λ k. at c (471 + 212 * ev + (4 + (128 + k)))) 16 s 0 m)
+      let z : eventsPlace + eventWidth * ev + (eventListingIn + (deficitsIn + s)) ≡ eventsPlace + eventWidth * ev + (eventDeficitsIn + s) = omega arith in
+      rw (event-in c noEvent l, ← z) (getD-tabulate (λ k. at c (eventsPlace + eventWidth * ev + (eventListingIn + (deficitsIn + k)))) sellers s 0 m)
 
 -- a look is made of its parts
 pub entry-is : (F : Facts) (ev i : ℕ) {l : Bool} {v w : ℕ} → l ≡ year.listed (F .event ev .listing) i → v ≡ year.reduction (F .event ev .listing) i → w ≡ year.second (F .event ev .listing) i

@@ -5,8 +5,10 @@ use mathlib.Core.List.{List}
 use native.Mathlib.Omega.{arith}
 use Rattle.ids.specs.Ids.{at, sumTo}
 use Rattle.ids.specs.Sums.{sum-same, sum-add}
+use Rattle.limits.specs.Limits.{sellers, lses}
+use Rattle.year_cells.specs.Places.{obligationsPlace}
 use Rattle.allotment.specs.Allot.{share}
-use Rattle.year.specs.Year.{obligation, sellers}
+use Rattle.year.specs.Year.{obligation}
 use Rattle.year.specs.Year as year
 use Rattle.year_cells.specs.Layout.{ValidCells}
 use Rattle.year_cells.specs.Regions.{obligation-in}
@@ -21,7 +23,7 @@ use Rattle.settle_table.specs.Rows.{Row}
 
 -- the sum of the sixteen places from p on
 abbrev pub rowSum : List ℕ → ℕ → ℕ
-rowSum w p = sumTo 16 (λ s. at w (p + s))
+rowSum w p = sumTo sellers (λ s. at w (p + s))
 
 unfoldable pub net : List ℕ → ℕ
 net w = rowSum w complianceRow + rowSum w testRow - rowSum w creditRow
@@ -32,12 +34,12 @@ pub record Covered (w : List ℕ) : Type 0 where
   pub credits : rowSum w creditRow ≤ rowSum w complianceRow + rowSum w testRow
 
 -- all obligations, in the year's cells
-pub obligations : (c : List ℕ) → sumTo 16 (λ j. at c (455 + j)) ≡ sumTo 16 (year.obligation (facts c .terms))
+pub obligations : (c : List ℕ) → sumTo lses (λ j. at c (obligationsPlace + j)) ≡ sumTo lses (year.obligation (facts c .terms))
 unfolding obligation
-obligations c = sum-same 16 (λ j l. sym (obligation-in c l))
+obligations c = sum-same lses (λ j l. sym (obligation-in c l))
 
 -- where the rows hold the amounts to date at month k
-module _ (c : List ℕ) (k : ℕ) {w : List ℕ} (x : Row w complianceRow 16 (compliance (facts c) k)) (y : Row w testRow 16 (test (facts c) k)) (z : Row w creditRow 16 (credit (facts c) k)) where
+module _ (c : List ℕ) (k : ℕ) {w : List ℕ} (x : Row w complianceRow sellers (compliance (facts c) k)) (y : Row w testRow sellers (test (facts c) k)) (z : Row w creditRow sellers (credit (facts c) k)) where
   abbrev F : Facts
   F = facts c
 
@@ -46,14 +48,14 @@ module _ (c : List ℕ) (k : ℕ) {w : List ℕ} (x : Row w complianceRow 16 (co
   charges-are =
       omega (
         arith,
-        sum-same 16 {f = λ s. at w (complianceRow + s)} {g = compliance F k} (x .is),
-        sum-same 16 {f = λ s. at w (testRow + s)} {g = test F k} (y .is),
+        sum-same sellers {f = λ s. at w (complianceRow + s)} {g = compliance F k} (x .is),
+        sum-same sellers {f = λ s. at w (testRow + s)} {g = test F k} (y .is),
         sum-add sellers (compliance F k) (test F k),
       )
 
   credits-are : rowSum w creditRow ≡ credits F k
   unfolding credits
-  credits-are = sum-same 16 (z .is)
+  credits-are = sum-same sellers (z .is)
 
   net-is : net w ≡ charges F k - credits F k
   unfolding net
@@ -65,9 +67,9 @@ module _ (c : List ℕ) (k : ℕ) {w : List ℕ} (x : Row w complianceRow 16 (co
         let L = limits (h .sound) in
         record { charges = omega (arith, charges-are, charges-le L k); credits = rw (charges-are, credits-are) (credits-le-charges L k) }
 
-    pub net-fits : net w * sumTo 16 (year.obligation (F .terms)) < 2 ^ 64
+    pub net-fits : net w * sumTo lses (year.obligation (F .terms)) < 2 ^ 64
     net-fits = rw net-is (lse-fits (limits (h .sound)) k)
 
-  pub lses-are : (j : ℕ) → share 16 (year.obligation (F .terms)) (net w) j ≡ lse F k j
+  pub lses-are : (j : ℕ) → share lses (year.obligation (F .terms)) (net w) j ≡ lse F k j
   unfolding lse
   lses-are j = rw net-is

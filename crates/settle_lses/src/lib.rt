@@ -3,15 +3,18 @@ ghost use mathlib.Core.Path.{_≡_};
 ghost use Prim.Native.Nat.{_*_, _<_, _^_};
 ghost use lib.ListN.{length};
 ghost use Rattle.ids.specs.Ids.{sumTo};
+ghost use Rattle.limits.specs.Limits.{lses};
 ghost use Rattle.allotment.specs.Allot.{share};
 ghost use Rattle.year.specs.Year.{obligation};
 ghost use Rattle.year_cells.specs.Layout.{ValidCells};
 ghost use Rattle.settle_facts.specs.CellFacts.{facts};
 ghost use Rattle.owed.specs.Divisions.{lseDivisions};
-ghost use Rattle.settle_table.specs.Places.{size, lseRow};
+ghost use Rattle.settle_table.specs.Places.{lseRow, size};
 ghost use Rattle.settle_table.specs.Rows.{Aside, Row, none};
 ghost use Rattle.settle_lses.specs.Lses.{net, Covered};
 use allotment::Allotment;
+use limits::LSES;
+use limits::SELLERS;
 use settle_table::Work;
 use year_cells::Cells;
 
@@ -20,9 +23,9 @@ fn net_of(work: &Work) -> u64
     requires { ⌜ Covered (now work) ⌝ }
     ensures { λ r. ⌜ r ≡ net (now (work .entry)) ⌝ }
 {
-    let compliance = settle_table::sum(work, settle_table::COMPLIANCE, 16);
-    let test = settle_table::sum(work, settle_table::TEST, 16);
-    let credit = settle_table::sum(work, settle_table::CREDIT, 16);
+    let compliance = settle_table::sum(work, settle_table::COMPLIANCE, SELLERS);
+    let test = settle_table::sum(work, settle_table::TEST, SELLERS);
+    let credit = settle_table::sum(work, settle_table::CREDIT, SELLERS);
     compliance + test - credit
 }
 
@@ -30,16 +33,19 @@ fn net_of(work: &Work) -> u64
 pub fn credit_lses(year: &Cells, work: &mut Work) -> u64
     requires { ⌜ ValidCells (now year) ⌝ }
     requires { ⌜ Covered (now work) ⌝ }
-    requires { ⌜ net (now work) * sumTo 16 (obligation (facts (now year) .terms)) < 2 ^ 64 ⌝ }
-    requires { ⌜ (length (now work) ≡ size) × Row (now work) lseRow 16 none ⌝ }
-    ensures credited { λ _. ⌜ Row (now (work .exit)) lseRow 16 (share 16 (obligation (facts (now (year .entry)) .terms)) (net (now (work .entry)))) ⌝ }
+    requires { ⌜ net (now work) * sumTo lses (obligation (facts (now year) .terms)) < 2 ^ 64 ⌝ }
+    requires { ⌜ (length (now work) ≡ size) × Row (now work) lseRow lses none ⌝ }
+    ensures credited { λ _. ⌜ Row (now (work .exit)) lseRow lses (share lses (obligation (facts (now (year .entry)) .terms)) (net (now (work .entry)))) ⌝ }
     ensures divisions { λ r. ⌜ r ≡ lseDivisions (facts (now (year .entry))) ⌝ }
-    ensures aside { λ _. ⌜ Aside lseRow 16 (now (work .entry)) (now (work .exit)) ⌝ }
+    ensures aside { λ _. ⌜ Aside lseRow lses (now (work .entry)) (now (work .exit)) ⌝ }
 {
     let net = net_of(work);
-    let mut a = Allotment::new(net, settle_table::sum(year, year_cells::OBLIGATIONS, 16));
+    let mut a = Allotment::new(
+        net,
+        settle_table::sum(year, year_cells::OBLIGATIONS_PLACE, LSES),
+    );
     let mut j: usize = 0;
-    while j < 16 {
+    while j < LSES {
         let weight = year_cells::obligation_of(year, j);
         if weight != 0 {
             let share = a.share(weight);

@@ -1,16 +1,17 @@
--- The registrations as they are entered into the working table: their terms, and what they lend their areas.
-use Prim.Native.Nat.{ℕ, _+_, _*_, _<_}
+-- The registrations as they are entered into the working table: their terms, and their areas' sums.
+use Prim.Native.Nat.{ℕ, _+_, _-_, _*_, _<_}
 use mathlib.Core.List.{List}
 use mathlib.Core.Path.{_≡_, refl, _∙_}
 use native.Mathlib.Omega.{arith}
 use lib.ListN.{length, replicate, length-replicate}
 use Rattle.ids.specs.Sets.{getD-replicate-same}
+use Rattle.limits.specs.Limits.{registrations, areas}
 use Rattle.year.specs.Year as year
 use Rattle.year_cells.specs.Layout.{groupIn}
 use Rattle.owed.specs.Facts.{Facts}
 use Rattle.owed.specs.Owed as owed
 use Rattle.settle_facts.specs.CellFacts.{facts}
-use Rattle.settle_table.specs.Places.{size, sellerRow, productRow, committedRow, rateRow, capRow, dispatchCountRow, groupRow, areaRow, areaKwRow, areaWorthRow, freshPlaces}
+use Rattle.settle_table.specs.Places.{sellerRow, productRow, committedRow, rateRow, capRow, dispatchCountRow, groupRow, areaRow, areaKwRow, areaWorthRow, areaRateRow, freshPlaces, size}
 use Rattle.settle_table.specs.Rows.{Stored, Aside, Row, none, row-aside, row-kept, row-first, row-more, grown-first}
 use Rattle.settle_rates.specs.AreaSums.{averagedKw, worthAt, AreaSums, sums-kept}
 
@@ -46,13 +47,13 @@ begun-first c =
       entered = record { seller = row-first w sellerRow (F .seller); product = row-first w productRow (year.product (F .terms)); committed = row-first w committedRow (year.committed (F .terms)); group = row-first w groupRow (groupIn c); area = row-first w areaRow (year.area (F .terms)) };
       own = row-first w rateRow (owed.own F);
       cap = row-first w capRow (ownCap F);
-      sums = record { kw = grown-first (year.area (F .terms)) (averagedKw F) (zeros areaKwRow 8); worth = grown-first (year.area (F .terms)) (worthAt F) (zeros areaWorthRow 8) };
+      sums = record { kw = grown-first (year.area (F .terms)) (averagedKw F) (zeros areaKwRow areas); worth = grown-first (year.area (F .terms)) (worthAt F) (zeros areaWorthRow areas) };
       fresh = zeros dispatchCountRow freshPlaces;
     }
 
 -- and its terms are entered
-pub begun-more : {c : List ℕ} {i : ℕ} {w w₀ w₁ w₂ w₃ w₄ w₅ w₆ v : List ℕ} → Begun c i w → i < 64 → let F = facts c in
-    AreaSums F (i + 1) w₀ → Aside areaKwRow 16 w w₀
+pub begun-more : {c : List ℕ} {i : ℕ} {w w₀ w₁ w₂ w₃ w₄ w₅ w₆ v : List ℕ} → Begun c i w → i < registrations → let F = facts c in
+    AreaSums F (i + 1) w₀ → Aside areaKwRow (areaRateRow - areaKwRow) w w₀
     → Stored (sellerRow + i) (F .seller i) w₀ w₁ → Stored (productRow + i) (year.product (F .terms) i) w₁ w₂ → Stored (committedRow + i) (year.committed (F .terms) i) w₂ w₃
     → Stored (rateRow + i) (owed.own F i) w₃ w₄ → Stored (capRow + i) (ownCap F i) w₄ w₅
     → Stored (groupRow + i) (groupIn c i) w₅ w₆ → Stored (areaRow + i) (year.area (F .terms) i) w₆ v → Begun c (i + 1) v

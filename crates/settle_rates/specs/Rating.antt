@@ -6,6 +6,7 @@ use native.Mathlib.Omega.{arith}
 use native.Mathlib.Nat.{zero-add}
 use lib.ListN.{length}
 use Rattle.ids.specs.Ids.{at}
+use Rattle.limits.specs.Limits.{registrations, areas}
 use Rattle.year.specs.Year as year
 use Rattle.year_cells.specs.Layout.{groupIn}
 use Rattle.year_cells.specs.Rows.{Off}
@@ -13,7 +14,7 @@ use Rattle.owed.specs.Owed.{ofArea, areaRate}
 use Rattle.owed.specs.Owed as owed
 use Rattle.settle_facts.specs.CellFacts.{facts}
 use Rattle.settle_table.specs.Columns.{Columns}
-use Rattle.settle_table.specs.Places.{size, sellerRow, productRow, committedRow, rateRow, capRow, dispatchCountRow, groupRow, areaRow, areaKwRow, areaWorthRow, areaRateRow, freshPlaces}
+use Rattle.settle_table.specs.Places.{sellerRow, productRow, committedRow, rateRow, capRow, dispatchCountRow, groupRow, areaRow, areaKwRow, areaWorthRow, areaRateRow, freshPlaces, size}
 use Rattle.settle_table.specs.Rows.{Stored, Aside, Row, Renewed, none, aside-none, aside-more, row-aside, row-same, renewed-first, renewed-kept, renewed-more, renewed-none}
 use Rattle.settle_rates.specs.AreaSums.{averagedKw, worthAt, AreaSums}
 use Rattle.settle_rates.specs.Entering.{ownCap, Entered, Begun}
@@ -23,7 +24,7 @@ abbrev pub averageIn : List ℕ → ℕ → ℕ
 averageIn w a = at w (areaWorthRow + a) / at w (areaKwRow + a)
 
 -- it is the area's rate
-area-rate-is : (c : List ℕ) {w : List ℕ} → AreaSums (facts c) 64 w → (a : ℕ) → a < 8 → averageIn w a ≡ areaRate (facts c) a
+area-rate-is : (c : List ℕ) {w : List ℕ} → AreaSums (facts c) registrations w → (a : ℕ) → a < areas → averageIn w a ≡ areaRate (facts c) a
 unfolding ofArea areaRate
 area-rate-is c h a m =
     let F = facts c in
@@ -31,22 +32,22 @@ area-rate-is c h a m =
 
 -- the first i registrations' rates in force and their caps stand in it, the others' own ones still
 pub record Rating (c : List ℕ) (i : ℕ) (w : List ℕ) : Type 0 where
-  pub upto : i ≤ 64
+  pub upto : i ≤ registrations
   pub long : length w ≡ size
-  pub entered : Entered c 64 w
-  pub rate : Renewed w rateRow 64 (owed.rate (facts c)) (owed.own (facts c)) i
-  pub cap : Renewed w capRow 64 (owed.cap (facts c)) (ownCap (facts c)) i
-  pub areas : Row w areaRateRow 8 (areaRate (facts c))
+  pub entered : Entered c registrations w
+  pub rate : Renewed w rateRow registrations (owed.rate (facts c)) (owed.own (facts c)) i
+  pub cap : Renewed w capRow registrations (owed.cap (facts c)) (ownCap (facts c)) i
+  pub areas : Row w areaRateRow areas (areaRate (facts c))
   pub fresh : Row w dispatchCountRow freshPlaces none
 
 -- all registrations' terms, and nothing else that the passes read
 pub record Rated (c : List ℕ) (w : List ℕ) : Type 0 where
-  pub columns : Columns (facts c) 64 w
-  pub group : Row w groupRow 64 (groupIn c)
+  pub columns : Columns (facts c) registrations w
+  pub group : Row w groupRow registrations (groupIn c)
   pub fresh : Row w dispatchCountRow freshPlaces none
 
 -- what is stored beside the terms leaves them as they are
-entered-aside : {c w v : List ℕ} {q m : ℕ} → Entered c 64 w → Aside q m w v → ((j : ℕ) → j < rateRow → Off q m j) → ((j : ℕ) → groupRow ≤ j → j < areaKwRow → Off q m j) → Entered c 64 v
+entered-aside : {c w v : List ℕ} {q m : ℕ} → Entered c registrations w → Aside q m w v → ((j : ℕ) → j < rateRow → Off q m j) → ((j : ℕ) → groupRow ≤ j → j < areaKwRow → Off q m j) → Entered c registrations v
 entered-aside h a o p =
     record {
       seller = row-aside (h .seller) a (λ j l. o (sellerRow + j) (omega arith));
@@ -56,7 +57,7 @@ entered-aside h a o p =
       area = row-aside (h .area) a (λ j l. p (areaRow + j) (omega arith) (omega arith));
     }
 
-pub rating-first : {c w v : List ℕ} → Begun c 64 w → Row v areaRateRow 8 (averageIn w) → Aside areaRateRow 8 w v → Rating c 0 v
+pub rating-first : {c w v : List ℕ} → Begun c registrations w → Row v areaRateRow areas (averageIn w) → Aside areaRateRow areas w v → Rating c 0 v
 rating-first {c} h r a =
     record {
       upto = omega arith;
@@ -69,7 +70,7 @@ rating-first {c} h r a =
     }
 
 -- one that keeps its own
-pub rating-none : {c w : List ℕ} {i : ℕ} → Rating c i w → i < 64 → owed.own (facts c) i ≡ owed.rate (facts c) i → Rating c (i + 1) w
+pub rating-none : {c w : List ℕ} {i : ℕ} → Rating c i w → i < registrations → owed.own (facts c) i ≡ owed.rate (facts c) i → Rating c (i + 1) w
 unfolding owed.cap
 rating-none {c} {i = i} h l e =
     record {
@@ -83,7 +84,7 @@ rating-none {c} {i = i} h l e =
     }
 
 -- one that borrows
-pub rating-more : {c w m v : List ℕ} {i x y : ℕ} → Rating c i w → i < 64 → Stored (rateRow + i) x w m → x ≡ owed.rate (facts c) i → Stored (capRow + i) y m v → y ≡ owed.cap (facts c) i → Rating c (i + 1) v
+pub rating-more : {c w m v : List ℕ} {i x y : ℕ} → Rating c i w → i < registrations → Stored (rateRow + i) x w m → x ≡ owed.rate (facts c) i → Stored (capRow + i) y m v → y ≡ owed.cap (facts c) i → Rating c (i + 1) v
 rating-more {w = w} {v = v} h l s d t e =
     let a : Aside rateRow 128 w v = aside-more (aside-more aside-none s (omega arith) (omega arith)) t (omega arith) (omega arith) in
     record {
@@ -96,7 +97,7 @@ rating-more {w = w} {v = v} h l s d t e =
       fresh = row-aside (h .fresh) a (λ j l x y. omega arith);
     }
 
-pub rating-all : {c w : List ℕ} → Rating c 64 w → Rated c w
+pub rating-all : {c w : List ℕ} → Rating c registrations w → Rated c w
 rating-all h =
     let t = h .entered in
     record {

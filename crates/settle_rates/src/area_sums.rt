@@ -1,14 +1,15 @@
-// What a registration lends its area, added to the area's sums in the working table.
+// What a registration with a rate of its own adds to its area's sums in the working table.
 ghost use mathlib.Core.Bool.{cond};
 ghost use mathlib.Core.Path.{_≡_};
-ghost use Prim.Native.Nat.{_+_, _<_};
+ghost use Prim.Native.Nat.{_+_, _-_, _<_};
 ghost use lib.Dec.{ltb};
 ghost use lib.ListN.{length};
+ghost use Rattle.limits.specs.Limits.{registrations};
 ghost use Rattle.year.specs.Year.{registration};
 ghost use Rattle.year_cells.specs.Layout.{yearIn, ValidCells};
 ghost use Rattle.owed.specs.Owed.{own};
 ghost use Rattle.settle_facts.specs.CellFacts.{facts};
-ghost use Rattle.settle_table.specs.Places.{size, areaKwRow};
+ghost use Rattle.settle_table.specs.Places.{areaKwRow, areaRateRow, size};
 ghost use Rattle.settle_table.specs.Rows.{Aside};
 ghost use Rattle.settle_rates.specs.AreaSums.{AreaSums};
 use settle_table::Work;
@@ -16,7 +17,7 @@ use units::Nominated;
 use year::Registration;
 use year_cells::Cells;
 
-// What a registration lends: all that it committed, at a rate of 0 nothing.
+// The kilowatts that count in an area's average: all that is committed, at a rate of 0 none.
 fn averaged_kw(committed: Nominated, own: u64) -> Nominated
     ensures { λ r. ⌜ r .0 ≡ cond (ltb 0 own) (committed .0) 0 ⌝ }
 {
@@ -26,14 +27,14 @@ fn averaged_kw(committed: Nominated, own: u64) -> Nominated
     committed
 }
 
-// What a registration lends goes to its area's sums. Gives its own rate.
+// A registration's kilowatts and what they are worth go to its area's sums. Answers its own rate.
 pub fn add_to_area(year: &Cells, work: &mut Work, i: usize, r: Registration) -> u64
     requires { ⌜ ValidCells (now year) ⌝ }
-    requires { ⌜ (i < 64) × (r ≡ registration (yearIn (now year) .terms) i) ⌝ }
+    requires { ⌜ (i < registrations) × (r ≡ registration (yearIn (now year) .terms) i) ⌝ }
     requires { ⌜ (length (now work) ≡ size) × AreaSums (facts (now year)) i (now work) ⌝ }
     ensures own { λ r. ⌜ r ≡ own (facts (now (year .entry))) i ⌝ }
     ensures sums { λ _. ⌜ AreaSums (facts (now (year .entry))) (i + 1) (now (work .exit)) ⌝ }
-    ensures aside { λ _. ⌜ Aside areaKwRow 16 (now (work .entry)) (now (work .exit)) ⌝ }
+    ensures aside { λ _. ⌜ Aside areaKwRow (areaRateRow - areaKwRow) (now (work .entry)) (now (work .exit)) ⌝ }
 {
     let own = crate::own_rates::own_rate(year, i, r);
     let kw = averaged_kw(r.committed, own);

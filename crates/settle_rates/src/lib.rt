@@ -2,11 +2,14 @@
 ghost use mathlib.Core.Path.{_≡_};
 ghost use Prim.Native.Nat.{_+_, _<_};
 ghost use lib.ListN.{length};
+ghost use Rattle.limits.specs.Limits.{registrations, areas};
 ghost use Rattle.year_cells.specs.Layout.{ValidCells};
-ghost use Rattle.settle_table.specs.Places.{size, areaRateRow};
+ghost use Rattle.settle_table.specs.Places.{areaRateRow, size};
 ghost use Rattle.settle_table.specs.Rows.{Aside, Row};
 ghost use Rattle.settle_rates.specs.Entering.{Begun};
 ghost use Rattle.settle_rates.specs.Rating.{averageIn, Rating, Rated};
+use limits::AREAS;
+use limits::REGISTRATIONS;
 use settle_table::Work;
 use units::Nominated;
 use year_cells::Cells;
@@ -17,14 +20,14 @@ mod terms;
 
 pub use terms::enter;
 
-// Each area's rate: the average of what is lent there.
+// Each area's rate: the average of its registrations' own rates.
 fn average(work: &mut Work)
     requires { ⌜ length (now work) ≡ size ⌝ }
-    ensures averages { λ _. ⌜ Row (now (work .exit)) areaRateRow 8 (averageIn (now (work .entry))) ⌝ }
-    ensures aside { λ _. ⌜ Aside areaRateRow 8 (now (work .entry)) (now (work .exit)) ⌝ }
+    ensures averages { λ _. ⌜ Row (now (work .exit)) areaRateRow areas (averageIn (now (work .entry))) ⌝ }
+    ensures aside { λ _. ⌜ Aside areaRateRow areas (now (work .entry)) (now (work .exit)) ⌝ }
 {
     let mut a: usize = 0;
-    while a < 8 {
+    while a < AREAS {
         let kw = Nominated(settle_table::get(work, settle_table::AREA_KW, a));
         let worth = settle_table::get(work, settle_table::AREA_WORTH, a);
         let rate = kw.average(worth);
@@ -36,7 +39,7 @@ fn average(work: &mut Work)
 // A registration without a rate of its own has its area's, and the cap by that. One that is not known has committed nothing, and has none.
 fn borrow(year: &Cells, work: &mut Work, i: usize)
     requires { ⌜ ValidCells (now year) ⌝ }
-    requires { ⌜ i < 64 ⌝ }
+    requires { ⌜ i < registrations ⌝ }
     requires { ⌜ Rating (now year) i (now work) ⌝ }
     ensures { λ _. ⌜ Rating (now (year .entry)) (i + 1) (now (work .exit)) ⌝ }
 {
@@ -59,12 +62,12 @@ fn borrow(year: &Cells, work: &mut Work, i: usize)
 // The rates in force of all registrations, once all are entered, and their caps.
 pub fn rate(year: &Cells, work: &mut Work)
     requires { ⌜ ValidCells (now year) ⌝ }
-    requires { ⌜ Begun (now year) 64 (now work) ⌝ }
+    requires { ⌜ Begun (now year) registrations (now work) ⌝ }
     ensures { λ _. ⌜ Rated (now (year .entry)) (now (work .exit)) ⌝ }
 {
     average(work);
     let mut i: usize = 0;
-    while i < 64 {
+    while i < REGISTRATIONS {
         borrow(year, work, i);
         i += 1;
     }

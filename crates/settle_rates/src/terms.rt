@@ -1,6 +1,7 @@
-// Registrations entered into the working table one by one, with what each lends its area.
+// Registrations entered into the working table one by one, with what each adds to its area's sums.
 ghost use mathlib.Core.Path.{_≡_};
 ghost use Prim.Native.Nat.{_+_, _<_};
+ghost use Rattle.limits.specs.Limits.{registrations};
 ghost use Rattle.year.specs.Year.{registration};
 ghost use Rattle.year_cells.specs.Layout.{yearIn, ValidCells};
 ghost use Rattle.settle_rates.specs.Entering.{Begun};
@@ -11,7 +12,7 @@ use year_cells::Cells;
 
 // A registration's terms go into the table, with its own rate and the cap by that: the rate for all that it committed.
 pub fn enter(year: &Cells, work: &mut Work, i: usize, r: Registration)
-    requires { ⌜ ValidCells (now year) × (i < 64) × (r ≡ registration (yearIn (now year) .terms) i) × Begun (now year) i (now work) ⌝ }
+    requires { ⌜ ValidCells (now year) × (i < registrations) × (r ≡ registration (yearIn (now year) .terms) i) × Begun (now year) i (now work) ⌝ }
     ensures { λ _. ⌜ Begun (now (year .entry)) (i + 1) (now (work .exit)) ⌝ }
 {
     let own = add_to_area(year, work, i, r);

@@ -6,6 +6,7 @@ use mathlib.Core.List.{List}
 use native.Mathlib.Omega.{arith}
 use native.Mathlib.Nat.{mul-le-mul}
 use Rattle.ids.specs.Ids.{at, only}
+use Rattle.limits.specs.Limits.{registrations, sellers, nominatedLimit, nominatedSum}
 use Rattle.settle_table.specs.Allotments.{SellerAllotments, Shared, stepper, shared-aside, allotments-asks, allotments-value, allotments-more, allotments-none, allotments-all, allotments-kept, allotments-aside}
 use Rattle.allotment.specs.Stepper.{Asks}
 use Rattle.year.specs.Year as year
@@ -18,7 +19,7 @@ use Rattle.owed_laws.specs.Bounds.{short-le, over-le, shortfall-le, excess-le}
 use Rattle.owed_laws.specs.Unlisted.{u-unlisted, e-unlisted}
 use Rattle.year_cells.specs.Rows.{Off}
 use Rattle.settle_table.specs.Columns.{Columns, columns-aside}
-use Rattle.settle_table.specs.Places.{shortRow, overRow, uRow, eRow, listedRow, secondRow, offURow, sharedPlaces}
+use Rattle.settle_table.specs.Places.{passedIn, divisionsIn, carriedWidth, shortRow, overRow, uRow, eRow, listedRow, secondRow, offURow, sharedPlaces}
 use Rattle.settle_table.specs.Rows.{Stored, Aside, Row, Renewed, none, mark, aside-none, aside-more, aside-then, row-aside, row-within, renewed-first, renewed-kept, renewed-aside, renewed-more, renewed-none}
 use Rattle.settle_shortfalls.specs.declared.MeasuredEntry.{MeasuredEntry}
 use Rattle.settle_shortfalls.specs.Weighing.{entryAt, Ready}
@@ -29,10 +30,10 @@ secondOf F ev = only (year.listed (F .event ev .listing)) (year.second (F .event
 
 -- the shares of its entries, which they are, and their second reductions
 pub record Shares (F : Facts) (ev : ℕ) (w : List ℕ) : Type 0 where
-  pub u : Row w uRow 64 (owed.u F ev)
-  pub e : Row w eRow 64 (owed.e F ev)
-  pub listed : Row w listedRow 64 (λ i. mark (year.listed (F .event ev .listing) i))
-  pub second : Row w secondRow 64 (secondOf F ev)
+  pub u : Row w uRow registrations (owed.u F ev)
+  pub e : Row w eRow registrations (owed.e F ev)
+  pub listed : Row w listedRow registrations (λ i. mark (year.listed (F .event ev .listing) i))
+  pub second : Row w secondRow registrations (secondOf F ev)
 
 -- what is stored elsewhere
 pub shares-aside : {F : Facts} {ev p n : ℕ} {w v : List ℕ} → Shares F ev w → Aside p n w v → ((k : ℕ) → uRow ≤ k → k < offURow → Off p n k) → Shares F ev v
@@ -46,22 +47,22 @@ shares-aside h a o =
 
 -- how many divisions each seller's two allotments made
 pub record Divided (F : Facts) (ev : ℕ) (w : List ℕ) : Type 0 where
-  pub u : Row w (shortRow + 64) 16 (uDivisions F ev)
-  pub e : Row w (overRow + 64) 16 (eDivisions F ev)
+  pub u : Row w (shortRow + divisionsIn) sellers (uDivisions F ev)
+  pub e : Row w (overRow + divisionsIn) sellers (eDivisions F ev)
 
 -- before entry i; w₀ is the table before the pass
 pub record Sharing (F : Facts) (ev i : ℕ) (w₀ w : List ℕ) : Type 0 where
-  pub upto : i ≤ 64
-  pub columns : Columns F 64 w
+  pub upto : i ≤ registrations
+  pub columns : Columns F registrations w
   pub aside : Aside shortRow sharedPlaces w₀ w
   pub short : SellerAllotments F (year.listed (F .event ev .listing)) (owed.short F ev) (owed.shortfall F ev) shortRow i w
   pub over : SellerAllotments F (year.listed (F .event ev .listing)) (owed.over F ev) (owed.excess F ev) overRow i w
-  pub u : Renewed w uRow 64 (owed.u F ev) none i
-  pub e : Renewed w eRow 64 (owed.e F ev) none i
-  pub listed : Renewed w listedRow 64 (λ i. mark (year.listed (F .event ev .listing) i)) none i
-  pub second : Renewed w secondRow 64 (secondOf F ev) none i
+  pub u : Renewed w uRow registrations (owed.u F ev) none i
+  pub e : Renewed w eRow registrations (owed.e F ev) none i
+  pub listed : Renewed w listedRow registrations (λ i. mark (year.listed (F .event ev .listing) i)) none i
+  pub second : Renewed w secondRow registrations (secondOf F ev) none i
 
-pub sharing-first : {F : Facts} {ev : ℕ} {w : List ℕ} → Columns F 64 w → Ready F ev w → Sharing F ev 0 w w
+pub sharing-first : {F : Facts} {ev : ℕ} {w : List ℕ} → Columns F registrations w → Ready F ev w → Sharing F ev 0 w w
 sharing-first {F} {ev} h r =
     record {
       upto = omega arith;
@@ -69,14 +70,14 @@ sharing-first {F} {ev} h r =
       aside = aside-none;
       short = r .short;
       over = r .over;
-      u = renewed-first (owed.u F ev) (row-within uRow 64 (r .fresh) (omega arith) (omega arith));
-      e = renewed-first (owed.e F ev) (row-within eRow 64 (r .fresh) (omega arith) (omega arith));
-      listed = renewed-first (λ i. mark (year.listed (F .event ev .listing) i)) (row-within listedRow 64 (r .fresh) (omega arith) (omega arith));
-      second = renewed-first (secondOf F ev) (row-within secondRow 64 (r .fresh) (omega arith) (omega arith));
+      u = renewed-first (owed.u F ev) (row-within uRow registrations (r .fresh) (omega arith) (omega arith));
+      e = renewed-first (owed.e F ev) (row-within eRow registrations (r .fresh) (omega arith) (omega arith));
+      listed = renewed-first (λ i. mark (year.listed (F .event ev .listing) i)) (row-within listedRow registrations (r .fresh) (omega arith) (omega arith));
+      second = renewed-first (secondOf F ev) (row-within secondRow registrations (r .fresh) (omega arith) (omega arith));
     }
 
 module _ {F : Facts} {ev i : ℕ} {w₀ w : List ℕ} (h : Sharing F ev i w₀ w) where
-  pub sharing-none : i < 64 → year.listed (F .event ev .listing) i ≡ false → Sharing F ev (i + 1) w₀ w
+  pub sharing-none : i < registrations → year.listed (F .event ev .listing) i ≡ false → Sharing F ev (i + 1) w₀ w
   sharing-none l off =
       record {
         upto = omega arith;
@@ -90,14 +91,14 @@ module _ {F : Facts} {ev i : ℕ} {w₀ w : List ℕ} (h : Sharing F ev i w₀ w
         second = renewed-none (h .second) l (rw off);
       }
 
-  pub sharing-all : i ≡ 64 → Shares F ev w
+  pub sharing-all : i ≡ registrations → Shares F ev w
   sharing-all q = record { u = rw q at (h .u .done); e = rw q at (h .e .done); listed = rw q at (h .listed .done); second = rw q at (h .second .done) }
 
-  pub sharing-divided : i ≡ 64 → Divided F ev w
+  pub sharing-divided : i ≡ registrations → Divided F ev w
   sharing-divided q = record { u = allotments-all (h .short) q; e = allotments-all (h .over) q }
 
   -- a listed entry
-  module _ (L : Limits F) (l : i < 64) (on : year.listed (F .event ev .listing) i ≡ true) where
+  module _ (L : Limits F) (l : i < registrations) (on : year.listed (F .event ev .listing) i ≡ true) where
     abbrev x : MeasuredEntry
     x = entryAt F ev i
 
@@ -110,11 +111,11 @@ module _ {F : Facts} {ev i : ℕ} {w₀ w : List ℕ} (h : Sharing F ev i w₀ w
     pub u-asks : Asks (stepper shortRow w (x .seller)) (x .short .0)
     u-asks =
         allotments-asks (h .short) (L .seller i) short-is l
-        (omega (arith, mul-le-mul (shortfall-le L (year.listed (F .event ev .listing)) (year.reduction (F .event ev .listing)) (year.deficit (F .event ev .listing)) (F .seller i)) (ofSeller-le F (F .seller i) 100000 (short-le L (year.listed (F .event ev .listing)) (year.reduction (F .event ev .listing))))))
+        (omega (arith, mul-le-mul (shortfall-le L (year.listed (F .event ev .listing)) (year.reduction (F .event ev .listing)) (year.deficit (F .event ev .listing)) (F .seller i)) (ofSeller-le F (F .seller i) nominatedLimit (short-le L (year.listed (F .event ev .listing)) (year.reduction (F .event ev .listing))))))
 
     -- u is allotted
     module _ {m : List ℕ} {u : ℕ} (g : Shared shortRow (x .seller) (x .short .0) w m u) where
-      u-aside : Aside (shortRow + 32) 48 w m
+      u-aside : Aside (shortRow + passedIn) carriedWidth w m
       u-aside = shared-aside (L .seller i) g
 
       u-over : SellerAllotments F (year.listed (F .event ev .listing)) (owed.over F ev) (owed.excess F ev) overRow i m
@@ -122,16 +123,16 @@ module _ {F : Facts} {ev i : ℕ} {w₀ w : List ℕ} (h : Sharing F ev i w₀ w
 
       pub e-asks : Asks (stepper overRow m (x .seller)) (x .over .0)
       e-asks =
-          let most = ofSeller-le F (F .seller i) 100000 (over-le L (year.listed (F .event ev .listing)) (L .reduction ev)) in
-          let less : owed.excess F ev (F .seller i) ≤ 6400000 = omega (arith, excess-le L ev (F .seller i)) in
+          let most = ofSeller-le F (F .seller i) nominatedLimit (over-le L (year.listed (F .event ev .listing)) (L .reduction ev)) in
+          let less : owed.excess F ev (F .seller i) ≤ nominatedSum = omega (arith, excess-le L ev (F .seller i)) in
           allotments-asks u-over (L .seller i) over-is l (omega (arith, mul-le-mul less most))
 
       -- e too, and both are kept
       module _ {m' : List ℕ} {e : ℕ} (g' : Shared overRow (x .seller) (x .over .0) m m' e) where
-        e-aside : Aside (overRow + 32) 48 m m'
+        e-aside : Aside (overRow + passedIn) carriedWidth m m'
         e-aside = shared-aside (L .seller i) g'
 
-        elsewhere : {p : ℕ} {f : ℕ → ℕ} → Renewed w p 64 f none i → ((j : ℕ) → j < 64 → uRow ≤ p + j) → Renewed m' p 64 f none i
+        elsewhere : {p : ℕ} {f : ℕ → ℕ} → Renewed w p registrations f none i → ((j : ℕ) → j < registrations → uRow ≤ p + j) → Renewed m' p registrations f none i
         elsewhere r o = renewed-aside (renewed-aside r u-aside (h .upto) (λ j k c d. omega (arith, o j k))) e-aside (h .upto) (λ j k c d. omega (arith, o j k))
 
         pub sharing-more : {m1 m2 m3 v : List ℕ} → Stored (uRow + i) u m' m1 → Stored (eRow + i) e m1 m2 → Stored (listedRow + i) 1 m2 m3 → Stored (secondRow + i) (x .second .0) m3 v → Sharing F ev (i + 1) w₀ v

@@ -1,19 +1,22 @@
-// What is measured off-peak apart in an event, from what pass 3 left of its entries in the working table: no look at one.
+// What is measured off-peak in a dual event, from what pass 3 left of its entries in the working table: no look at one.
 ghost use mathlib.Core.Path.{_≡_};
 ghost use Prim.Native.Nat.{_+_, _<_};
+ghost use Rattle.limits.specs.Limits.{registrations, sellers, eventLimit};
 ghost use Rattle.year_cells.specs.Layout.{ValidCells};
 ghost use Rattle.settle_facts.specs.CellFacts.{facts};
 ghost use Rattle.owed.specs.Divisions.{offDivisions};
 ghost use Rattle.owed.specs.Owed.{offU};
-ghost use Rattle.settle_table.specs.Places.{offURow, offShortRow, offPeakPlaces};
+ghost use Rattle.settle_table.specs.Places.{divisionsIn, offURow, offShortRow, offPeakPlaces};
 ghost use Rattle.settle_table.specs.Rows.{Aside, Row, none};
 ghost use Rattle.settle_shortfalls.specs.OffPeak.{Entries, entryAt, sumPlaces, Weighed, Netted, Ready};
+use limits::REGISTRATIONS;
+use limits::SELLERS;
 use settle_table::Work;
 use units::Nominated;
 use units::Unforced;
 use year_cells::Cells;
 
-// An entry: whether it is measured, its seller, what it lacks off-peak and what it gives more.
+// An entry: whether it is measured, its seller, what it is short off-peak and what it is over.
 pub struct OffPeakEntry {
     pub measured: bool,
     pub seller: usize,
@@ -24,7 +27,7 @@ pub struct OffPeakEntry {
 // An event's entry in the table. Limited ones are left out.
 fn entry_at(year: &Cells, work: &Work, ev: usize, i: usize) -> OffPeakEntry
     requires { ⌜ ValidCells (now year) ⌝ }
-    requires { ⌜ (ev < 16) × (i < 64) ⌝ }
+    requires { ⌜ (ev < eventLimit) × (i < registrations) ⌝ }
     requires { ⌜ Entries (facts (now year)) ev (now work) ⌝ }
     ensures { λ r. ⌜ r ≡ entryAt (facts (now (year .entry))) ev i ⌝ }
 {
@@ -43,17 +46,17 @@ fn entry_at(year: &Cells, work: &Work, ev: usize, i: usize) -> OffPeakEntry
     }
 }
 
-// What each seller's entries lack, and what they give more.
+// What each seller's entries are short, and what they are over.
 fn sums(year: &Cells, work: &mut Work, ev: usize)
     requires { ⌜ ValidCells (now year) ⌝ }
-    requires { ⌜ ev < 16 ⌝ }
+    requires { ⌜ ev < eventLimit ⌝ }
     requires { ⌜ Entries (facts (now year)) ev (now work) ⌝ }
     requires { ⌜ Row (now work) offShortRow sumPlaces none ⌝ }
     ensures weighed { λ _. ⌜ Weighed (facts (now (year .entry))) ev (now (work .exit)) ⌝ }
     ensures aside { λ _. ⌜ Aside offShortRow sumPlaces (now (work .entry)) (now (work .exit)) ⌝ }
 {
     let mut i: usize = 0;
-    while i < 64 {
+    while i < REGISTRATIONS {
         let x = entry_at(year, work, ev, i);
         if x.measured {
             settle_table::add_at(work, settle_table::OFF_SHORT, x.seller, x.short.0);
@@ -66,13 +69,13 @@ fn sums(year: &Cells, work: &mut Work, ev: usize)
 // Each seller's shortfall, the whole deficit taken off.
 fn nets(year: &Cells, work: &mut Work, ev: usize)
     requires { ⌜ ValidCells (now year) ⌝ }
-    requires { ⌜ ev < 16 ⌝ }
+    requires { ⌜ ev < eventLimit ⌝ }
     requires { ⌜ Weighed (facts (now year)) ev (now work) ⌝ }
-    ensures netted { λ _. ⌜ Netted (facts (now (year .entry))) ev 16 (now (work .exit)) ⌝ }
+    ensures netted { λ _. ⌜ Netted (facts (now (year .entry))) ev sellers (now (work .exit)) ⌝ }
     ensures aside { λ _. ⌜ Aside offShortRow sumPlaces (now (work .entry)) (now (work .exit)) ⌝ }
 {
     let mut s: usize = 0;
-    while s < 16 {
+    while s < SELLERS {
         let deficit = settle_facts::deficit_of(year, ev, s);
         let net = crate::net_of(year, work, settle_table::OFF_SHORT, s, deficit);
         settle_table::put(
@@ -88,14 +91,14 @@ fn nets(year: &Cells, work: &mut Work, ev: usize)
 // Each measured entry's share of its seller's shortfall; the table then tells each seller's divisions.
 fn share(year: &Cells, work: &mut Work, ev: usize)
     requires { ⌜ ValidCells (now year) ⌝ }
-    requires { ⌜ ev < 16 ⌝ }
+    requires { ⌜ ev < eventLimit ⌝ }
     requires { ⌜ Ready (facts (now year)) ev (now work) ⌝ }
-    ensures shares { λ _. ⌜ Row (now (work .exit)) offURow 64 (offU (facts (now (year .entry))) ev) ⌝ }
-    ensures divisions { λ _. ⌜ Row (now (work .exit)) (offShortRow + 64) 16 (offDivisions (facts (now (year .entry))) ev) ⌝ }
+    ensures shares { λ _. ⌜ Row (now (work .exit)) offURow registrations (offU (facts (now (year .entry))) ev) ⌝ }
+    ensures divisions { λ _. ⌜ Row (now (work .exit)) (offShortRow + divisionsIn) sellers (offDivisions (facts (now (year .entry))) ev) ⌝ }
     ensures aside { λ _. ⌜ Aside offURow offPeakPlaces (now (work .entry)) (now (work .exit)) ⌝ }
 {
     let mut i: usize = 0;
-    while i < 64 {
+    while i < REGISTRATIONS {
         let x = entry_at(year, work, ev, i);
         if x.measured {
             let u = Unforced(settle_table::share(
@@ -110,14 +113,14 @@ fn share(year: &Cells, work: &mut Work, ev: usize)
     }
 }
 
-// The off-peak u of an event's entries, 0 where nothing is measured apart.
+// The off-peak u of an event's entries, 0 where it is not dual.
 pub fn measure(year: &Cells, work: &mut Work, ev: usize)
     requires { ⌜ ValidCells (now year) ⌝ }
-    requires { ⌜ ev < 16 ⌝ }
+    requires { ⌜ ev < eventLimit ⌝ }
     requires { ⌜ Entries (facts (now year)) ev (now work) ⌝ }
     requires { ⌜ Row (now work) offURow offPeakPlaces none ⌝ }
-    ensures shares { λ _. ⌜ Row (now (work .exit)) offURow 64 (offU (facts (now (year .entry))) ev) ⌝ }
-    ensures divisions { λ _. ⌜ Row (now (work .exit)) (offShortRow + 64) 16 (offDivisions (facts (now (year .entry))) ev) ⌝ }
+    ensures shares { λ _. ⌜ Row (now (work .exit)) offURow registrations (offU (facts (now (year .entry))) ev) ⌝ }
+    ensures divisions { λ _. ⌜ Row (now (work .exit)) (offShortRow + divisionsIn) sellers (offDivisions (facts (now (year .entry))) ev) ⌝ }
     ensures aside { λ _. ⌜ Aside offURow offPeakPlaces (now (work .entry)) (now (work .exit)) ⌝ }
 {
     if settle_facts::is_dual(year, ev) {

@@ -4,10 +4,11 @@ use mathlib.Core.Path.{_≡_, _∙_}
 use mathlib.Core.List.{List}
 use native.Mathlib.Omega.{arith}
 use lib.ListN.{length}
+use Rattle.limits.specs.Limits.{registrations}
 use Rattle.owed.specs.Facts.{Facts}
 use Rattle.owed.specs.Owed as owed
 use Rattle.settle_table.specs.Rows.{Aside, Row, row-aside}
-use Rattle.settle_table.specs.Places.{size, sellerRow, productRow, committedRow, rateRow, capRow, dispatchCountRow}
+use Rattle.settle_table.specs.Places.{sellerRow, productRow, committedRow, rateRow, capRow, dispatchCountRow, size}
 use Rattle.year.specs.Year as year
 
 -- those of the first n
@@ -20,7 +21,7 @@ pub record Columns (F : Facts) (n : ℕ) (w : List ℕ) : Type 0 where
   pub cap : Row w capRow n (owed.cap F)
 
 -- what is stored behind them leaves them as they are
-pub columns-aside : {F : Facts} {p n m : ℕ} {w v : List ℕ} → Columns F m w → Aside p n w v → m ≤ 64 → dispatchCountRow ≤ p → Columns F m v
+pub columns-aside : {F : Facts} {p n m : ℕ} {w v : List ℕ} → Columns F m w → Aside p n w v → m ≤ registrations → dispatchCountRow ≤ p → Columns F m v
 columns-aside h a b l =
     record {
       long = a .long ∙ h .long;

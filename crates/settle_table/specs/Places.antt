@@ -1,96 +1,114 @@
--- Where the rows of the working table stand: by registration 64 places, by seller and by LSE 16, by area 8.
-use Prim.Native.Nat.{ℕ, _-_}
+-- Where the rows of the working table stand: a place a registration, a seller, an LSE or an area. Each begins where the one before it ends.
+use Prim.Native.Nat.{ℕ, _+_, _-_}
+use Rattle.limits.specs.Limits.{registrations, sellers, lses, areas}
 
-abbrev pub size : ℕ
-size = 1304
+-- an amount a seller, allotted (Allotments.antt): the sums of all weights, then the amounts, the weights passed, the last quotients and the divisions
+abbrev pub amountIn : ℕ
+amountIn = sellers
+
+abbrev pub passedIn : ℕ
+passedIn = amountIn + sellers
+
+abbrev pub quotientIn : ℕ
+quotientIn = passedIn + sellers
+
+abbrev pub divisionsIn : ℕ
+divisionsIn = quotientIn + sellers
+
+abbrev pub allotmentWidth : ℕ
+allotmentWidth = divisionsIn + sellers
+
+-- what changes with each share
+abbrev pub carriedWidth : ℕ
+carriedWidth = allotmentWidth - passedIn
 
 -- a registration's terms, its rate in force, and its cap
 abbrev pub sellerRow : ℕ
 sellerRow = 0
 
 abbrev pub productRow : ℕ
-productRow = 64
+productRow = sellerRow + registrations
 
 abbrev pub committedRow : ℕ
-committedRow = 128
+committedRow = productRow + registrations
 
 abbrev pub rateRow : ℕ
-rateRow = 192
+rateRow = committedRow + registrations
 
 abbrev pub capRow : ℕ
-capRow = 256
+capRow = rateRow + registrations
 
--- the calls of a registration (n), and 1 where any event lists it
+-- the dispatch count of a registration (n), and 1 where any event lists it
 abbrev pub dispatchCountRow : ℕ
-dispatchCountRow = 320
+dispatchCountRow = capRow + registrations
 
 abbrev pub dispatchedRow : ℕ
-dispatchedRow = 384
+dispatchedRow = dispatchCountRow + registrations
 
 -- what is spent of a cap; a seller's charges and credits to date
 abbrev pub spentRow : ℕ
-spentRow = 448
+spentRow = dispatchedRow + registrations
 
 abbrev pub complianceRow : ℕ
-complianceRow = 512
+complianceRow = spentRow + registrations
 
 abbrev pub creditRow : ℕ
-creditRow = 528
+creditRow = complianceRow + sellers
 
--- one event: two allotments abreast, of shortfalls by lacks and of excesses by what is given more, five rows each; u, e, 1 where it is listed, and its second reduction
+-- one event: two allotments, of shortfalls by what entries are short and of excesses by what they are over, five rows each; u, e, 1 where it is listed, and its second reduction
 abbrev pub shortRow : ℕ
-shortRow = 544
+shortRow = creditRow + sellers
 
 abbrev pub overRow : ℕ
-overRow = 624
+overRow = shortRow + allotmentWidth
 
 abbrev pub uRow : ℕ
-uRow = 704
+uRow = overRow + allotmentWidth
 
 abbrev pub eRow : ℕ
-eRow = 768
+eRow = uRow + registrations
 
 abbrev pub listedRow : ℕ
-listedRow = 832
+listedRow = eRow + registrations
 
 abbrev pub secondRow : ℕ
-secondRow = 896
+secondRow = listedRow + registrations
 
--- what is measured off-peak apart: the off-peak u; a third allotment abreast, of shortfalls by lacks; what is given more
+-- what is measured off-peak: the off-peak u; a third allotment, of shortfalls by what entries are short; what they are over
 abbrev pub offURow : ℕ
-offURow = 960
+offURow = secondRow + registrations
 
 abbrev pub offShortRow : ℕ
-offShortRow = 1024
+offShortRow = offURow + registrations
 
 abbrev pub offOverRow : ℕ
-offOverRow = 1104
+offOverRow = offShortRow + allotmentWidth
 
 -- a seller's test charges to date, and an LSE's credit
 abbrev pub testRow : ℕ
-testRow = 1120
+testRow = offOverRow + sellers
 
 abbrev pub lseRow : ℕ
-lseRow = 1136
+lseRow = testRow + sellers
 
--- the place of a registration's test, and its area
+-- a registration's group, and its area
 abbrev pub groupRow : ℕ
-groupRow = 1152
+groupRow = lseRow + lses
 
 abbrev pub areaRow : ℕ
-areaRow = 1216
+areaRow = groupRow + registrations
 
 -- what an area's registrations with a rate of their own committed, what that is worth, and the average
 abbrev pub areaKwRow : ℕ
-areaKwRow = 1280
+areaKwRow = areaRow + registrations
 
 abbrev pub areaWorthRow : ℕ
-areaWorthRow = 1288
+areaWorthRow = areaKwRow + areas
 
 abbrev pub areaRateRow : ℕ
-areaRateRow = 1296
+areaRateRow = areaWorthRow + areas
 
--- how many places there are: of one event's first two allotments, of these and what pass 3 makes of them, of what comes behind the two, of what is measured apart, and of all its rows; of what the passes over events store, and of what holds 0 before them
+-- how many places there are: of one event's first two allotments, of these and what pass 3 makes of them, of what comes behind the two, of what is measured off-peak, and of all its rows; of what the passes over events store, and of what holds 0 before them
 abbrev pub allotmentPlaces : ℕ
 allotmentPlaces = uRow - shortRow
 
@@ -111,3 +129,6 @@ passedPlaces = testRow - dispatchCountRow
 
 abbrev pub freshPlaces : ℕ
 freshPlaces = groupRow - dispatchCountRow
+
+abbrev pub size : ℕ
+size = areaRateRow + areas

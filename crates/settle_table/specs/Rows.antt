@@ -12,6 +12,7 @@ use borrow.Author.Tests.{eq-eqb, ne-eqb, eqb-true, eqb-false}
 use Rattle.ids.specs.Ids.{at, sumTo, keyed}
 use Rattle.ids.specs.Sums.{sum-step, sum-bound}
 use Rattle.ids.specs.Tests.{cond-le}
+use Rattle.limits.specs.Limits.{registrations}
 use Rattle.year_cells.specs.Rows.{Off}
 
 -- v is w with x at q
@@ -122,7 +123,7 @@ module _ {w : List ℕ} {p n : ℕ} {b key f : ℕ → ℕ} {i : ℕ} (r : Grown
       other : (j : ℕ) → (j ≡ key i → ⊥) → keyed key f j i ≡ 0
       other j o = rw (ne-eqb (key i) j (λ a. o (sym a)))
 
-  pub grown-most : (B c : ℕ) → i ≤ 64 → ((j : ℕ) → j < n → b j ≤ B) → ((j : ℕ) → j < i → f j ≤ c) → (k : ℕ) → k < n → at w (p + k) ≤ B + 64 * c
+  pub grown-most : (B c : ℕ) → i ≤ registrations → ((j : ℕ) → j < n → b j ≤ B) → ((j : ℕ) → j < i → f j ≤ c) → (k : ℕ) → k < n → at w (p + k) ≤ B + registrations * c
   grown-most B c l hb hf k m =
       omega (arith, r .row .is k m, hb k m, sum-bound i c (keyed key f k) (λ j q. cond-le (eqb (key j) k) (hf j q)), mul-le-mul-right c l)
 

@@ -5,79 +5,86 @@ ghost use lib.ListN.{length};
 ghost use Rattle.ids.specs.Ids.{at, sumTo};
 ghost use Rattle.settle_table.specs.Rows.{Stored, Aside, Row, none};
 ghost use Rattle.settle_table.specs.Places.{size};
+use limits::AREAS;
+use limits::LSES;
+use limits::REGISTRATIONS;
+use limits::SELLERS;
 
 mod allotments;
 
+pub use allotments::ALLOTMENT_WIDTH;
 pub use allotments::AMOUNT;
 pub use allotments::share;
 
 // Rows that change together stand together (specs/Places.antt).
-pub type Work = [u64; 1304];
+pub const SIZE: usize = AREA_RATE + AREAS;
 
-// By registration, 64 places each: its terms, copied from the lent run; its rate in force, and its cap.
+pub type Work = [u64; SIZE];
+
+// By registration: its terms, copied from the lent run; its rate in force, and its cap.
 pub const SELLER: usize = 0;
 
-pub const PRODUCT: usize = 64;
+pub const PRODUCT: usize = SELLER + REGISTRATIONS;
 
-pub const COMMITTED: usize = 128;
+pub const COMMITTED: usize = PRODUCT + REGISTRATIONS;
 
-pub const RATE: usize = 192;
+pub const RATE: usize = COMMITTED + REGISTRATIONS;
 
-pub const CAP: usize = 256;
+pub const CAP: usize = RATE + REGISTRATIONS;
 
 // By registration: how many events of period 1 or 3 list it, and whether any event does (1).
-pub const DISPATCH_COUNT: usize = 320;
+pub const DISPATCH_COUNT: usize = CAP + REGISTRATIONS;
 
-pub const DISPATCHED: usize = 384;
+pub const DISPATCHED: usize = DISPATCH_COUNT + REGISTRATIONS;
 
-// By registration what the events so far took of its cap; by seller, 16 places each, their charges and credits to date.
-pub const SPENT: usize = 448;
+// By registration what the events so far took of its cap; by seller their charges and credits to date.
+pub const SPENT: usize = DISPATCHED + REGISTRATIONS;
 
-pub const COMPLIANCE: usize = 512;
+pub const COMPLIANCE: usize = SPENT + REGISTRATIONS;
 
-pub const CREDIT: usize = 528;
+pub const CREDIT: usize = COMPLIANCE + SELLERS;
 
-// One event, 576 places. Five rows by seller (crate abreast): what its entries lack, the shortfall that is allotted by that, the
-// weights passed, the last quotients and the divisions; the same five of what they give more and the excess. By registration u, e,
+// One event. Five rows by seller (module allotments): what its entries are short, the shortfall that is allotted by that, the
+// weights passed, the last quotients and the divisions; the same five of what they are over and the excess. By registration u, e,
 // whether it is listed (1), and its second reduction.
-pub const EVENT: usize = 576;
+pub const EVENT_PLACES: usize = TEST - SHORT;
 
-pub const SHORT: usize = 544;
+pub const SHORT: usize = CREDIT + SELLERS;
 
-pub const OVER: usize = 624;
+pub const OVER: usize = SHORT + ALLOTMENT_WIDTH;
 
-pub const U: usize = 704;
+pub const U: usize = OVER + ALLOTMENT_WIDTH;
 
-pub const E: usize = 768;
+pub const E: usize = U + REGISTRATIONS;
 
-pub const LISTED: usize = 832;
+pub const LISTED: usize = E + REGISTRATIONS;
 
-pub const SECOND: usize = 896;
+pub const SECOND: usize = LISTED + REGISTRATIONS;
 
-// Of what is measured off-peak apart: by registration u; five rows by seller of what its entries lack and the shortfall; by
-// seller what they give more.
-pub const OFF_U: usize = 960;
+// Of what is measured off-peak: by registration u; five rows by seller of what its entries are short and the shortfall; by
+// seller what they are over.
+pub const OFF_U: usize = SECOND + REGISTRATIONS;
 
-pub const OFF_SHORT: usize = 1024;
+pub const OFF_SHORT: usize = OFF_U + REGISTRATIONS;
 
-pub const OFF_OVER: usize = 1104;
+pub const OFF_OVER: usize = OFF_SHORT + ALLOTMENT_WIDTH;
 
 // By seller the test charges to date, and by LSE its credit.
-pub const TEST: usize = 1120;
+pub const TEST: usize = OFF_OVER + SELLERS;
 
-pub const LSE: usize = 1136;
+pub const LSE: usize = TEST + SELLERS;
 
-// By registration the place of its test, 3 × zone + product, and its area.
-pub const GROUP: usize = 1152;
+// By registration its group, 3 × zone + product, and its area.
+pub const GROUP: usize = LSE + LSES;
 
-pub const AREA: usize = 1216;
+pub const AREA: usize = GROUP + REGISTRATIONS;
 
-// By area, 8 places each: what those with a rate of their own committed, what that is worth at these rates, and its average.
-pub const AREA_KW: usize = 1280;
+// By area: what those with a rate of their own committed, what that is worth at these rates, and its average.
+pub const AREA_KW: usize = AREA + REGISTRATIONS;
 
-pub const AREA_WORTH: usize = 1288;
+pub const AREA_WORTH: usize = AREA_KW + AREAS;
 
-pub const AREA_RATE: usize = 1296;
+pub const AREA_RATE: usize = AREA_WORTH + AREAS;
 
 // The number at place i of a row.
 pub fn get(work: &Work, row: usize, i: usize) -> u64

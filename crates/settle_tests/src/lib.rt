@@ -2,6 +2,7 @@
 ghost use mathlib.Core.Path.{_≡_};
 ghost use Prim.Native.Nat.{_*_, _/_, _≤_, _<_};
 ghost use Rattle.ids.specs.Ids.{anyTo};
+ghost use Rattle.limits.specs.Limits.{sellers, testGroups, closeLimit, rateLimit};
 ghost use Rattle.year.specs.Year.{deficit};
 ghost use Rattle.year_cells.specs.Layout.{ValidCells};
 ghost use Rattle.owed.specs.Owed.{testShortfall, B, raised, test};
@@ -12,6 +13,8 @@ ghost use Rattle.settle_tests.specs.Entries.{takenAt, Ready};
 ghost use Rattle.settle_tests.specs.Sums.{Summed};
 use crate::sums::Sums;
 use crate::sums::sum_up;
+use limits::SELLERS;
+use limits::TEST_GROUPS;
 use settle_table::Work;
 use units::Nominated;
 use units::Unforced;
@@ -19,19 +22,19 @@ use year_cells::Cells;
 
 mod sums;
 
-// A seller's deficit in the test at a place, 0 where it is absent.
+// A seller's deficit in the test of a group, 0 where it is absent.
 fn deficit_of(year: &Cells, group: usize, s: usize) -> Unforced
     requires { ⌜ ValidCells (now year) ⌝ }
-    requires { ⌜ (group < 24) × (s < 16) ⌝ }
+    requires { ⌜ (group < testGroups) × (s < sellers) ⌝ }
     ensures { λ r. ⌜ r .0 ≡ deficit (facts (now (year .entry)) .test group .listing) s ⌝ }
 {
-    let p = year_cells::TESTS + year_cells::TEST * group;
-    Unforced::sum(year[p + (year_cells::TEST_DEFICITS + s)])
+    let p = year_cells::TESTS_PLACE + year_cells::TEST_WIDTH * group;
+    Unforced::sum(year[p + (year_cells::TEST_DEFICITS_IN + s)])
 }
 
 // The rate of a test: the average by committed kilowatts, a fifth more and at least 2,000 more.
 fn rate_of(worth: u64, committed: Nominated) -> u64
-    requires { ⌜ worth ≤ committed .0 * 100000 ⌝ }
+    requires { ⌜ worth ≤ committed .0 * rateLimit ⌝ }
     ensures { λ r. ⌜ r ≡ raised (worth / committed .0) ⌝ }
 {
     let base = committed.average(worth);
@@ -43,14 +46,14 @@ fn rate_of(worth: u64, committed: Nominated) -> u64
     }
 }
 
-// A seller's charge of the test at a place: its shortfall at the test's rate, and the days before the rounding.
+// A seller's charge of the test of a group: its shortfall at the test's rate, and the days before the rounding.
 fn charge_of(year: &Cells, sums: &Sums, group: usize, s: usize, days: u64) -> u64
     requires { ⌜ ValidCells (now year) ⌝ }
     requires { ⌜ Summed (now year) (now sums) ⌝ }
-    requires { ⌜ (group < 24) × (s < 16) × (days ≤ 366) ⌝ }
+    requires { ⌜ (group < testGroups) × (s < sellers) × (days ≤ 366) ⌝ }
     ensures { λ r. ⌜ r ≡ testShortfall (facts (now (year .entry))) group s * raised (B (facts (now (year .entry))) group s) * days / 1000 ⌝ }
 {
-    let key = 16 * group + s;
+    let key = SELLERS * group + s;
     let committed = Nominated::sum(sums[sums::COMMITTED + key]);
     let reduction = Nominated::sum(sums[sums::REDUCTION + key]);
     let deficit = deficit_of(year, group, s);
@@ -59,17 +62,17 @@ fn charge_of(year: &Cells, sums: &Sums, group: usize, s: usize, days: u64) -> u6
     shortfall.0 * rate * days / 1000
 }
 
-// A seller's test charges to date. A place without a test costs nothing.
+// A seller's test charges to date. A group without a test costs nothing.
 fn test_of(year: &Cells, sums: &Sums, s: usize, k: u64) -> u64
     requires { ⌜ ValidCells (now year) ⌝ }
     requires { ⌜ Summed (now year) (now sums) ⌝ }
-    requires { ⌜ (s < 16) × (1 ≤ k) × (k ≤ 15) ⌝ }
+    requires { ⌜ (s < sellers) × (1 ≤ k) × (k ≤ closeLimit) ⌝ }
     ensures { λ r. ⌜ r ≡ test (facts (now (year .entry))) k s ⌝ }
 {
     let days = settle_facts::days_to(year, k);
     let mut sum: u64 = 0;
     let mut group: usize = 0;
-    while group < 24 {
+    while group < TEST_GROUPS {
         if year_tested::test_taken(year, group) {
             sum += charge_of(year, sums, group, s, days);
         }
@@ -80,10 +83,10 @@ fn test_of(year: &Cells, sums: &Sums, s: usize, k: u64) -> u64
 
 // Is any test taken?
 fn any_taken(year: &Cells) -> bool
-    ensures { λ r. ⌜ r ≡ anyTo 24 (takenAt (now (year .entry))) ⌝ }
+    ensures { λ r. ⌜ r ≡ anyTo testGroups (takenAt (now (year .entry))) ⌝ }
 {
     let mut group: usize = 0;
-    while group < 24 {
+    while group < TEST_GROUPS {
         if year_tested::test_taken(year, group) {
             return true;
         }
@@ -96,18 +99,18 @@ fn any_taken(year: &Cells) -> bool
 pub fn charge_tests(year: &Cells, work: &mut Work, k: u64)
     requires { ⌜ ValidCells (now year) ⌝ }
     requires { ⌜ Ready (now year) (now work) ⌝ }
-    requires { ⌜ Row (now work) testRow 16 none ⌝ }
-    requires { ⌜ (1 ≤ k) × (k ≤ 15) ⌝ }
-    ensures charged { λ _. ⌜ Row (now (work .exit)) testRow 16 (test (facts (now (year .entry))) k) ⌝ }
-    ensures aside { λ _. ⌜ Aside testRow 16 (now (work .entry)) (now (work .exit)) ⌝ }
+    requires { ⌜ Row (now work) testRow sellers none ⌝ }
+    requires { ⌜ (1 ≤ k) × (k ≤ closeLimit) ⌝ }
+    ensures charged { λ _. ⌜ Row (now (work .exit)) testRow sellers (test (facts (now (year .entry))) k) ⌝ }
+    ensures aside { λ _. ⌜ Aside testRow sellers (now (work .entry)) (now (work .exit)) ⌝ }
 {
     if !any_taken(year) {
         return;
     }
-    let mut sums = [0u64; 1152];
+    let mut sums = [0u64; sums::SUMS_WIDTH];
     sum_up(year, work, &mut sums);
     let mut s: usize = 0;
-    while s < 16 {
+    while s < SELLERS {
         let test = test_of(year, &sums, s, k);
         settle_table::put(work, settle_table::TEST, s, test);
         s += 1;

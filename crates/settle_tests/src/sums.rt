@@ -1,26 +1,36 @@
-// The two passes over the entries of all tests and retests: which stand, and their sums by place and seller.
+// The two passes over the entries of all tests and retests: which stand, and their sums by group and seller.
 ghost use mathlib.Core.Path.{_≡_};
 ghost use mathlib.Core.Bool.{cond};
 ghost use Prim.Native.Nat.{_<_};
 ghost use lib.ListN.{length};
 ghost use Rattle.ids.specs.Ids.{tabulate};
+ghost use Rattle.limits.specs.Limits.{registrations};
 ghost use Rattle.year_cells.specs.Layout.{ValidCells};
 ghost use Rattle.settle_table.specs.Rows.{Row, none};
 ghost use Rattle.settle_tests.specs.Entries.{lookAt, stands, Ready};
-ghost use Rattle.settle_tests.specs.Sums.{addendAt, Summed};
+ghost use Rattle.settle_tests.specs.Sums.{sumsWidth, addendAt, Summed};
+use limits::REGISTRATIONS;
+use limits::SELLERS;
+use limits::TEST_GROUPS;
 use settle_table::Work;
 use units::Nominated;
 use year::Retest;
 use year_cells::Cells;
 
-// By 16 × place + seller, 384 places each: what is committed, the reductions, and what is committed times its rate.
-pub type Sums = [u64; 1152];
+// By key, a group and a seller: what is committed, the reductions, and what is committed times its rate.
+pub type Sums = [u64; SUMS_WIDTH];
+
+const KEYS: usize = SELLERS * TEST_GROUPS;
+
+const KEYS_A_GROUP: u64 = SELLERS as u64;
 
 pub const COMMITTED: usize = 0;
 
-pub const REDUCTION: usize = 384;
+pub const REDUCTION: usize = COMMITTED + KEYS;
 
-pub const WORTH: usize = 768;
+pub const WORTH: usize = REDUCTION + KEYS;
+
+pub const SUMS_WIDTH: usize = WORTH + KEYS;
 
 pub struct TestEntry {
     pub listed: bool,
@@ -40,23 +50,26 @@ fn result(first: u64, retest: Retest) -> Nominated
 
 // One look at an entry of a test and at that of its retest: nothing else in the closing reads them.
 fn look(year: &Cells, i: usize) -> TestEntry
-    requires { ⌜ i < 64 ⌝ }
+    requires { ⌜ i < registrations ⌝ }
     ensures { λ r. ⌜ r ≡ lookAt (now (year .entry)) i ⌝ }
 {
-    let listed = year[year_cells::TESTED + i] != 0;
+    let listed = year[year_cells::TEST_ENTRIES_PLACE + i] != 0;
     let retest = year_tested::retest_at(year, i);
-    let reduction = result(year[year_cells::TESTED + (64 + i)], retest);
+    let reduction = result(
+        year[year_cells::TEST_ENTRIES_PLACE + (year_cells::REDUCTIONS_IN + i)],
+        retest,
+    );
     TestEntry { listed, reduction }
 }
 
 // Pass 1: which entries stand, since no event lists their registrations.
-fn standing(year: &Cells, work: &Work) -> [bool; 64]
+fn standing(year: &Cells, work: &Work) -> [bool; REGISTRATIONS]
     requires { ⌜ Ready (now year) (now work) ⌝ }
-    ensures { λ r. ⌜ r ≡ tabulate 64 (stands (now (year .entry))) ⌝ }
+    ensures { λ r. ⌜ r ≡ tabulate registrations (stands (now (year .entry))) ⌝ }
 {
-    let mut r = [false; 64];
+    let mut r = [false; REGISTRATIONS];
     let mut i: usize = 0;
-    while i < 64 {
+    while i < REGISTRATIONS {
         let x = look(year, i);
         if x.listed {
             r[i] = settle_table::get(work, settle_table::DISPATCHED, i) == 0;
@@ -78,13 +91,13 @@ pub struct Addend {
 fn addend_of(year: &Cells, work: &Work, i: usize) -> Addend
     requires { ⌜ ValidCells (now year) ⌝ }
     requires { ⌜ Ready (now year) (now work) ⌝ }
-    requires { ⌜ i < 64 ⌝ }
+    requires { ⌜ i < registrations ⌝ }
     ensures { λ r. ⌜ r ≡ addendAt (now (year .entry)) i ⌝ }
 {
     let x = look(year, i);
     let reduction = x.reduction;
     let committed = Nominated::new(settle_table::get(work, settle_table::COMMITTED, i));
-    let key = 16 * settle_table::get(work, settle_table::GROUP, i)
+    let key = KEYS_A_GROUP * settle_table::get(work, settle_table::GROUP, i)
         + settle_table::get(work, settle_table::SELLER, i);
     Addend {
         key: key as usize,
@@ -98,12 +111,12 @@ fn addend_of(year: &Cells, work: &Work, i: usize) -> Addend
 pub fn sum_up(year: &Cells, work: &Work, sums: &mut Sums)
     requires { ⌜ ValidCells (now year) ⌝ }
     requires { ⌜ Ready (now year) (now work) ⌝ }
-    requires { ⌜ (length (now sums) ≡ 1152) × Row (now sums) 0 1152 none ⌝ }
+    requires { ⌜ (length (now sums) ≡ sumsWidth) × Row (now sums) 0 sumsWidth none ⌝ }
     ensures { λ _. ⌜ Summed (now (year .entry)) (now (sums .exit)) ⌝ }
 {
     let left = standing(year, work);
     let mut i: usize = 0;
-    while i < 64 {
+    while i < REGISTRATIONS {
         let x = addend_of(year, work, i);
         if left[i] {
             settle_table::add_at(sums, COMMITTED, x.key, x.committed.0);

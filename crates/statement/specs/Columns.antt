@@ -8,13 +8,14 @@ use lib.ListN.{length, length-append, List·getD-append}
 use lib.Seq.{getD-append-add}
 use Rattle.ids.specs.Ids.{at}
 use Rattle.ids.specs.Each.{Each}
+use Rattle.limits.specs.Limits.{parties}
 use Rattle.year.specs.declared.Amounts.{Amounts}
 use Rattle.year.specs.Sound.{Fits42, SoundAmounts}
 use Rattle.statement.specs.Statement.{sellerColumns}
 
 -- n columns of amounts that 42 bits of two's complement hold
 abbrev pub Columns : ℕ → List ℕ → Type 0
-Columns n l = Each Fits42 0 (16 * n) l
+Columns n l = Each Fits42 0 (parties * n) l
 
 -- columns one after another: where those behind the first stand, and that all fit
 after-column : {n : ℕ} (l k : List ℕ) (i : ℕ) → length l ≡ n → at (l ++ k) (n + i) ≡ at k i
@@ -37,16 +38,16 @@ module _ {a : Amounts} (s : SoundAmounts a) where
   unfolding sellerColumns
   columns-sound = each-append (s .compliance) (each-append (s .test) (s .credit))
 
-  pub compliance-at : (j i : ℕ) → i < 16 → j ≡ i → at (sellerColumns a) j ≡ at (a .compliance) i
+  pub compliance-at : (j i : ℕ) → i < parties → j ≡ i → at (sellerColumns a) j ≡ at (a .compliance) i
   unfolding sellerColumns
   compliance-at j i l e = rw e (List·getD-append (a .compliance) (a .test ++ a .credit) 0 i (omega (arith, s .compliance .long)))
 
-  pub test-at : (j i : ℕ) → i < 16 → j ≡ 16 + i → at (sellerColumns a) j ≡ at (a .test) i
+  pub test-at : (j i : ℕ) → i < parties → j ≡ parties + i → at (sellerColumns a) j ≡ at (a .test) i
   unfolding sellerColumns
   test-at j i l e = rw e (after-column (a .compliance) (a .test ++ a .credit) i (s .compliance .long) ∙ List·getD-append (a .test) (a .credit) 0 i (omega (arith, s .test .long)))
 
-  pub credit-at : (j i : ℕ) → i < 16 → j ≡ 32 + i → at (sellerColumns a) j ≡ at (a .credit) i
+  pub credit-at : (j i : ℕ) → i < parties → j ≡ 32 + i → at (sellerColumns a) j ≡ at (a .credit) i
   unfolding sellerColumns
   credit-at j i l e =
-      let f : j ≡ 16 + (16 + i) = omega arith in
-      rw f (after-column (a .compliance) (a .test ++ a .credit) (16 + i) (s .compliance .long) ∙ after-column (a .test) (a .credit) i (s .test .long))
+      let f : j ≡ parties + (parties + i) = omega arith in
+      rw f (after-column (a .compliance) (a .test ++ a .credit) (parties + i) (s .compliance .long) ∙ after-column (a .test) (a .credit) i (s .test .long))

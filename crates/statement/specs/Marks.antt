@@ -12,20 +12,21 @@ use borrow.Author.Tests.{eq-eqb, ne-eqb}
 use Rattle.ids.specs.Ids.{anyTo}
 use Rattle.ids.specs.Fill.{Filled}
 use Rattle.ids.specs.Tests.{any-step}
+use Rattle.limits.specs.Limits.{parties}
 use Rattle.year.specs.declared.Terms.{Terms}
 use Rattle.year.specs.Year.{known, seller}
 
 -- a mark for each of sixteen ids: does it pass the test
 abbrev pub Marks : (ℕ → Bool) → List Bool → Type 0
-Marks p marks = Filled false 16 p marks 16
+Marks p marks = Filled false parties p marks parties
 
 -- has seller s one of the first i registrations
 unfoldable pub amongFirst : Terms → ℕ → ℕ → Bool
 amongFirst T i s = anyTo i (λ j. known T j && eqb (seller T j) s)
 
-pub marks-none : (T : Terms) → Marks (amongFirst T 0) (replicate 16 false)
+pub marks-none : (T : Terms) → Marks (amongFirst T 0) (replicate parties false)
 unfolding amongFirst anyTo
-marks-none T = record { upto = omega arith; long = length-replicate 16 false; done = λ s l. getD-replicate 16 s false false l }
+marks-none T = record { upto = omega arith; long = length-replicate parties false; done = λ s l. getD-replicate parties s false false l }
 
 module _ (T : Terms) (i : ℕ) {marks : List Bool} (h : Marks (amongFirst T i) marks) where
   pub mark-skip : known T i ≡ false → Marks (amongFirst T (i + 1)) marks
@@ -33,7 +34,7 @@ module _ (T : Terms) (i : ℕ) {marks : List Bool} (h : Marks (amongFirst T i) m
   mark-skip e =
       record { upto = omega arith; long = h .long; done = λ s l. h .done s l ∙ sym (rw (any-step i (λ j. known T j && eqb (seller T j) s), e) (or-false _)) }
 
-  pub mark-more : known T i ≡ true → seller T i < 16 → Marks (amongFirst T (i + 1)) (set marks (seller T i) true)
+  pub mark-more : known T i ≡ true → seller T i < parties → Marks (amongFirst T (i + 1)) (set marks (seller T i) true)
   unfolding amongFirst
   mark-more e m =
       record {

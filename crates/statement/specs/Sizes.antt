@@ -7,15 +7,16 @@ use native.Mathlib.Omega.{arith}
 use lib.ListN.{length, length-map}
 use Rattle.ids.specs.Ids.{countTo, tabulate}
 use Rattle.ids.specs.Sums.{count-most}
+use Rattle.limits.specs.Limits.{parties, sellers, statementLimit}
 use Rattle.bits.specs.Table.{Valid}
 use Rattle.bits.specs.Pack.{bytesFor}
 use Rattle.bits.specs.PackLaws.{length-encode}
 use Rattle.year.specs.declared.Terms.{Terms}
 use Rattle.year.specs.declared.Amounts.{Amounts}
-use Rattle.year.specs.Year.{lses, sellers}
+use Rattle.year.specs.Year.{lseCount}
 use Rattle.year.specs.Sound.{SoundTerms}
-use Rattle.year.specs.Limits.{lses-is}
-use Rattle.statement.specs.Statement.{largest, Field, widthsOf, valuesOf, difference, hasRegistration, hasObligation, sellerColumns, amountField, lineFields, sellerFields, lseFields, linesTo, statementFields, statementOf}
+use Rattle.year.specs.Limits.{lse-count-is}
+use Rattle.statement.specs.Statement.{Field, widthsOf, valuesOf, difference, hasRegistration, hasObligation, sellerColumns, amountField, lineFields, sellerFields, lseFields, linesTo, statementFields, statementOf}
 use Rattle.statement.specs.Lines.{bitsIn, bits-append, lines-bits}
 
 -- each value fits its width
@@ -39,7 +40,7 @@ fitting-amounts zero now before i = tt
 fitting-amounts (suc n) now before i =
     fitting-append (tabulate n (amountField now before i)) (amountField now before i n ∷ []) (fitting-amounts n now before i) (difference-below _ _, tt)
 
-fitting-lines : (m n : ℕ) (p : ℕ → Bool) (now before : List ℕ) → m ≤ 16 → Fitting (linesTo m p (lineFields n now before))
+fitting-lines : (m n : ℕ) (p : ℕ → Bool) (now before : List ℕ) → m ≤ parties → Fitting (linesTo m p (lineFields n now before))
 unfolding linesTo lineFields
 fitting-lines zero n p now before l = tt
 fitting-lines (suc m) n p now before l =
@@ -53,33 +54,33 @@ module _ {T : Terms} (s : SoundTerms T) (k : ℕ) (now before : Amounts) where
   pub statement-fits : k < 16 → Fitting (statementFields T k now before)
   unfolding statementFields
   statement-fits l =
-      let m = lses-is s in
+      let m = lse-count-is s in
       let p = hasRegistration T in
       let q = hasObligation T in
       let A = linesTo sellers p (sellerFields now before) in
-      let B = linesTo (lses T) q (lseFields now before) in
+      let B = linesTo (lseCount T) q (lseFields now before) in
       let a : Fitting A = fitting-lines sellers 3 p (sellerColumns now) (sellerColumns before) (omega arith) in
-      let b : Fitting B = fitting-lines (lses T) 1 q (now .lse) (before .lse) (omega arith) in
-      (omega arith, (omega (arith, count-most sellers p), (omega (arith, count-most (lses T) q), fitting-append A B a b)))
+      let b : Fitting B = fitting-lines (lseCount T) 1 q (now .lse) (before .lse) (omega arith) in
+      (omega arith, (omega (arith, count-most sellers p), (omega (arith, count-most (lseCount T) q), fitting-append A B a b)))
 
   -- a month of 4 bits and two counts of 5, and the lines
-  pub bits-counted : bitsIn (statementFields T k now before) ≡ 14 + 130 * countTo sellers (hasRegistration T) + 46 * countTo (lses T) (hasObligation T)
+  pub bits-counted : bitsIn (statementFields T k now before) ≡ 14 + 130 * countTo sellers (hasRegistration T) + 46 * countTo (lseCount T) (hasObligation T)
   unfolding statementFields
   bits-counted =
       let p = hasRegistration T in
       let q = hasObligation T in
       let A = linesTo sellers p (sellerFields now before) in
-      let B = linesTo (lses T) q (lseFields now before) in
-      omega (arith, bits-append A B, lines-bits 3 (sellerColumns now) (sellerColumns before) p sellers, lines-bits 1 (now .lse) (before .lse) q (lses T))
+      let B = linesTo (lseCount T) q (lseFields now before) in
+      omega (arith, bits-append A B, lines-bits 3 (sellerColumns now) (sellerColumns before) p sellers, lines-bits 1 (now .lse) (before .lse) q (lseCount T))
 
   pub statement-bits : bitsIn (statementFields T k now before) ≤ 2830
   statement-bits =
-      let m = lses-is s in
-      omega (arith, bits-counted, count-most sellers (hasRegistration T), count-most (lses T) (hasObligation T))
+      let m = lse-count-is s in
+      omega (arith, bits-counted, count-most sellers (hasRegistration T), count-most (lseCount T) (hasObligation T))
 
   pub statement-length : length (statementOf T k now before) ≡ bytesFor (bitsIn (statementFields T k now before))
   unfolding statementOf
   statement-length = length-encode _ _ (same-length (statementFields T k now before))
 
-  pub statement-most : length (statementOf T k now before) ≤ largest
+  pub statement-most : length (statementOf T k now before) ≤ statementLimit
   statement-most = omega (arith, statement-length, statement-bits)

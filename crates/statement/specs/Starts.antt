@@ -7,12 +7,13 @@ use native.Mathlib.Nat.{zero-add, add-assoc}
 use native.Mathlib.Omega.{arith}
 use lib.IntN.{ℤ, pos, _-ℤ_}
 use Rattle.ids.specs.Ids.{at, countTo}
+use Rattle.limits.specs.Limits.{parties, sellers}
 use Rattle.bits.specs.PackLaws.{read-back}
 use Rattle.year.specs.declared.Terms.{Terms}
 use Rattle.year.specs.declared.Amounts.{Amounts}
-use Rattle.year.specs.Year.{lses, sellers}
+use Rattle.year.specs.Year.{lseCount}
 use Rattle.year.specs.Sound.{SoundTerms, SoundAmounts}
-use Rattle.year.specs.Limits.{lses-is}
+use Rattle.year.specs.Limits.{lse-count-is}
 use Rattle.statement.specs.Statement.{widthsOf, valuesOf, hasRegistration, hasObligation, sellerColumns, lineFields, sellerFields, lseFields, linesTo, statementFields, statementOf}
 use Rattle.statement.specs.Lines.{bitsIn, lines-bits}
 use Rattle.statement.specs.Sizes.{same-length, statement-fits}
@@ -28,10 +29,10 @@ less now before i = pos (at now i) -ℤ pos (at before i)
 -- xs starts with the statement of month k
 pub record Starts (T : Terms) (k : ℕ) (now before : Amounts) (xs : List ℕ) : Type 0 where
   pub month : monthIn xs ≡ k
-  pub sellers : sellersIn xs ≡ countTo 16 (hasRegistration T)
-  pub lses : lsesIn xs ≡ countTo 16 (hasObligation T)
-  pub seller : (s : ℕ) → s < 16 → hasRegistration T s ≡ true → Holds xs (sellerLine xs (countTo s (hasRegistration T))) (sellerFields now before s)
-  pub lse : (j : ℕ) → j < 16 → hasObligation T j ≡ true → Holds xs (lseLine xs (countTo j (hasObligation T))) (lseFields now before j)
+  pub sellers : sellersIn xs ≡ countTo parties (hasRegistration T)
+  pub lses : lsesIn xs ≡ countTo parties (hasObligation T)
+  pub seller : (s : ℕ) → s < parties → hasRegistration T s ≡ true → Holds xs (sellerLine xs (countTo s (hasRegistration T))) (sellerFields now before s)
+  pub lse : (j : ℕ) → j < parties → hasObligation T j ≡ true → Holds xs (lseLine xs (countTo j (hasObligation T))) (lseFields now before j)
 
 starts-with : {T : Terms} {k : ℕ} {now before : Amounts} (xs : List ℕ) → SoundTerms T → Holds xs 0 (statementFields T k now before) → Starts T k now before xs
 unfolding statementFields monthIn sellersIn lsesIn
@@ -39,16 +40,16 @@ starts-with {T} {k} {now} {before} xs s all =
     let p = hasRegistration T in
     let q = hasObligation T in
     let A = linesTo sellers p (sellerFields now before) in
-    let B = linesTo (lses T) q (lseFields now before) in
+    let B = linesTo (lseCount T) q (lseFields now before) in
     let lines = holds-split xs 14 A B (all .1 .1 .1) in
     let start : 14 + bitsIn A ≡ 14 + 130 * sellersIn xs = omega (arith, lines-bits 3 (sellerColumns now) (sellerColumns before) p sellers, all .1 .0) in
     let later : Holds xs (14 + 130 * sellersIn xs) B = rw start at (lines .1) in
     record {
       month = all .0;
       sellers = all .1 .0;
-      lses = all .1 .1 .0 ∙ ap (λ n. countTo n q) (lses-is s);
+      lses = all .1 .1 .0 ∙ ap (λ n. countTo n q) (lse-count-is s);
       seller = holds-line xs 14 3 (sellerColumns now) (sellerColumns before) p sellers (lines .0);
-      lse = λ j l. holds-line xs (14 + 130 * sellersIn xs) 1 (now .lse) (before .lse) q (lses T) later j (omega (arith, lses-is s));
+      lse = λ j l. holds-line xs (14 + 130 * sellersIn xs) 1 (now .lse) (before .lse) q (lseCount T) later j (omega (arith, lse-count-is s));
     }
 
 pub starts : {T : Terms} {k : ℕ} (now before : Amounts) (rest : List ℕ) → SoundTerms T → k < 16 → Starts T k now before (statementOf T k now before ++ rest)
@@ -61,14 +62,14 @@ starts {T} {k} now before rest s l =
 -- what the line of party i at p says: its id, and in each column what is due now less what was before
 pub record Line (xs : List ℕ) (p n : ℕ) (now before : List ℕ) (i : ℕ) : Type 0 where
   pub id : idAt xs p ≡ i
-  pub amount : (k : ℕ) → k < n → amountAt xs (p + (4 + 42 * k)) ≡ less now before (16 * k + i)
+  pub amount : (k : ℕ) → k < n → amountAt xs (p + (4 + 42 * k)) ≡ less now before (parties * k + i)
 
-line-reads : {xs : List ℕ} {p n : ℕ} {now before : List ℕ} {i : ℕ} → Columns n now → Columns n before → i < 16 → Holds xs p (lineFields n now before i) → Line xs p n now before i
+line-reads : {xs : List ℕ} {p n : ℕ} {now before : List ℕ} {i : ℕ} → Columns n now → Columns n before → i < parties → Holds xs p (lineFields n now before i) → Line xs p n now before i
 unfolding lineFields idAt amountAt
 line-reads {xs} {p} {n} {now} {before} {i} a b l h =
     record {
       id = h .0;
-      amount = λ k m. ap value42 (rw (add-assoc p 4 (42 * k)) at (holds-amount xs (p + 4) n now before i (h .1) k m)) ∙ value-difference _ _ (a .at (16 * k + i) (omega arith)) (b .at (16 * k + i) (omega arith));
+      amount = λ k m. ap value42 (rw (add-assoc p 4 (42 * k)) at (holds-amount xs (p + 4) n now before i (h .1) k m)) ∙ value-difference _ _ (a .at (parties * k + i) (omega arith)) (b .at (parties * k + i) (omega arith));
     }
 
 -- the ids of the lines
@@ -90,17 +91,17 @@ pub record LseLine (xs : List ℕ) (now before : Amounts) (j i : ℕ) : Type 0 w
   pub credit : amountAt xs (lseLine xs i + 4) ≡ less (now .lse) (before .lse) j
 
 module _ {T : Terms} {k : ℕ} {now before : Amounts} {xs : List ℕ} (f : Starts T k now before xs) (a : SoundAmounts now) (b : SoundAmounts before) where
-  pub seller-line : (s : ℕ) → s < 16 → hasRegistration T s ≡ true → SellerLine xs now before s (countTo s (hasRegistration T))
+  pub seller-line : (s : ℕ) → s < parties → hasRegistration T s ≡ true → SellerLine xs now before s (countTo s (hasRegistration T))
   seller-line s l e =
       let h = line-reads (columns-sound a) (columns-sound b) l (f .seller s l e) in
       record {
         id = h .id;
         compliance = h .amount 0 (omega arith) ∙ rw (compliance-at a (0 + s) s l (omega arith), compliance-at b (0 + s) s l (omega arith));
-        test = h .amount 1 (omega arith) ∙ rw (test-at a (16 + s) s l refl, test-at b (16 + s) s l refl);
+        test = h .amount 1 (omega arith) ∙ rw (test-at a (parties + s) s l refl, test-at b (parties + s) s l refl);
         credit = h .amount 2 (omega arith) ∙ rw (credit-at a (32 + s) s l refl, credit-at b (32 + s) s l refl);
       }
 
-  pub lse-line : (j : ℕ) → j < 16 → hasObligation T j ≡ true → LseLine xs now before j (countTo j (hasObligation T))
+  pub lse-line : (j : ℕ) → j < parties → hasObligation T j ≡ true → LseLine xs now before j (countTo j (hasObligation T))
   lse-line j l e =
       let h = line-reads (a .lse) (b .lse) l (f .lse j l e) in
       record { id = h .id; credit = rw (zero-add j) at (h .amount 0 (omega arith)) }

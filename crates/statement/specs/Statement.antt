@@ -4,17 +4,15 @@ use mathlib.Core.Bool.{Bool, _&&_, cond}
 use mathlib.Core.List.{List, [], _∷_, _++_, map}
 use lib.Dec.{ltb, eqb}
 use Rattle.ids.specs.Ids.{at, countTo, anyTo, tabulate}
+use Rattle.limits.specs.Limits.{parties, sellers}
 use Rattle.bits.specs.Pack.{encode}
 use Rattle.year.specs.declared.Terms.{Terms}
 use Rattle.year.specs.declared.Amounts.{Amounts}
-use Rattle.year.specs.Year.{known, seller, obligation, size, lses, sellers}
+use Rattle.year.specs.Year.{known, seller, obligation, size, lseCount}
 
 -- the bits of an amount, and the bytes of the largest statement
 abbrev pub amountBits : ℕ
 amountBits = 42
-
-abbrev pub largest : ℕ
-largest = 354
 
 -- now less before, in 42 bits of two's complement
 unfoldable pub difference : ℕ → ℕ → ℕ
@@ -44,7 +42,7 @@ sellerColumns a = a .compliance ++ (a .test ++ a .credit)
 
 -- the amount of party i in column k: to date now less to date before
 abbrev pub amountField : List ℕ → List ℕ → ℕ → ℕ → Field
-amountField now before i k = (amountBits, difference (at now (16 * k + i)) (at before (16 * k + i)))
+amountField now before i k = (amountBits, difference (at now (parties * k + i)) (at before (parties * k + i)))
 
 -- the line of party i: its id, and its amounts in n columns
 unfoldable pub lineFields : ℕ → List ℕ → List ℕ → ℕ → List Field
@@ -67,8 +65,8 @@ linesTo (suc n) p f = linesTo n p f ++ cond (p n) (f n) []
 module _ (T : Terms) (k : ℕ) (now before : Amounts) where
   unfoldable pub statementFields : List Field
   statementFields =
-      ((4, k) ∷ (5, countTo sellers (hasRegistration T)) ∷ (5, countTo (lses T) (hasObligation T)) ∷ [])
-      ++ (linesTo sellers (hasRegistration T) (sellerFields now before) ++ linesTo (lses T) (hasObligation T) (lseFields now before))
+      ((4, k) ∷ (5, countTo sellers (hasRegistration T)) ∷ (5, countTo (lseCount T) (hasObligation T)) ∷ [])
+      ++ (linesTo sellers (hasRegistration T) (sellerFields now before) ++ linesTo (lseCount T) (hasObligation T) (lseFields now before))
 
   -- its bytes, zero bits filling the last
   unfoldable pub statementOf : List ℕ

@@ -7,13 +7,14 @@ use native.Mathlib.Nat.{add-zero}
 use native.Mathlib.Numerals.{add-one}
 use native.Mathlib.Omega.{arith}
 use Rattle.ids.specs.Ids.{holds, countTo}
+use Rattle.limits.specs.Limits.{parties}
 use Rattle.bits_write.specs.declared.Writer.{Writer}
 use Rattle.bits_write.specs.Written.{joined, Ready, Wrote}
 use Rattle.bits_write.specs.WrittenLaws.{joined-append, written-none, written-join}
 use Rattle.year.specs.declared.Terms.{Terms}
 use Rattle.year.specs.declared.Amounts.{Amounts}
 use Rattle.year.specs.Sound.{SoundTerms}
-use Rattle.year.specs.Limits.{lses-is}
+use Rattle.year.specs.Limits.{lse-count-is}
 use Rattle.statement.specs.Statement.{Field, widthsOf, valuesOf, hasRegistration, hasObligation, sellerFields, lseFields, linesTo, statementFields}
 use Rattle.ids.specs.Sums.{count-same}
 use Rattle.statement.specs.Lines.{lines-same, bitsIn, bits-append}
@@ -51,10 +52,10 @@ module _ (p : ℕ → Bool) (l : ℕ → List Field) (i : ℕ) {old cur : List �
 -- the front and the lines of both kinds are the statement's fields
 pub statement-written : {T : Terms} {k : ℕ} (now before : Amounts) {ps qs : List Bool} {old cur new : List ℕ} {w x y : Writer}
     → SoundTerms T → Marks (hasRegistration T) ps → Marks (hasObligation T) qs
-    → WrittenFields old cur w x ((4, k) ∷ (5, countTo 16 (holds ps)) ∷ (5, countTo 16 (holds qs)) ∷ [])
-    → WrittenFields cur new x y (linesTo 16 (holds ps) (sellerFields now before) ++ linesTo 16 (holds qs) (lseFields now before))
+    → WrittenFields old cur w x ((4, k) ∷ (5, countTo parties (holds ps)) ∷ (5, countTo parties (holds qs)) ∷ [])
+    → WrittenFields cur new x y (linesTo parties (holds ps) (sellerFields now before) ++ linesTo parties (holds qs) (lseFields now before))
     → WrittenFields old new w y (statementFields T k now before)
 unfolding statementFields
 statement-written now before s p q f g =
-    rw (lses-is s, ← count-same 16 (p .done), ← count-same 16 (q .done), ← lines-same 16 (sellerFields now before) (p .done), ← lines-same 16 (lseFields now before) (q .done))
+    rw (lse-count-is s, ← count-same parties (p .done), ← count-same parties (q .done), ← lines-same parties (sellerFields now before) (p .done), ← lines-same parties (lseFields now before) (q .done))
     (more-fields f g)

@@ -4,6 +4,7 @@ ghost use mathlib.Core.List.{_++_};
 ghost use Prim.Native.Nat.{_+_, _*_, _^_, _≤_, _<_};
 ghost use lib.ListN.{length, drop};
 ghost use Rattle.ids.specs.Ids.{holds};
+ghost use Rattle.limits.specs.Limits.{parties, sellers, lses, closeLimit, statementLimit};
 ghost use Rattle.year.specs.Sound.{SoundTerms, SoundAmounts};
 ghost use Rattle.bits_write.specs.Written.{writtenBits, Ready};
 ghost use Rattle.statement.specs.Statement.{difference, sellerColumns, lineFields, sellerFields, lseFields, linesTo, statementOf};
@@ -13,6 +14,8 @@ use crate::count;
 use crate::obliged;
 use crate::present;
 use bits_write::Writer;
+use limits::PARTIES;
+use limits::SELLERS;
 use year::Amounts;
 use year::Terms;
 
@@ -32,10 +35,10 @@ fn columns(amounts: Amounts) -> [u64; 48]
     let mut r = [0u64; 48];
     let mut i: usize = 0;
     while i < 48 {
-        let cents = if i < 16 {
+        let cents = if i < SELLERS {
             amounts.compliance[i]
         } else if i < 32 {
-            amounts.test[i - 16]
+            amounts.test[i - SELLERS]
         } else {
             amounts.credit[i - 32]
         };
@@ -55,7 +58,7 @@ fn put_line(
     billed: &[u64],
 ) -> Writer
     requires { ⌜ Ready w ⌝ }
-    requires { ⌜ id < 16 ⌝ }
+    requires { ⌜ id < parties ⌝ }
     requires { ⌜ Columns n (now owed) × Columns n (now billed) ⌝ }
     requires { ⌜ writtenBits w + (4 + 42 * n) ≤ 8 * length (now bytes) ⌝ }
     ensures { λ r. ⌜ WrittenFields (now (bytes .entry)) (now (bytes .exit)) w r (lineFields n (now (owed .entry)) (now (billed .entry)) id) ⌝ }
@@ -63,7 +66,7 @@ fn put_line(
     let mut r = w.put(bytes, 4, id as u64);
     let mut k: usize = 0;
     while k < n {
-        let place = 16 * k + id;
+        let place = PARTIES * k + id;
         r = r.put(bytes, 42, difference(owed[place], billed[place]));
         k += 1;
     }
@@ -74,19 +77,19 @@ fn put_line(
 fn put_lines(
     w: Writer,
     bytes: &mut [u8],
-    marks: [bool; 16],
+    marks: [bool; PARTIES],
     n: usize,
     owed: &[u64],
     billed: &[u64],
 ) -> Writer
     requires { ⌜ Ready w ⌝ }
     requires { ⌜ Columns n (now owed) × Columns n (now billed) ⌝ }
-    requires { ⌜ writtenBits w + (4 + 42 * n) * 16 ≤ 8 * length (now bytes) ⌝ }
-    ensures { λ r. ⌜ WrittenFields (now (bytes .entry)) (now (bytes .exit)) w r (linesTo 16 (holds marks) (lineFields n (now (owed .entry)) (now (billed .entry)))) ⌝ }
+    requires { ⌜ writtenBits w + (4 + 42 * n) * parties ≤ 8 * length (now bytes) ⌝ }
+    ensures { λ r. ⌜ WrittenFields (now (bytes .entry)) (now (bytes .exit)) w r (linesTo parties (holds marks) (lineFields n (now (owed .entry)) (now (billed .entry)))) ⌝ }
 {
     let mut r = w;
     let mut id: usize = 0;
-    while id < 16 {
+    while id < PARTIES {
         if marks[id] {
             r = put_line(r, bytes, id, n, owed, billed);
         }
@@ -99,15 +102,15 @@ fn put_lines(
 fn put_parties(
     w: Writer,
     bytes: &mut [u8],
-    sellers: [bool; 16],
-    lses: [bool; 16],
+    sellers: [bool; PARTIES],
+    lses: [bool; PARTIES],
     owed: Amounts,
     billed: Amounts,
 ) -> Writer
     requires { ⌜ Ready w ⌝ }
     requires { ⌜ SoundAmounts owed × SoundAmounts billed ⌝ }
     requires { ⌜ writtenBits w + 2816 ≤ 8 * length (now bytes) ⌝ }
-    ensures { λ r. ⌜ WrittenFields (now (bytes .entry)) (now (bytes .exit)) w r (linesTo 16 (holds sellers) (sellerFields owed billed) ++ linesTo 16 (holds lses) (lseFields owed billed)) ⌝ }
+    ensures { λ r. ⌜ WrittenFields (now (bytes .entry)) (now (bytes .exit)) w r (linesTo parties (holds sellers) (sellerFields owed billed) ++ linesTo parties (holds lses) (lseFields owed billed)) ⌝ }
 {
     let lines = put_lines(w, bytes, sellers, 3, &columns(owed), &columns(billed));
     put_lines(lines, bytes, lses, 1, &owed.lse, &billed.lse)
@@ -122,10 +125,10 @@ pub fn write_statement(
     bytes: &mut [u8],
 ) -> usize
     requires { ⌜ SoundTerms terms ⌝ }
-    requires { ⌜ month ≤ 15 ⌝ }
+    requires { ⌜ month ≤ closeLimit ⌝ }
     requires { ⌜ SoundAmounts owed ⌝ }
     requires { ⌜ SoundAmounts billed ⌝ }
-    requires { ⌜ 354 ≤ length (now bytes) ⌝ }
+    requires { ⌜ statementLimit ≤ length (now bytes) ⌝ }
     ensures leaves { λ r. ⌜ now (bytes .exit) ≡ (let s = statementOf terms month owed billed in s ++ drop (length s) (now (bytes .entry))) ⌝ }
     ensures writes { λ r. ⌜ r ≡ length (statementOf terms month owed billed) ⌝ }
 {

@@ -1,9 +1,13 @@
 // The parties of a statement: which they are, and how many.
 ghost use mathlib.Core.Path.{_≡_};
 ghost use Rattle.ids.specs.Ids.{holds, countTo};
+ghost use Rattle.limits.specs.Limits.{parties};
 ghost use Rattle.year.specs.Sound.{SoundTerms};
 ghost use Rattle.statement.specs.Statement.{hasRegistration, hasObligation};
 ghost use Rattle.statement.specs.Marks.{Marks};
+use limits::LSES;
+use limits::PARTIES;
+use limits::REGISTRATIONS;
 use year::Terms;
 
 mod issue;
@@ -11,13 +15,13 @@ mod issue;
 pub use issue::write_statement;
 
 // Which sellers have a registration.
-pub fn present(terms: Terms) -> [bool; 16]
+pub fn present(terms: Terms) -> [bool; PARTIES]
     requires { ⌜ SoundTerms terms ⌝ }
     ensures { λ r. ⌜ Marks (hasRegistration terms) r ⌝ }
 {
-    let mut sellers = [false; 16];
+    let mut sellers = [false; PARTIES];
     let mut i: usize = 0;
-    while i < 64 {
+    while i < REGISTRATIONS {
         let g = terms.registrations[i];
         if g.known {
             let s = g.seller as usize;
@@ -29,12 +33,12 @@ pub fn present(terms: Terms) -> [bool; 16]
 }
 
 // Which LSEs have an obligation.
-pub fn obliged(terms: Terms) -> [bool; 16]
+pub fn obliged(terms: Terms) -> [bool; PARTIES]
     ensures { λ r. ⌜ Marks (hasObligation terms) r ⌝ }
 {
-    let mut marks = [false; 16];
+    let mut marks = [false; PARTIES];
     let mut j: usize = 0;
-    while j < 16 {
+    while j < LSES {
         marks[j] = 0 < terms.obligations[j];
         j += 1;
     }
@@ -42,12 +46,12 @@ pub fn obliged(terms: Terms) -> [bool; 16]
 }
 
 // How many are marked.
-pub fn count(marks: [bool; 16]) -> u64
-    ensures { λ r. ⌜ r ≡ countTo 16 (holds marks) ⌝ }
+pub fn count(marks: [bool; PARTIES]) -> u64
+    ensures { λ r. ⌜ r ≡ countTo parties (holds marks) ⌝ }
 {
     let mut n: u64 = 0;
     let mut i: usize = 0;
-    while i < 16 {
+    while i < PARTIES {
         if marks[i] {
             n += 1;
         }

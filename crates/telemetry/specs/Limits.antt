@@ -7,18 +7,19 @@ use native.Mathlib.Nat.{mul-div-cancel}
 use lib.Dec.{leb, lit<}
 use lib.Ieee.{binary32, round}
 use borrow.Author.Tests.{leb-true, le-leb}
+use Rattle.limits.specs.Limits.{nominatedLimit}
 use Rattle.telemetry_eighths.specs.Values.{each}
 use Rattle.telemetry.specs.Reduction.{allCount, kwIn, withinLimit, reductionOf, kwOf}
 use Rattle.telemetry.specs.declared.Sample.{Sample}
 use Rattle.telemetry.specs.declared.Sample.the-variants.{Direct}
 use Rattle.telemetry.specs.declared.Reduced.the-variants.{Kw, NotCounted, TooMuch}
 
-pub kw-most : (s : Sample) → kwOf (reductionOf s) ≤ 100000
+pub kw-most : (s : Sample) → kwOf (reductionOf s) ≤ nominatedLimit
 unfolding reductionOf withinLimit
-kw-most s = go (allCount s) (leb (kwIn s) 100000) refl
+kw-most s = go (allCount s) (leb (kwIn s) nominatedLimit) refl
   where
-    go : (a b : Bool) → leb (kwIn s) 100000 ≡ b → kwOf (cond a (cond b (Kw (kwIn s)) TooMuch) NotCounted) ≤ 100000
-    go true true e = leb-true (kwIn s) 100000 e
+    go : (a b : Bool) → leb (kwIn s) nominatedLimit ≡ b → kwOf (cond a (cond b (Kw (kwIn s)) TooMuch) NotCounted) ≤ nominatedLimit
+    go true true e = leb-true (kwIn s) nominatedLimit e
     go true false e = omega arith
     go false b e = omega arith
 
@@ -26,8 +27,8 @@ kw-most s = go (allCount s) (leb (kwIn s) 100000) refl
 abbrev pub sampleOf : ℕ → Sample
 sampleOf k = Direct (round binary32 false (k * 8) 8)
 
-pub sample-of : (k : ℕ) → k ≤ 100000 → reductionOf (sampleOf k) ≡ Kw k
+pub sample-of : (k : ℕ) → k ≤ nominatedLimit → reductionOf (sampleOf k) ≡ Kw k
 unfolding reductionOf withinLimit
 sample-of k h =
     let p = each (k * 8) (omega arith) in
-    rw (p .0, p .1, mul-div-cancel k {n = 8} (lit< tt), le-leb k 100000 h)
+    rw (p .0, p .1, mul-div-cancel k {n = 8} (lit< tt), le-leb k nominatedLimit h)

@@ -5,6 +5,7 @@ use Prim.Native.Nat.{ℕ, _-_, _/_}
 use mathlib.Core.Bool.{Bool, _&&_, cond}
 use lib.Dec.{leb}
 use lib.Ieee.{binary32, ofBits}
+use Rattle.limits.specs.Limits.{nominatedLimit}
 use Rattle.telemetry_eighths.specs.Eighths.{counts, eighthsOf}
 use Rattle.telemetry.specs.declared.Sample.{Sample}
 use Rattle.telemetry.specs.declared.Sample.the-variants.{Pair, Direct}
@@ -27,7 +28,7 @@ kwIn s = eighthsIn s / 8
 
 -- more than 100,000 kW are too much
 unfoldable pub withinLimit : ℕ → Reduced
-withinLimit kw = cond (leb kw 100000) (Kw kw) TooMuch
+withinLimit kw = cond (leb kw nominatedLimit) (Kw kw) TooMuch
 
 -- a value that doesn't count comes first
 unfoldable pub reductionOf : Sample → Reduced
@@ -70,9 +71,9 @@ figures : map answer (
     ∷ pair 0x3f80_0000 0x4800_0000 ∷ pair 0x3d80_0000 0x47ff_ff80 ∷ pair 0x4800_0000 0x4800_0000 ∷ pair 0x4800_0000 0x0000_0000 ∷ pair 0x7fc0_0000 0x3f80_0000 ∷ pair 0x3f80_0000 0x7fc0_0000
     ∷ [])
     ≡ (
-    (0, 0) ∷ (0, 0) ∷ (0, 100000) ∷ (19, 0) ∷ (19, 0) ∷ (18, 0) ∷ (18, 0) ∷ (18, 0)
+    (0, 0) ∷ (0, 0) ∷ (0, nominatedLimit) ∷ (19, 0) ∷ (19, 0) ∷ (18, 0) ∷ (18, 0) ∷ (18, 0)
     ∷ (0, 8) ∷ (0, 0) ∷ (0, 0) ∷ (0, 7) ∷ (0, 0)
-    ∷ (0, 100000) ∷ (19, 0)
+    ∷ (0, nominatedLimit) ∷ (19, 0)
     ∷ (18, 0) ∷ (18, 0) ∷ (18, 0) ∷ (18, 0) ∷ (18, 0) ∷ (18, 0)
     ∷ [])
 unfolding counts eighthsOf withinLimit reductionOf ofBits

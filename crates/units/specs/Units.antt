@@ -3,21 +3,7 @@ use Prim.Native.Nat.{ℕ, _*_, _/_, _≤_}
 use mathlib.Core.Path.{_≡_}
 use native.Mathlib.Omega.{arith}
 use native.Mathlib.Nat.{zero-mul, mul-assoc, mul-le-mul, mul-le-mul-left}
-
--- the most kilowatts of one registration, nominated and unforced
-abbrev pub nominatedLimit : ℕ
-nominatedLimit = 100000
-
-abbrev pub unforcedLimit : ℕ
-unforcedLimit = 144000
-
--- the most registrations whose kilowatts a seller's sum adds up
-abbrev pub most : ℕ
-most = 64
-
--- the highest DR Factor and Forecast Pool Requirement, in ten-thousandths
-abbrev pub factorLimit : ℕ
-factorLimit = 12000
+use Rattle.limits.specs.Limits.{nominatedLimit, unforcedLimit, factorLimit}
 
 -- a nominated kilowatts, converted: a × DR Factor × Forecast Pool Requirement / 100,000,000
 unfoldable pub convert : ℕ → ℕ → ℕ → ℕ

@@ -1,7 +1,11 @@
 // Nominated and unforced kilowatts: two units, with conversion the only way across.
 ghost use mathlib.Core.Path.{_≡_};
 ghost use Prim.Native.Nat.{_*_, _-_, _/_, _≤_};
-ghost use Rattle.units.specs.Units.{convert, nominatedLimit, unforcedLimit, factorLimit, most};
+ghost use Rattle.units.specs.Units.{convert};
+ghost use Rattle.limits.specs.Limits.{registrations, nominatedLimit, unforcedLimit, factorLimit};
+use limits::NOMINATED_KW;
+use limits::REGISTRATIONS;
+use limits::UNFORCED_KW;
 
 // Kilowatts as nominated.
 pub struct Nominated(pub u64);
@@ -11,7 +15,7 @@ pub struct Unforced(pub u64);
 
 impl Nominated {
     // The most of one registration.
-    pub const LIMIT: u64 = 100_000;
+    pub const LIMIT: u64 = NOMINATED_KW;
 
     // The kilowatts of one registration, never more than its limit.
     pub fn new(kw: u64) -> Nominated
@@ -27,7 +31,7 @@ impl Nominated {
 
     // The kilowatts of a seller: a sum over its registrations.
     pub fn sum(kw: u64) -> Nominated
-        requires { ⌜ kw ≤ most * nominatedLimit ⌝ }
+        requires { ⌜ kw ≤ registrations * nominatedLimit ⌝ }
         ensures { λ r. ⌜ r .0 ≡ kw ⌝ }
     {
         Nominated(kw)
@@ -56,7 +60,7 @@ impl Nominated {
 
     // Converted by the year's two factors, in ten-thousandths.
     pub fn unforced(self, factor: u64, requirement: u64) -> Unforced
-        requires { ⌜ (self .0 ≤ most * nominatedLimit) × (factor ≤ factorLimit) × (requirement ≤ factorLimit) ⌝ }
+        requires { ⌜ (self .0 ≤ registrations * nominatedLimit) × (factor ≤ factorLimit) × (requirement ≤ factorLimit) ⌝ }
         ensures { λ r. ⌜ r .0 ≡ convert factor requirement (self .0) ⌝ }
     {
         Unforced(self.0 * factor * requirement / 100_000_000)
@@ -65,15 +69,15 @@ impl Nominated {
 
 impl Unforced {
     // The most of one registration.
-    pub const LIMIT: u64 = 144_000;
+    pub const LIMIT: u64 = UNFORCED_KW;
 
     // The kilowatts of a seller: a sum over its registrations, or its deficit, never more than 64 registrations' limit.
     pub fn sum(kw: u64) -> Unforced
-        requires { ⌜ kw ≤ most * unforcedLimit ⌝ }
+        requires { ⌜ kw ≤ registrations * unforcedLimit ⌝ }
         ensures { λ r. ⌜ r .0 ≡ kw ⌝ }
     {
-        if 64 * Unforced::LIMIT < kw {
-            Unforced(64 * Unforced::LIMIT)
+        if REGISTRATIONS as u64 * Unforced::LIMIT < kw {
+            Unforced(REGISTRATIONS as u64 * Unforced::LIMIT)
         } else {
             Unforced(kw)
         }

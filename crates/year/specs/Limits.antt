@@ -10,10 +10,11 @@ use Rattle.ids.specs.Ids.{sumTo, only}
 use Rattle.ids.specs.Sums.{sum-bound}
 use Rattle.ids.specs.Tests.{cond-le}
 use Rattle.ids.specs.Each.{Each}
+use Rattle.limits.specs.Limits.{registrations, sellers, lses, areas, zones, nominatedLimit, rateLimit}
 use Rattle.year.specs.declared.Listing.{Listing}
 use Rattle.year.specs.declared.Terms.{Terms}
 use Rattle.year.specs.declared.Year.{Year}
-use Rattle.year.specs.Year.{registration, clearingsOf, retestOf, known, seller, area, zone, product, committed, fieldRate, size, lses, reduction, second}
+use Rattle.year.specs.Year.{registration, clearingsOf, retestOf, known, seller, area, zone, product, committed, fieldRate, size, lseCount, reduction, second}
 use Rattle.year.specs.Sound.{SoundRegistration, SoundClearings, AtMost, SoundListing, SoundRetest, SoundTerms, Sound}
 use Rattle.year.specs.StaysSound.{sound-no-registration, sound-no-clearings}
 
@@ -31,15 +32,15 @@ module _ {T : Terms} (s : SoundTerms T) where
   pub registration-sound : (i : ℕ) → SoundRegistration (registration T i)
   registration-sound = each-anywhere SoundRegistration sound-no-registration (s .registrations)
 
-  pub seller-below : (i : ℕ) → seller T i < 16
+  pub seller-below : (i : ℕ) → seller T i < sellers
   unfolding seller
   seller-below i = registration-sound i .seller
 
-  pub area-below : (i : ℕ) → area T i < 8
+  pub area-below : (i : ℕ) → area T i < areas
   unfolding area
   area-below i = registration-sound i .area
 
-  pub zone-below : (i : ℕ) → zone T i < 8
+  pub zone-below : (i : ℕ) → zone T i < zones
   unfolding zone
   zone-below i = registration-sound i .zone
 
@@ -47,12 +48,12 @@ module _ {T : Terms} (s : SoundTerms T) where
   unfolding product
   product-below i = registration-sound i .product
 
-  pub committed-most : (i : ℕ) → committed T i ≤ 100000
+  pub committed-most : (i : ℕ) → committed T i ≤ nominatedLimit
   unfolding committed
   committed-most i = registration-sound i .committed
 
-  pub committed-sum : (p : ℕ → Bool) (n : ℕ) → sumTo n (only p (committed T)) ≤ n * 100000
-  committed-sum p n = sum-bound n 100000 (only p (committed T)) (λ i l. cond-le (p i) (committed-most i))
+  pub committed-sum : (p : ℕ → Bool) (n : ℕ) → sumTo n (only p (committed T)) ≤ n * nominatedLimit
+  committed-sum p n = sum-bound n nominatedLimit (only p (committed T)) (λ i l. cond-le (p i) (committed-most i))
 
   pub committed-some : (i : ℕ) → known T i ≡ true → 1 ≤ committed T i
   unfolding known committed
@@ -62,27 +63,27 @@ module _ {T : Terms} (s : SoundTerms T) where
   unfolding known committed
   committed-blank i e = registration-sound i .blank e
 
-  pub field-rate-most : (i : ℕ) → fieldRate T i ≤ 100000
+  pub field-rate-most : (i : ℕ) → fieldRate T i ≤ rateLimit
   unfolding fieldRate
   field-rate-most i = registration-sound i .rate
 
-  pub size-is : size T ≡ 64
+  pub size-is : size T ≡ registrations
   size-is = s .registrations .long
 
-  pub lses-is : lses T ≡ 16
-  lses-is = s .obligations .long
+  pub lse-count-is : lseCount T ≡ lses
+  lse-count-is = s .obligations .long
 
 pub clearings-sound : {y : Year} → Sound y → (i : ℕ) → SoundClearings (clearingsOf y i)
 clearings-sound s = each-anywhere SoundClearings sound-no-clearings (s .clearings)
 
-pub retest-most : {y : Year} → Sound y → (i : ℕ) → retestOf y i .reduction ≤ 100000
+pub retest-most : {y : Year} → Sound y → (i : ℕ) → retestOf y i .reduction ≤ nominatedLimit
 retest-most s = each-anywhere SoundRetest (lit≤ tt) (s .retests)
 
 module _ {l : Listing} (s : SoundListing l) where
-  pub reduction-most : (i : ℕ) → reduction l i ≤ 100000
+  pub reduction-most : (i : ℕ) → reduction l i ≤ nominatedLimit
   unfolding reduction
-  reduction-most = each-anywhere (AtMost 100000) (lit≤ tt) (s .reductions)
+  reduction-most = each-anywhere (AtMost nominatedLimit) (lit≤ tt) (s .reductions)
 
-  pub second-most : (i : ℕ) → second l i ≤ 100000
+  pub second-most : (i : ℕ) → second l i ≤ nominatedLimit
   unfolding second
-  second-most = each-anywhere (AtMost 100000) (lit≤ tt) (s .second)
+  second-most = each-anywhere (AtMost nominatedLimit) (lit≤ tt) (s .second)

@@ -2,6 +2,7 @@
 use Prim.Native.Nat.{ℕ}
 use mathlib.Core.Bool.{true}
 use lib.ListN.{set, replicate}
+use Rattle.limits.specs.Limits.{registrations}
 use Rattle.year.specs.declared.Listing.{Listing}
 
 abbrev pub withEntry : Listing → ℕ → ℕ → Listing
@@ -15,4 +16,4 @@ withDeficit l s kw = record { listed = l .listed; reductions = l .reductions; se
 
 -- what a test keeps: an entry's first reduction alone
 abbrev pub single : Listing → Listing
-single l = record { listed = l .listed; reductions = l .reductions; second = replicate 64 0; deficits = l .deficits }
+single l = record { listed = l .listed; reductions = l .reductions; second = replicate registrations 0; deficits = l .deficits }

@@ -8,6 +8,7 @@ use native.Mathlib.Omega.{arith}
 use lib.Dec.{lit≤, lit<}
 use lib.ListN.{getD, replicate, length-replicate, getD-replicate, length-set}
 use Rattle.ids.specs.Each.{Each, each-set, each-replicate, each-tabulate}
+use Rattle.limits.specs.Limits.{registrations, parties, testGroups, eventLimit, clearingLimit, closeLimit, nominatedLimit, obligationLimit, rateLimit}
 use Rattle.year.specs.declared.Registration.{Registration}
 use Rattle.year.specs.declared.Clearings.{Clearings}
 use Rattle.year.specs.declared.Listing.{Listing}
@@ -26,7 +27,7 @@ false-true e t = absurd (let z : _≡_ {A = ℕ} 0 1 = cc in omega arith)
 
 pub sound-no-listing : SoundListing noListing
 sound-no-listing =
-    record { listed = length-replicate 64 false; reductions = each-replicate (AtMost 100000) 0 64 (lit≤ tt); second = each-replicate (AtMost 100000) 0 64 (lit≤ tt); deficits = each-replicate (AtMost 1000000) 0 16 (lit≤ tt); unlisted = λ i l e. getD-replicate 64 i 0 0 l }
+    record { listed = length-replicate registrations false; reductions = each-replicate (AtMost nominatedLimit) 0 registrations (lit≤ tt); second = each-replicate (AtMost nominatedLimit) 0 registrations (lit≤ tt); deficits = each-replicate (AtMost obligationLimit) 0 parties (lit≤ tt); unlisted = λ i l e. getD-replicate registrations i 0 0 l }
 
 sound-no-event : SoundEvent noEvent
 sound-no-event = record { month = lit≤ tt; listing = sound-no-listing }
@@ -40,32 +41,32 @@ sound-no-clearings = record { few = lit≤ tt; some = lit≤ tt; kw = lit≤ tt;
 
 sound-no-terms : SoundTerms noTerms
 sound-no-terms =
-    record { factors = record { leap = lit≤ tt; factor = lit≤ tt; requirement = lit≤ tt }; registrations = each-replicate SoundRegistration noRegistration 64 sound-no-registration; obligations = each-replicate (AtMost 1000000) 0 16 (lit≤ tt) }
+    record { factors = record { leap = lit≤ tt; factor = lit≤ tt; requirement = lit≤ tt }; registrations = each-replicate SoundRegistration noRegistration registrations sound-no-registration; obligations = each-replicate (AtMost obligationLimit) 0 parties (lit≤ tt) }
 
 sound-no-amounts : SoundAmounts noAmounts
 sound-no-amounts =
-    let none = each-replicate Fits42 0 16 (lit< tt) in
+    let none = each-replicate Fits42 0 parties (lit< tt) in
     record { compliance = none; test = none; credit = none; lse = none }
 
 -- the tests, each at its place
 abbrev SoundTests : Terms → List Test → Type 0
-SoundTests T ts = (k : ℕ) → k < 24 → SoundTest T k (getD ts k noTest)
+SoundTests T ts = (k : ℕ) → k < testGroups → SoundTest T k (getD ts k noTest)
 
 -- blank tests list nothing, so they suit all terms
-sound-no-tests : (T : Terms) {ts : List Test} → ts ≡ replicate 24 noTest → SoundTests T ts
+sound-no-tests : (T : Terms) {ts : List Test} → ts ≡ replicate testGroups noTest → SoundTests T ts
 unfolding listed
 sound-no-tests T e k l =
-    rw (e, getD-replicate 24 k noTest noTest l)
-    (record { listing = sound-no-listing; own = λ i m t. false-true (getD-replicate 64 i false false m) t; untaken = λ e i m. getD-replicate 64 i false false m })
+    rw (e, getD-replicate testGroups k noTest noTest l)
+    (record { listing = sound-no-listing; own = λ i m t. false-true (getD-replicate registrations i false false m) t; untaken = λ e i m. getD-replicate registrations i false false m })
 
 pub sound-new : Sound newYear
 sound-new =
-    record { closed = lit≤ tt; accepted = lit≤ tt; terms = sound-no-terms; clearings = each-replicate SoundClearings noClearings 64 sound-no-clearings; events = each-replicate SoundEvent noEvent 16 sound-no-event; testGroups = length-replicate 24 noTest; tests = sound-no-tests noTerms refl; retests = each-replicate SoundRetest noRetest 64 (lit≤ tt); billed = sound-no-amounts; fresh = λ e. (refl, refl, refl, refl) }
+    record { closed = lit≤ tt; accepted = lit≤ tt; terms = sound-no-terms; clearings = each-replicate SoundClearings noClearings registrations sound-no-clearings; events = each-replicate SoundEvent noEvent eventLimit sound-no-event; groups = length-replicate testGroups noTest; tests = sound-no-tests noTerms refl; retests = each-replicate SoundRetest noRetest registrations (lit≤ tt); billed = sound-no-amounts; fresh = λ e. (refl, refl, refl, refl) }
 
 module _ {y : Year} (s : Sound y) where
-  sound-terms : {opened : Bool} {T : Terms} {cs : List Clearings} → SoundTerms T → Each SoundClearings noClearings 64 cs → SoundTests T (y .tests) → Sound (withTerms y opened T cs)
+  sound-terms : {opened : Bool} {T : Terms} {cs : List Clearings} → SoundTerms T → Each SoundClearings noClearings registrations cs → SoundTests T (y .tests) → Sound (withTerms y opened T cs)
   sound-terms t c h =
-      record { closed = s .closed; accepted = s .accepted; terms = t; clearings = c; events = s .events; testGroups = s .testGroups; tests = h; retests = s .retests; billed = s .billed; fresh = s .fresh }
+      record { closed = s .closed; accepted = s .accepted; terms = t; clearings = c; events = s .events; groups = s .groups; tests = h; retests = s .retests; billed = s .billed; fresh = s .fresh }
 
   -- other terms with the same registrations
   sound-others : {opened : Bool} {T : Terms} → T .registrations ≡ y .terms .registrations → SoundTerms T → Sound (withTerms y opened T (y .clearings))
@@ -84,34 +85,34 @@ module _ {y : Year} (s : Sound y) where
       (s .clearings)
       (sound-no-tests _ (s .fresh e .2))
 
-  pub sound-lse : (id : ℕ) {kw : ℕ} → kw ≤ 1000000 → Sound (withLse y id kw)
+  pub sound-lse : (id : ℕ) {kw : ℕ} → kw ≤ obligationLimit → Sound (withLse y id kw)
   sound-lse id l =
       sound-others refl
-      (record { factors = s .terms .factors; registrations = s .terms .registrations; obligations = each-set (AtMost 1000000) 0 (s .terms .obligations) id l })
+      (record { factors = s .terms .factors; registrations = s .terms .registrations; obligations = each-set (AtMost obligationLimit) 0 (s .terms .obligations) id l })
 
-  pub sound-clearing : (id : ℕ) {price kw : ℕ} → clearingsOf y id .count < 4 → SoundClearings (clearingsOf y id) → price ≤ 100000 → 1 ≤ kw → kw ≤ 100000 → Sound (withClearing y id price kw)
+  pub sound-clearing : (id : ℕ) {price kw : ℕ} → clearingsOf y id .count < clearingLimit → SoundClearings (clearingsOf y id) → price ≤ rateLimit → 1 ≤ kw → kw ≤ rateLimit → Sound (withClearing y id price kw)
   sound-clearing id {price} {kw} l c p m k =
       let more : SoundClearings (clearedBy (clearingsOf y id) price kw) = record { few = omega arith; some = omega (arith, c .some); kw = omega (arith, c .kw); value = omega (arith, c .value, mul-le-mul p (le-refl kw)) } in
       sound-terms (s .terms) (each-set SoundClearings noClearings (s .clearings) id more) (s .tests)
 
-  pub sound-event : y .accepted < 16 → {e : Event} → SoundEvent e → Sound (withEvent y e)
+  pub sound-event : y .accepted < eventLimit → {e : Event} → SoundEvent e → Sound (withEvent y e)
   sound-event l h =
-      record { closed = s .closed; accepted = omega arith; terms = s .terms; clearings = s .clearings; events = each-set SoundEvent noEvent (s .events) (y .accepted) h; testGroups = s .testGroups; tests = s .tests; retests = s .retests; billed = s .billed; fresh = λ e. false-true e refl }
+      record { closed = s .closed; accepted = omega arith; terms = s .terms; clearings = s .clearings; events = each-set SoundEvent noEvent (s .events) (y .accepted) h; groups = s .groups; tests = s .tests; retests = s .retests; billed = s .billed; fresh = λ e. false-true e refl }
 
   pub sound-test : (group : ℕ) {t : Test} → SoundTest (y .terms) group t → Sound (withTest y group t)
   sound-test group {t} h =
-      record { closed = s .closed; accepted = s .accepted; terms = s .terms; clearings = s .clearings; events = s .events; testGroups = length-set (y .tests) group t ∙ s .testGroups; tests = kept-set (λ k u. k < 24 → SoundTest (y .terms) k u) noTest (y .tests) group (λ l. h) (s .tests); retests = s .retests; billed = s .billed; fresh = λ e. false-true e refl }
+      record { closed = s .closed; accepted = s .accepted; terms = s .terms; clearings = s .clearings; events = s .events; groups = length-set (y .tests) group t ∙ s .groups; tests = kept-set (λ k u. k < testGroups → SoundTest (y .terms) k u) noTest (y .tests) group (λ l. h) (s .tests); retests = s .retests; billed = s .billed; fresh = λ e. false-true e refl }
 
   -- a retest comes after a test, so the year has begun
   pub sound-retest : y .started ≡ true → {l : Listing} → SoundListing l → Sound (withRetest y l)
   unfolding reduction
   sound-retest e {l} h =
-      record { closed = s .closed; accepted = s .accepted; terms = s .terms; clearings = s .clearings; events = s .events; testGroups = s .testGroups; tests = s .tests; retests = each-tabulate SoundRetest noRetest 64 (λ i m. go i m (listed l i)); billed = s .billed; fresh = λ f. false-true f e }
+      record { closed = s .closed; accepted = s .accepted; terms = s .terms; clearings = s .clearings; events = s .events; groups = s .groups; tests = s .tests; retests = each-tabulate SoundRetest noRetest registrations (λ i m. go i m (listed l i)); billed = s .billed; fresh = λ f. false-true f e }
     where
-      go : (i : ℕ) → i < 64 → (b : Bool) → SoundRetest (cond b (retestBy l i) (retestOf y i))
+      go : (i : ℕ) → i < registrations → (b : Bool) → SoundRetest (cond b (retestBy l i) (retestOf y i))
       go i m true = h .reductions .at i m
       go i m false = s .retests .at i m
 
-  pub sound-close : y .closed < 15 → {billed : Amounts} → SoundAmounts billed → Sound (withClose y billed)
+  pub sound-close : y .closed < closeLimit → {billed : Amounts} → SoundAmounts billed → Sound (withClose y billed)
   sound-close l h =
-      record { closed = omega arith; accepted = s .accepted; terms = s .terms; clearings = s .clearings; events = s .events; testGroups = s .testGroups; tests = s .tests; retests = s .retests; billed = h; fresh = λ e. false-true e refl }
+      record { closed = omega arith; accepted = s .accepted; terms = s .terms; clearings = s .clearings; events = s .events; groups = s .groups; tests = s .tests; retests = s .retests; billed = h; fresh = λ e. false-true e refl }

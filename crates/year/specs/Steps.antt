@@ -4,6 +4,7 @@ use mathlib.Core.Bool.{Bool, true, cond}
 use mathlib.Core.List.{List}
 use lib.ListN.{set}
 use Rattle.ids.specs.Ids.{tabulate}
+use Rattle.limits.specs.Limits.{registrations}
 use Rattle.year.specs.declared.Registration.{Registration}
 use Rattle.year.specs.declared.Clearings.{Clearings}
 use Rattle.year.specs.declared.Listing.{Listing}
@@ -71,7 +72,7 @@ abbrev pub retestBy : Listing → ℕ → Retest
 retestBy l i = record { taken = true; reduction = reduction l i }
 
 abbrev pub withRetest : Year → Listing → Year
-withRetest y l = withRetests y (tabulate 64 (λ i. cond (listed l i) (retestBy l i) (retestOf y i)))
+withRetest y l = withRetests y (tabulate registrations (λ i. cond (listed l i) (retestBy l i) (retestOf y i)))
 
 -- a close, with the amounts to date
 abbrev pub withClose : Year → Amounts → Year

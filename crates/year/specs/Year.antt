@@ -4,6 +4,7 @@ use mathlib.Core.List.{List}
 use mathlib.Core.Bool.{Bool, false}
 use lib.ListN.{getD, length, take, replicate}
 use Rattle.ids.specs.Ids.{at}
+use Rattle.limits.specs.Limits.{registrations, sellers, lses, testGroups, eventLimit}
 use Rattle.year.specs.declared.Registration.{Registration}
 use Rattle.year.specs.declared.Clearings.{Clearings}
 use Rattle.year.specs.declared.Listing.{Listing}
@@ -22,7 +23,7 @@ abbrev pub noClearings : Clearings
 noClearings = record { count = 0; value = 0; kw = 0 }
 
 abbrev pub noListing : Listing
-noListing = record { listed = replicate 64 false; reductions = replicate 64 0; second = replicate 64 0; deficits = replicate 16 0 }
+noListing = record { listed = replicate registrations false; reductions = replicate registrations 0; second = replicate registrations 0; deficits = replicate sellers 0 }
 
 abbrev pub noEvent : Event
 noEvent = record { area = 0; month = 0; period = 0; dual = false; listing = noListing }
@@ -35,21 +36,21 @@ noRetest = record { taken = false; reduction = 0 }
 
 abbrev pub noTerms : Terms
 noTerms =
-    record { leap = 0; factor = 0; requirement = 0; registrations = replicate 64 noRegistration; obligations = replicate 16 0 }
+    record { leap = 0; factor = 0; requirement = 0; registrations = replicate registrations noRegistration; obligations = replicate lses 0 }
 
 abbrev pub noAmounts : Amounts
-noAmounts = record { compliance = replicate 16 0; test = replicate 16 0; credit = replicate 16 0; lse = replicate 16 0 }
+noAmounts = record { compliance = replicate sellers 0; test = replicate sellers 0; credit = replicate sellers 0; lse = replicate lses 0 }
 
 -- no year yet
 abbrev pub newYear : Year
 newYear =
-    record { opened = false; started = false; closed = 0; terms = noTerms; clearings = replicate 64 noClearings; events = replicate 16 noEvent; accepted = 0; tests = replicate 24 noTest; retests = replicate 64 noRetest; billed = noAmounts }
+    record { opened = false; started = false; closed = 0; terms = noTerms; clearings = replicate registrations noClearings; events = replicate eventLimit noEvent; accepted = 0; tests = replicate testGroups noTest; retests = replicate registrations noRetest; billed = noAmounts }
 
 -- the accepted events, in order of acceptance
 abbrev pub acceptedEvents : Year → List Event
 acceptedEvents y = take (y .accepted) (y .events)
 
--- event ev in order of acceptance, and the test at a place
+-- event ev in order of acceptance, and the test of a group
 abbrev pub eventAt : Year → ℕ → Event
 eventAt y ev = getD (y .events) ev noEvent
 
@@ -111,13 +112,9 @@ module _ (T : Terms) where
   abbrev pub size : ℕ
   size = length (T .registrations)
 
-  abbrev pub lses : ℕ
-  lses = length (T .obligations)
+  abbrev pub lseCount : ℕ
+  lseCount = length (T .obligations)
 
--- the place of the test of a zone and product
+-- the group of a zone and product
 abbrev pub testGroup : ℕ → ℕ → ℕ
 testGroup z p = 3 * z + p
-
--- the ids of sellers are below this
-abbrev pub sellers : ℕ
-sellers = 16

@@ -1,7 +1,12 @@
 // The delivery year: what the accepted records have made so far.
+use limits::EVENT_LIMIT;
+use limits::LSES;
+use limits::REGISTRATIONS;
+use limits::SELLERS;
+use limits::TEST_GROUPS;
 use units::Nominated;
 
-// A registration; the place of one that is not known holds zeros.
+// A registration; one that is not known holds zeros.
 pub struct Registration {
     pub known: bool,
     pub seller: u64,
@@ -22,13 +27,13 @@ pub struct Clearings {
 // What an event or a test lists: entries by registration, the second reduction of those that have two (0: of one); deficits by
 // seller (0: absent).
 pub struct Listing {
-    pub listed: [bool; 64],
-    pub reductions: [u32; 64],
-    pub second: [u32; 64],
-    pub deficits: [u32; 16],
+    pub listed: [bool; REGISTRATIONS],
+    pub reductions: [u32; REGISTRATIONS],
+    pub second: [u32; REGISTRATIONS],
+    pub deficits: [u32; SELLERS],
 }
 
-// `apart`: on-peak and off-peak are measured apart, by the first reductions and by the second.
+// `dual`: an entry has two figures, and off-peak is measured by the second.
 pub struct Event {
     pub area: u64,
     pub month: u64,
@@ -37,14 +42,14 @@ pub struct Event {
     pub listing: Listing,
 }
 
-// The test of a zone and product; the place of one that was not taken lists nothing.
+// The test of a group, a zone and product; one that was not taken lists nothing.
 pub struct Test {
     pub taken: bool,
     pub month: u64,
     pub listing: Listing,
 }
 
-// A registration's retest: the reduction that stands for its test's. The place of one that has none holds zeros.
+// A registration's retest: the reduction that stands for its test's. One that has none holds zeros.
 pub struct Retest {
     pub taken: bool,
     pub reduction: u64,
@@ -55,16 +60,16 @@ pub struct Terms {
     pub leap: u64,
     pub factor: u64,
     pub requirement: u64,
-    pub registrations: [Registration; 64],
-    pub obligations: [u64; 16],
+    pub registrations: [Registration; REGISTRATIONS],
+    pub obligations: [u64; LSES],
 }
 
 // Amounts to date in cents: three of each seller, and one of each LSE.
 pub struct Amounts {
-    pub compliance: [u64; 16],
-    pub test: [u64; 16],
-    pub credit: [u64; 16],
-    pub lse: [u64; 16],
+    pub compliance: [u64; SELLERS],
+    pub test: [u64; SELLERS],
+    pub credit: [u64; SELLERS],
+    pub lse: [u64; LSES],
 }
 
 // `started`: an event, test or close is accepted. `closed` counts the closes. What clearings come to and retests stand
@@ -75,10 +80,10 @@ pub struct Year {
     pub started: bool,
     pub closed: u64,
     pub terms: Terms,
-    pub clearings: [Clearings; 64],
-    pub events: [Event; 16],
+    pub clearings: [Clearings; REGISTRATIONS],
+    pub events: [Event; EVENT_LIMIT],
     pub accepted: usize,
-    pub tests: [Test; 24],
-    pub retests: [Retest; 64],
+    pub tests: [Test; TEST_GROUPS],
+    pub retests: [Retest; REGISTRATIONS],
     pub billed: Amounts,
 }

@@ -1,4 +1,4 @@
--- Where the year stands in its cells: four marks and the terms, then tables, one row an element. The entries of all tests are one table by registration, and those of all retests another.
+-- Where the year stands in its cells: single cells, then tables, one row an element. The entries of all tests are one table by registration, and those of all retests another.
 use Prim.Native.Nat.{ℕ, _+_, _*_}
 use mathlib.Core.Path.{_≡_}
 use mathlib.Core.Bool.{Bool, not, _&&_, cond}
@@ -6,6 +6,8 @@ use mathlib.Core.List.{List}
 use lib.Dec.{eqb}
 use lib.ListN.{length, replicate}
 use Rattle.ids.specs.Ids.{at, tabulate}
+use Rattle.limits.specs.Limits.{registrations, sellers, lses, testGroups, eventLimit}
+use Rattle.year_cells.specs.Places.{registrationWidth, clearingWidth, reductionsIn, deficitsIn, secondIn, eventListingIn, eventWidth, testDeficitsIn, testWidth, closedPlace, startedPlace, acceptedPlace, openedPlace, leapPlace, factorPlace, requirementPlace, registrationsPlace, obligationsPlace, eventsPlace, testsPlace, testEntriesPlace, billedPlace, billedTestPlace, billedCreditPlace, billedLsePlace, clearingsPlace, retestEntriesPlace, cellCount}
 use Rattle.year.specs.declared.Registration.{Registration}
 use Rattle.year.specs.declared.Clearings.{Clearings}
 use Rattle.year.specs.declared.Listing.{Listing}
@@ -15,14 +17,14 @@ use Rattle.year.specs.declared.Retest.{Retest}
 use Rattle.year.specs.declared.Terms.{Terms}
 use Rattle.year.specs.declared.Amounts.{Amounts}
 use Rattle.year.specs.declared.Year.{Year}
-use Rattle.year.specs.Year.{zone, product}
+use Rattle.year.specs.Year.{zone, product, testGroup}
 use Rattle.year.specs.Sound.{Sound}
 use Rattle.year_cells.specs.Rows.{from, rows}
 
 abbrev pub flag : ℕ → Bool
 flag x = not (eqb x 0)
 
--- rows of 7, of 3, of 208 and of 212 cells
+-- a row of each
 abbrev pub registrationAt : (ℕ → ℕ) → Registration
 registrationAt g =
     record { known = flag (g 0); seller = g 1; area = g 2; zone = g 3; product = g 4; committed = record { 0 = g 5 }; rate = g 6 }
@@ -32,61 +34,61 @@ clearingsAt g = record { count = g 0; value = g 1; kw = g 2 }
 
 abbrev pub listingAt : (ℕ → ℕ) → Listing
 listingAt g =
-    record { listed = tabulate 64 (λ i. flag (g i)); reductions = tabulate 64 (λ i. g (64 + i)); second = tabulate 64 (λ i. g (144 + i)); deficits = tabulate 16 (λ j. g (128 + j)) }
+    record { listed = tabulate registrations (λ i. flag (g i)); reductions = tabulate registrations (λ i. g (reductionsIn + i)); second = tabulate registrations (λ i. g (secondIn + i)); deficits = tabulate sellers (λ j. g (deficitsIn + j)) }
 
 abbrev pub eventAt : (ℕ → ℕ) → Event
-eventAt g = record { area = g 0; month = g 1; period = g 2; dual = flag (g 3); listing = listingAt (λ k. g (4 + k)) }
+eventAt g = record { area = g 0; month = g 1; period = g 2; dual = flag (g 3); listing = listingAt (λ k. g (eventListingIn + k)) }
 
 -- the terms
 unfoldable pub cellRegistrations : List ℕ → List Registration
-cellRegistrations c = rows registrationAt 7 64 7 c
+cellRegistrations c = rows registrationAt registrationWidth registrations registrationsPlace c
 
 unfoldable pub cellObligations : List ℕ → List ℕ
-cellObligations c = tabulate 16 (from 455 c)
+cellObligations c = tabulate lses (from obligationsPlace c)
 
 abbrev pub cellTerms : List ℕ → Terms
 cellTerms c =
-    record { leap = at c 4; factor = at c 5; requirement = at c 6; registrations = cellRegistrations c; obligations = cellObligations c }
+    record { leap = at c leapPlace; factor = at c factorPlace; requirement = at c requirementPlace; registrations = cellRegistrations c; obligations = cellObligations c }
 
 unfoldable pub cellEvents : List ℕ → List Event
-cellEvents c = rows eventAt 212 16 471 c
+cellEvents c = rows eventAt eventWidth eventLimit eventsPlace c
 
--- the place of registration i's test
+-- registration i's group
 unfoldable pub groupIn : List ℕ → ℕ → ℕ
-groupIn c i = 3 * zone (cellTerms c) i + product (cellTerms c) i
+groupIn c i = testGroup (zone (cellTerms c) i) (product (cellTerms c) i)
 
--- the test at place k: a row of 18 cells, and of the entries of all tests those whose registrations have this place
+-- the test of group k: its row, and of the entries of all tests those whose registrations have this group
 module _ (group : ℕ → ℕ) (entries : ℕ → ℕ) (k : ℕ) where
   abbrev pub entryAt : ℕ → Bool
   entryAt i = flag (entries i) && eqb (group i) k
 
   abbrev pub testAt : (ℕ → ℕ) → Test
   testAt g =
-      record { taken = flag (g 0); month = g 1; listing = record { listed = tabulate 64 entryAt; reductions = tabulate 64 (λ i. cond (entryAt i) (entries (64 + i)) 0); second = replicate 64 0; deficits = tabulate 16 (λ j. g (2 + j)) } }
+      record { taken = flag (g 0); month = g 1; listing = record { listed = tabulate registrations entryAt; reductions = tabulate registrations (λ i. cond (entryAt i) (entries (reductionsIn + i)) 0); second = replicate registrations 0; deficits = tabulate sellers (λ j. g (testDeficitsIn + j)) } }
 
 unfoldable pub cellTests : List ℕ → List Test
-cellTests c = tabulate 24 (λ k. testAt (groupIn c) (from 4295 c) k (from (3863 + 18 * k) c))
+cellTests c = tabulate testGroups (λ k. testAt (groupIn c) (from testEntriesPlace c) k (from (testsPlace + testWidth * k) c))
 
 unfoldable pub cellBilled : List ℕ → Amounts
 cellBilled c =
-    record { compliance = tabulate 16 (from 4423 c); test = tabulate 16 (from 4439 c); credit = tabulate 16 (from 4455 c); lse = tabulate 16 (from 4471 c) }
+    record { compliance = tabulate sellers (from billedPlace c); test = tabulate sellers (from billedTestPlace c); credit = tabulate sellers (from billedCreditPlace c); lse = tabulate lses (from billedLsePlace c) }
 
 unfoldable pub cellClearings : List ℕ → List Clearings
-cellClearings c = rows clearingsAt 3 64 4487 c
+cellClearings c = rows clearingsAt clearingWidth registrations clearingsPlace c
 
 -- the entries of all retests: 64 marks, then 64 reductions
 abbrev pub retestAt : (ℕ → ℕ) → ℕ → Retest
-retestAt g i = record { taken = flag (g i); reduction = g (64 + i) }
+retestAt g i = record { taken = flag (g i); reduction = g (reductionsIn + i) }
 
 unfoldable pub cellRetests : List ℕ → List Retest
-cellRetests c = tabulate 64 (retestAt (from 4679 c))
+cellRetests c = tabulate registrations (retestAt (from retestEntriesPlace c))
 
 -- the year in the cells
 abbrev pub yearIn : List ℕ → Year
 yearIn c =
-    record { opened = flag (at c 3); started = flag (at c 1); closed = at c 0; terms = cellTerms c; clearings = cellClearings c; events = cellEvents c; accepted = at c 2; tests = cellTests c; retests = cellRetests c; billed = cellBilled c }
+    record { opened = flag (at c openedPlace); started = flag (at c startedPlace); closed = at c closedPlace; terms = cellTerms c; clearings = cellClearings c; events = cellEvents c; accepted = at c acceptedPlace; tests = cellTests c; retests = cellRetests c; billed = cellBilled c }
 
--- what is asked and kept of the cells: there are 4807, and their year is sound
+-- what is asked and kept of the cells: how many there are, and that their year is sound
 pub record ValidCells (c : List ℕ) : Type 0 where
-  pub long : length c ≡ 4807
+  pub long : length c ≡ cellCount
   pub sound : Sound (yearIn c)

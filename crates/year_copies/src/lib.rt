@@ -3,23 +3,29 @@ ghost use mathlib.Core.Path.{_≡_};
 ghost use Prim.Native.Nat.{_+_, _≤_};
 ghost use lib.ListN.{length};
 ghost use Rattle.ids.specs.Ids.{tabulate};
+ghost use Rattle.limits.specs.Limits.{parties};
 ghost use Rattle.year_cells.specs.Rows.{from};
 ghost use Rattle.year_cells.specs.Layout.{yearIn};
+use limits::PARTIES;
+use limits::REGISTRATIONS;
 use year::Amounts;
 use year::Registration;
 use year::Terms;
-use year_cells::BILLED;
+use year_cells::BILLED_CREDIT_PLACE;
+use year_cells::BILLED_LSE_PLACE;
+use year_cells::BILLED_PLACE;
+use year_cells::BILLED_TEST_PLACE;
 use year_cells::Cells;
-use year_cells::OBLIGATIONS;
+use year_cells::OBLIGATIONS_PLACE;
 
-// 16 numbers from a place on, of any table.
-pub fn numbers_at(cells: &[u64], p: usize) -> [u64; 16]
-    requires { ⌜ p + 16 ≤ length (now cells) ⌝ }
-    ensures { λ r. ⌜ r ≡ tabulate 16 (from p (now (cells .entry))) ⌝ }
+// A number a seller, or a number an LSE, from a place on, of any table.
+pub fn numbers_at(cells: &[u64], p: usize) -> [u64; PARTIES]
+    requires { ⌜ p + parties ≤ length (now cells) ⌝ }
+    ensures { λ r. ⌜ r ≡ tabulate parties (from p (now (cells .entry))) ⌝ }
 {
-    let mut numbers = [0u64; 16];
+    let mut numbers = [0u64; PARTIES];
     let mut i: usize = 0;
-    while i < 16 {
+    while i < PARTIES {
         numbers[i] = cells[p + i];
         i += 1;
     }
@@ -27,13 +33,13 @@ pub fn numbers_at(cells: &[u64], p: usize) -> [u64; 16]
 }
 
 // The year's registrations.
-pub fn registrations_of(year: &Cells) -> [Registration; 64]
+pub fn registrations_of(year: &Cells) -> [Registration; REGISTRATIONS]
     ensures { λ r. ⌜ r ≡ yearIn (now (year .entry)) .terms .registrations ⌝ }
 {
     let first = year_cells::registration_at(year, 0);
-    let mut registrations = [first; 64];
+    let mut registrations = [first; REGISTRATIONS];
     let mut i: usize = 0;
-    while i < 64 {
+    while i < REGISTRATIONS {
         registrations[i] = year_cells::registration_at(year, i);
         i += 1;
     }
@@ -45,11 +51,11 @@ pub fn terms_of(year: &Cells) -> Terms
     ensures { λ r. ⌜ r ≡ yearIn (now (year .entry)) .terms ⌝ }
 {
     let registrations = registrations_of(year);
-    let obligations = numbers_at(year, OBLIGATIONS);
+    let obligations = numbers_at(year, OBLIGATIONS_PLACE);
     Terms {
-        leap: year[year_cells::LEAP],
-        factor: year[year_cells::FACTOR],
-        requirement: year[year_cells::REQUIREMENT],
+        leap: year[year_cells::LEAP_PLACE],
+        factor: year[year_cells::FACTOR_PLACE],
+        requirement: year[year_cells::REQUIREMENT_PLACE],
         registrations: registrations,
         obligations: obligations,
     }
@@ -59,10 +65,10 @@ pub fn terms_of(year: &Cells) -> Terms
 pub fn billed_of(year: &Cells) -> Amounts
     ensures { λ r. ⌜ r ≡ yearIn (now (year .entry)) .billed ⌝ }
 {
-    let compliance = numbers_at(year, BILLED);
-    let test = numbers_at(year, BILLED + 16);
-    let credit = numbers_at(year, BILLED + 32);
-    let lse = numbers_at(year, BILLED + 48);
+    let compliance = numbers_at(year, BILLED_PLACE);
+    let test = numbers_at(year, BILLED_TEST_PLACE);
+    let credit = numbers_at(year, BILLED_CREDIT_PLACE);
+    let lse = numbers_at(year, BILLED_LSE_PLACE);
     Amounts {
         compliance: compliance,
         test: test,

@@ -2,18 +2,19 @@
 ghost use mathlib.Core.Path.{_≡_};
 ghost use mathlib.Core.Bool.{true, false};
 ghost use Prim.Native.Nat.{_≤_, _<_};
+ghost use Rattle.limits.specs.Limits.{registrations, lses, clearingLimit, nominatedLimit, obligationLimit, rateLimit};
 ghost use Rattle.year.specs.Year.{clearingsOf};
 ghost use Rattle.year.specs.Steps.{withOpening, withRegistration, withLse, withClearing};
 ghost use Rattle.year.specs.Sound.{SoundRegistration, Factors};
 ghost use Rattle.year_cells.specs.Layout.{yearIn, ValidCells};
 use year::Registration;
-use year_cells::CLEARING;
-use year_cells::CLEARINGS;
+use year_cells::CLEARING_WIDTH;
+use year_cells::CLEARINGS_PLACE;
 use year_cells::Cells;
-use year_cells::OBLIGATIONS;
-use year_cells::OPENED;
-use year_cells::REGISTRATION;
-use year_cells::REGISTRATIONS;
+use year_cells::OBLIGATIONS_PLACE;
+use year_cells::OPENED_PLACE;
+use year_cells::REGISTRATION_WIDTH;
+use year_cells::REGISTRATIONS_PLACE;
 use year_cells::lay;
 
 // An opening: the year's leap mark and factors.
@@ -23,14 +24,14 @@ pub fn add_opening(year: &mut Cells, leap: u64, factor: u64, requirement: u64)
     ensures equals { λ r. ⌜ yearIn (now (year .exit)) ≡ withOpening (yearIn (now (year .entry))) leap factor requirement ⌝ }
     ensures valid { λ r. ⌜ ValidCells (now (year .exit)) ⌝ }
 {
-    lay(year, OPENED, &[1, leap, factor, requirement]);
+    lay(year, OPENED_PLACE, &[1, leap, factor, requirement]);
 }
 
 // One more registration, before any event, test or close.
 pub fn add_registration(year: &mut Cells, id: usize, r: Registration)
     requires { ⌜ ValidCells (now year) ⌝ }
     requires { ⌜ yearIn (now year) .started ≡ false ⌝ }
-    requires { ⌜ id < 64 ⌝ }
+    requires { ⌜ id < registrations ⌝ }
     requires { ⌜ r .known ≡ true ⌝ }
     requires { ⌜ SoundRegistration r ⌝ }
     ensures equals { λ u. ⌜ yearIn (now (year .exit)) ≡ withRegistration (yearIn (now (year .entry))) id r ⌝ }
@@ -38,28 +39,28 @@ pub fn add_registration(year: &mut Cells, id: usize, r: Registration)
 {
     let committed = r.committed;
     let row = [1, r.seller, r.area, r.zone, r.product, committed.0, r.rate];
-    lay(year, REGISTRATIONS + REGISTRATION * id, &row);
+    lay(year, REGISTRATIONS_PLACE + REGISTRATION_WIDTH * id, &row);
 }
 
 // One more LSE's obligation.
 pub fn add_lse(year: &mut Cells, id: usize, kw: u64)
     requires { ⌜ ValidCells (now year) ⌝ }
-    requires { ⌜ id < 16 ⌝ }
-    requires { ⌜ kw ≤ 1000000 ⌝ }
+    requires { ⌜ id < lses ⌝ }
+    requires { ⌜ kw ≤ obligationLimit ⌝ }
     ensures equals { λ r. ⌜ yearIn (now (year .exit)) ≡ withLse (yearIn (now (year .entry))) id kw ⌝ }
     ensures valid { λ r. ⌜ ValidCells (now (year .exit)) ⌝ }
 {
-    lay(year, OBLIGATIONS + id, &[kw]);
+    lay(year, OBLIGATIONS_PLACE + id, &[kw]);
 }
 
 // One more clearing of a registration that has fewer than four.
 pub fn add_clearing(year: &mut Cells, id: usize, price: u64, kw: u64)
     requires { ⌜ ValidCells (now year) ⌝ }
-    requires { ⌜ id < 64 ⌝ }
-    requires { ⌜ clearingsOf (yearIn (now year)) id .count < 4 ⌝ }
-    requires { ⌜ price ≤ 100000 ⌝ }
+    requires { ⌜ id < registrations ⌝ }
+    requires { ⌜ clearingsOf (yearIn (now year)) id .count < clearingLimit ⌝ }
+    requires { ⌜ price ≤ rateLimit ⌝ }
     requires { ⌜ 1 ≤ kw ⌝ }
-    requires { ⌜ kw ≤ 100000 ⌝ }
+    requires { ⌜ kw ≤ nominatedLimit ⌝ }
     ensures equals { λ r. ⌜ yearIn (now (year .exit)) ≡ withClearing (yearIn (now (year .entry))) id price kw ⌝ }
     ensures valid { λ r. ⌜ ValidCells (now (year .exit)) ⌝ }
 {
@@ -68,5 +69,5 @@ pub fn add_clearing(year: &mut Cells, id: usize, price: u64, kw: u64)
     let value = old.value;
     let cleared = old.kw;
     let row = [count + 1, value + price * kw, cleared + kw];
-    lay(year, CLEARINGS + CLEARING * id, &row);
+    lay(year, CLEARINGS_PLACE + CLEARING_WIDTH * id, &row);
 }

@@ -8,6 +8,8 @@ use native.Mathlib.Nat.{zero-add, add-assoc}
 use lib.ListN.{length}
 use Rattle.ids.specs.Ids.{at, tabulate}
 use Rattle.ids.specs.Tables.{length-tabulate, getD-tabulate}
+use Rattle.limits.specs.Limits.{registrations}
+use Rattle.year_cells.specs.Places.{reductionsIn, entriesWidth}
 use Rattle.year_cells.specs.Rows.{Laid, Same, same-on, same-before, same-behind}
 use Rattle.year_cells.specs.Layout.{flag}
 
@@ -17,29 +19,29 @@ module _ (c : List ℕ) (p : ℕ) (l : List ℕ) (q : ℕ) where
   mergedAt i = cond (flag (at l i)) (at l (q + i)) (at c (p + i))
 
   abbrev pub merged : List ℕ
-  merged = tabulate 64 mergedAt
+  merged = tabulate registrations mergedAt
 
 -- d is c with the listing's entries in the table
 pub record Entered (table : ℕ) (l c d : List ℕ) : Type 0 where
   pub long : length d ≡ length c
-  pub marks : (i : ℕ) → i < 64 → at d (table + i) ≡ cond (flag (at l i)) (at l i) (at c (table + i))
-  pub reductions : (i : ℕ) → i < 64 → at d (table + (64 + i)) ≡ cond (flag (at l i)) (at l (64 + i)) (at c (table + (64 + i)))
+  pub marks : (i : ℕ) → i < registrations → at d (table + i) ≡ cond (flag (at l i)) (at l i) (at c (table + i))
+  pub reductions : (i : ℕ) → i < registrations → at d (table + (reductionsIn + i)) ≡ cond (flag (at l i)) (at l (reductionsIn + i)) (at c (table + (reductionsIn + i)))
   pub before : (q w : ℕ) → q + w ≤ table → Same q w c d
-  pub behind : (q w : ℕ) → table + 128 ≤ q → Same q w c d
+  pub behind : (q w : ℕ) → table + entriesWidth ≤ q → Same q w c d
 
 -- it is laid by two rows
-pub entered : {table : ℕ} {l c m d : List ℕ} → Laid table (merged c table l 0) c m → Laid (table + 64) (merged c (table + 64) l 64) m d → Entered table l c d
+pub entered : {table : ℕ} {l c m d : List ℕ} → Laid table (merged c table l 0) c m → Laid (table + registrations) (merged c (table + registrations) l registrations) m d → Entered table l c d
 entered {table} {l} {c} {m} {d} g h =
     record {
       long = h .long ∙ g .long;
-      marks = λ i b. same-before h table 64 (omega arith) .cell i b ∙ g .inside i (omega (arith, sixty-four table 0)) ∙ entry table 0 i b ∙ rw (zero-add i);
-      reductions = λ i b. rw (← (add-assoc table 64 i)) (h .inside i (omega (arith, sixty-four (table + 64) 64)) ∙ entry (table + 64) 64 i b);
+      marks = λ i b. same-before h table registrations (omega arith) .cell i b ∙ g .inside i (omega (arith, merged-long table 0)) ∙ entry table 0 i b ∙ rw (zero-add i);
+      reductions = λ i b. rw (← (add-assoc table registrations i)) (h .inside i (omega (arith, merged-long (table + registrations) registrations)) ∙ entry (table + registrations) registrations i b);
       before = λ q w b. same-on (same-before g q w b) (same-before h q w (omega arith));
-      behind = λ q w b. same-on (same-behind g q w (omega (arith, sixty-four table 0))) (same-behind h q w (omega (arith, sixty-four (table + 64) 64)));
+      behind = λ q w b. same-on (same-behind g q w (omega (arith, merged-long table 0))) (same-behind h q w (omega (arith, merged-long (table + registrations) registrations)));
     }
   where
-    sixty-four : (p q : ℕ) → length (merged c p l q) ≡ 64
-    sixty-four p q = length-tabulate (mergedAt c p l q) 64
+    merged-long : (p q : ℕ) → length (merged c p l q) ≡ registrations
+    merged-long p q = length-tabulate (mergedAt c p l q) registrations
 
-    entry : (p q i : ℕ) → i < 64 → at (merged c p l q) i ≡ mergedAt c p l q i
-    entry p q i b = getD-tabulate (mergedAt c p l q) 64 i 0 b
+    entry : (p q i : ℕ) → i < registrations → at (merged c p l q) i ≡ mergedAt c p l q i
+    entry p q i b = getD-tabulate (mergedAt c p l q) registrations i 0 b

@@ -1,5 +1,5 @@
 -- The year in cells into which the rows of a test or a retest were laid: one fact a part, kept or laid anew.
-use Prim.Native.Nat.{ℕ, _+_, _*_, _≤_, _<_}
+use Prim.Native.Nat.{ℕ, _+_, _-_, _*_, _≤_, _<_}
 use mathlib.Core.Path.{_≡_, refl, _∙_}
 use mathlib.Core.Bool.{Bool, true, false, cond}
 use mathlib.Core.List.{List, [], _∷_, _++_}
@@ -11,6 +11,8 @@ use lib.ListN.{length, getD, take, drop, length-append, length-drop}
 use lib.Seq.{getD-append-add, getD-take, getD-drop, length-take-le}
 use Rattle.ids.specs.Ids.{at}
 use Rattle.ids.specs.Tables.{tabulate-same}
+use Rattle.limits.specs.Limits.{registrations, sellers, testGroups, eventLimit}
+use Rattle.year_cells.specs.Places.{registrationWidth, clearingWidth, reductionsIn, deficitsIn, listingWidth, eventWidth, testDeficitsIn, testWidth, entriesWidth, startedPlace, acceptedPlace, leapPlace, registrationsPlace, eventsPlace, testsPlace, testEntriesPlace, billedPlace, clearingsPlace, retestEntriesPlace, cellCount}
 use Rattle.year.specs.Year.{noRetest, noTest, listed}
 use Rattle.year.specs.Steps.{retestBy, withTest, withRetest}
 use Rattle.year.specs.Sound.{SoundTest}
@@ -21,80 +23,80 @@ use Rattle.year_test_steps.specs.Entered.{Entered}
 use Rattle.year_test_steps.specs.Tests.{takenTest, untaken-free, Tested, tests-laid}
 
 -- a test is laid by the mark, its head and its deficits, then its entries among those of all tests
-module _ {a b c d f : List ℕ} (l : List ℕ) (group : ℕ) {month : ℕ} (p : group < 24) (n : length l ≡ 208)
-    (start : Laid 1 (1 ∷ []) a b) (head : Laid (3863 + 18 * group) (1 ∷ month ∷ []) b c) (deficits : Laid (3863 + 18 * group + 2) (take 16 (drop 128 l)) c d)
-    (entries : Entered 4295 l d f) where
-  row : Laid (3863 + 18 * group) ((1 ∷ month ∷ []) ++ take 16 (drop 128 l)) b d
+module _ {a b c d f : List ℕ} (l : List ℕ) (group : ℕ) {month : ℕ} (p : group < testGroups) (n : length l ≡ listingWidth)
+    (start : Laid startedPlace (1 ∷ []) a b) (head : Laid (testsPlace + testWidth * group) (1 ∷ month ∷ []) b c) (deficits : Laid (testsPlace + testWidth * group + testDeficitsIn) (take sellers (drop deficitsIn l)) c d)
+    (entries : Entered testEntriesPlace l d f) where
+  row : Laid (testsPlace + testWidth * group) ((1 ∷ month ∷ []) ++ take sellers (drop deficitsIn l)) b d
   row = laid-on head deficits
 
-  eighteen : length ((1 ∷ month ∷ []) ++ take 16 (drop 128 l)) ≡ 18
-  eighteen =
-      omega (arith, length-append (1 ∷ month ∷ []) (take 16 (drop 128 l)), length-take-le 16 (drop 128 l) (omega (arith, length-drop 128 l)))
+  test-wide : length ((1 ∷ month ∷ []) ++ take sellers (drop deficitsIn l)) ≡ testWidth
+  test-wide =
+      omega (arith, length-append (1 ∷ month ∷ []) (take sellers (drop deficitsIn l)), length-take-le sellers (drop deficitsIn l) (omega (arith, length-drop deficitsIn l)))
 
   -- cells between the mark and the place's row, and behind this
-  between : (q w : ℕ) → 2 ≤ q → q + w ≤ 3863 → Same q w a f
+  between : (q w : ℕ) → acceptedPlace ≤ q → q + w ≤ testsPlace → Same q w a f
   between q w x y =
       same-on (same-on (same-behind start q w x) (same-before row q w (omega arith))) (entries .before q w (omega arith))
 
-  far : (q w : ℕ) → 4295 ≤ q → Same q w a d
-  far q w x = same-on (same-behind start q w (omega arith)) (same-behind row q w (omega (arith, eighteen)))
+  far : (q w : ℕ) → testEntriesPlace ≤ q → Same q w a d
+  far q w x = same-on (same-behind start q w (omega arith)) (same-behind row q w (omega (arith, test-wide)))
 
   laid : Tested group month l a f
   laid =
-      let here = entries .before (3863 + 18 * group) 18 (omega arith) in
+      let here = entries .before (testsPlace + testWidth * group) testWidth (omega arith) in
       record {
-        taken = here .cell 0 (lit< tt) ∙ row .inside 0 (omega (arith, eighteen));
-        month = here .cell 1 (lit< tt) ∙ row .inside 1 (omega (arith, eighteen));
-        deficits = λ j m. here .cell (2 + j) (omega arith) ∙ row .inside (2 + j) (omega (arith, eighteen)) ∙ getD-append-add (1 ∷ month ∷ []) (take 16 (drop 128 l)) j 0 ∙ getD-take 16 (drop 128 l) j 0 m ∙ getD-drop 128 l j 0;
-        others = λ k m x. same-on (same-on (same-behind start (3863 + 18 * k) 18 (omega arith)) (apart k m x (decLt k group))) (entries .before (3863 + 18 * k) 18 (omega arith));
-        marks = λ i m. rw (← (far 4295 128 (lit≤ tt) .cell i (omega arith))) (entries .marks i m);
-        reductions = λ i m. rw (← (far 4295 128 (lit≤ tt) .cell (64 + i) (omega arith))) (entries .reductions i m);
+        taken = here .cell 0 (lit< tt) ∙ row .inside 0 (omega (arith, test-wide));
+        month = here .cell 1 (lit< tt) ∙ row .inside 1 (omega (arith, test-wide));
+        deficits = λ j m. here .cell (testDeficitsIn + j) (omega arith) ∙ row .inside (testDeficitsIn + j) (omega (arith, test-wide)) ∙ getD-append-add (1 ∷ month ∷ []) (take sellers (drop deficitsIn l)) j 0 ∙ getD-take sellers (drop deficitsIn l) j 0 m ∙ getD-drop deficitsIn l j 0;
+        others = λ k m x. same-on (same-on (same-behind start (testsPlace + testWidth * k) testWidth (omega arith)) (apart k m x (decLt k group))) (entries .before (testsPlace + testWidth * k) testWidth (omega arith));
+        marks = λ i m. rw (← (far testEntriesPlace entriesWidth (lit≤ tt) .cell i (omega arith))) (entries .marks i m);
+        reductions = λ i m. rw (← (far testEntriesPlace entriesWidth (lit≤ tt) .cell (reductionsIn + i) (omega arith))) (entries .reductions i m);
       }
     where
-      apart : (k : ℕ) → k < 24 → k ≢ group → Dec (k < group) → Same (3863 + 18 * k) 18 b d
-      apart k m x (yes y) = same-before row (3863 + 18 * k) 18 (omega arith)
-      apart k m x (no y) = same-behind row (3863 + 18 * k) 18 (omega (arith, eighteen))
+      apart : (k : ℕ) → k < testGroups → k ≢ group → Dec (k < group) → Same (testsPlace + testWidth * k) testWidth b d
+      apart k m x (yes y) = same-before row (testsPlace + testWidth * k) testWidth (omega arith)
+      apart k m x (no y) = same-behind row (testsPlace + testWidth * k) testWidth (omega (arith, test-wide))
 
   pub test-laid : ValidCells a → getD (cellTests a) group noTest .taken ≡ false → SoundTest (cellTerms a) group (takenTest month (listingAt (at l)))
       → yearIn f ≡ withTest (yearIn a) group (takenTest month (listingAt (at l)))
   test-laid k x s =
-      let kept = between 2 3861 (lit≤ tt) (lit≤ tt) in
-      let registrations = registrations-kept (same-in 7 448 (lit≤ tt) (lit≤ tt) kept) in
-      let behind = same-on (far 4423 384 (lit≤ tt)) (entries .behind 4423 384 (lit≤ tt)) in
+      let kept = between acceptedPlace (testsPlace - acceptedPlace) (lit≤ tt) (lit≤ tt) in
+      let same = registrations-kept (same-in registrationsPlace (registrationWidth * registrations) (lit≤ tt) (lit≤ tt) kept) in
+      let behind = same-on (far billedPlace (cellCount - billedPlace) (lit≤ tt)) (entries .behind billedPlace (cellCount - billedPlace) (lit≤ tt)) in
       cc (
         same-on (same-on (same-before start 0 1 (lit≤ tt)) (same-before row 0 1 (omega arith))) (entries .before 0 1 (lit≤ tt)) .cell 0 (lit< tt),
         same-on (same-before row 1 1 (omega arith)) (entries .before 1 1 (lit≤ tt)) .cell 0 (lit< tt),
         start .inside 0 (lit< tt),
         kept .cell 0 (lit< tt),
         kept .cell 1 (lit< tt),
-        terms-kept (same-in 4 467 (lit≤ tt) (lit≤ tt) kept),
-        clearings-kept (same-in 4487 192 (lit≤ tt) (lit≤ tt) behind),
-        events-kept (same-in 471 3392 (lit≤ tt) (lit≤ tt) kept),
-        tests-laid laid p (groups-kept a f registrations) s (untaken-free a (k .sound) p x),
-        retests-kept (same-in 4679 128 (lit≤ tt) (lit≤ tt) behind),
-        billed-kept (same-in 4423 64 (lit≤ tt) (lit≤ tt) behind),
+        terms-kept (same-in leapPlace (eventsPlace - leapPlace) (lit≤ tt) (lit≤ tt) kept),
+        clearings-kept (same-in clearingsPlace (clearingWidth * registrations) (lit≤ tt) (lit≤ tt) behind),
+        events-kept (same-in eventsPlace (eventWidth * eventLimit) (lit≤ tt) (lit≤ tt) kept),
+        tests-laid laid p (groups-kept a f same) s (untaken-free a (k .sound) p x),
+        retests-kept (same-in retestEntriesPlace entriesWidth (lit≤ tt) (lit≤ tt) behind),
+        billed-kept (same-in billedPlace (clearingsPlace - billedPlace) (lit≤ tt) (lit≤ tt) behind),
       )
 
 -- a retest by its entries alone
-module _ {c d : List ℕ} (l : List ℕ) (entries : Entered 4679 l c d) where
-  retest : (i : ℕ) → i < 64 → (b : Bool) → flag (at l i) ≡ b → retestAt (from 4679 d) i ≡ cond b (retestBy (listingAt (at l)) i) (getD (cellRetests c) i noRetest)
+module _ {c d : List ℕ} (l : List ℕ) (entries : Entered retestEntriesPlace l c d) where
+  retest : (i : ℕ) → i < registrations → (b : Bool) → flag (at l i) ≡ b → retestAt (from retestEntriesPlace d) i ≡ cond b (retestBy (listingAt (at l)) i) (getD (cellRetests c) i noRetest)
   retest i m true e = cc (entries .marks i m, entries .reductions i m, e, row-reduction l m)
   retest i m false e = rw (retest-in c noRetest m) (cc (entries .marks i m, entries .reductions i m, e))
 
   pub retest-laid : yearIn d ≡ withRetest (yearIn c) (listingAt (at l))
   unfolding cellRetests
   retest-laid =
-      let kept = entries .before 0 4679 (lit≤ tt) in
-      let registrations = registrations-kept (same-in 7 448 (lit≤ tt) (lit≤ tt) kept) in
+      let kept = entries .before 0 retestEntriesPlace (lit≤ tt) in
+      let same = registrations-kept (same-in registrationsPlace (registrationWidth * registrations) (lit≤ tt) (lit≤ tt) kept) in
       cc (
         kept .cell 0 (lit< tt),
         kept .cell 1 (lit< tt),
         kept .cell 2 (lit< tt),
         kept .cell 3 (lit< tt),
-        terms-kept (same-in 4 467 (lit≤ tt) (lit≤ tt) kept),
-        clearings-kept (same-in 4487 192 (lit≤ tt) (lit≤ tt) kept),
-        events-kept (same-in 471 3392 (lit≤ tt) (lit≤ tt) kept),
-        tests-kept registrations (same-in 3863 560 (lit≤ tt) (lit≤ tt) kept),
-        tabulate-same 64 {f = retestAt (from 4679 d)} {g = λ i. cond (listed (listingAt (at l)) i) (retestBy (listingAt (at l)) i) (getD (cellRetests c) i noRetest)} (λ i m. rw (row-listed l m) (retest i m (flag (at l i)) refl)),
-        billed-kept (same-in 4423 64 (lit≤ tt) (lit≤ tt) kept),
+        terms-kept (same-in leapPlace (eventsPlace - leapPlace) (lit≤ tt) (lit≤ tt) kept),
+        clearings-kept (same-in clearingsPlace (clearingWidth * registrations) (lit≤ tt) (lit≤ tt) kept),
+        events-kept (same-in eventsPlace (eventWidth * eventLimit) (lit≤ tt) (lit≤ tt) kept),
+        tests-kept same (same-in testsPlace (billedPlace - testsPlace) (lit≤ tt) (lit≤ tt) kept),
+        tabulate-same registrations {f = retestAt (from retestEntriesPlace d)} {g = λ i. cond (listed (listingAt (at l)) i) (retestBy (listingAt (at l)) i) (getD (cellRetests c) i noRetest)} (λ i m. rw (row-listed l m) (retest i m (flag (at l i)) refl)),
+        billed-kept (same-in billedPlace (clearingsPlace - billedPlace) (lit≤ tt) (lit≤ tt) kept),
       )

@@ -4,6 +4,8 @@ ghost use mathlib.Core.Bool.{true, false};
 ghost use Prim.Native.Nat.{_<_};
 ghost use lib.ListN.{length, getD};
 ghost use Rattle.ids.specs.Ids.{at};
+ghost use Rattle.limits.specs.Limits.{testGroups};
+ghost use Rattle.year_cells.specs.Places.{listingWidth};
 ghost use Rattle.year.specs.Year.{noTest};
 ghost use Rattle.year.specs.Steps.{withTest, withRetest};
 ghost use Rattle.year.specs.Sound.{SoundListing, SoundTest};
@@ -11,44 +13,46 @@ ghost use Rattle.year_cells.specs.Layout.{listingAt, yearIn, ValidCells};
 ghost use Rattle.year_test_steps.specs.Tests.{takenTest};
 use crate::merging::enter;
 use year_cells::Cells;
-use year_cells::RETESTED;
-use year_cells::STARTED;
-use year_cells::TEST;
-use year_cells::TEST_DEFICITS;
-use year_cells::TESTED;
-use year_cells::TESTS;
+use year_cells::DEFICITS_IN;
+use year_cells::RETEST_ENTRIES_PLACE;
+use year_cells::SECOND_IN;
+use year_cells::STARTED_PLACE;
+use year_cells::TEST_DEFICITS_IN;
+use year_cells::TEST_ENTRIES_PLACE;
+use year_cells::TEST_WIDTH;
+use year_cells::TESTS_PLACE;
 use year_cells::lay;
 
 mod merging;
 
-// The test of a place that has none; its listing is a row by id: 64 marks, 64 reductions, 16 deficits, then what no test has.
+// The test of a group that has none; its listing is a row by id: 64 marks, 64 reductions, 16 deficits, then what no test has.
 pub fn add_test(year: &mut Cells, group: usize, month: u64, listing: &[u64])
     requires { ⌜ ValidCells (now year) ⌝ }
-    requires { ⌜ group < 24 ⌝ }
+    requires { ⌜ group < testGroups ⌝ }
     requires { ⌜ getD (yearIn (now year) .tests) group noTest .taken ≡ false ⌝ }
-    requires { ⌜ length (now listing) ≡ 208 ⌝ }
+    requires { ⌜ length (now listing) ≡ listingWidth ⌝ }
     requires { ⌜ SoundTest (yearIn (now year) .terms) group (takenTest month (listingAt (at (now listing)))) ⌝ }
     ensures equals { λ r. ⌜ yearIn (now (year .exit)) ≡ withTest (yearIn (now (year .entry))) group (takenTest month (listingAt (at (now (listing .entry))))) ⌝ }
     ensures valid { λ r. ⌜ ValidCells (now (year .exit)) ⌝ }
 {
-    lay(year, STARTED, &[1]);
-    lay(year, TESTS + TEST * group, &[1, month]);
+    lay(year, STARTED_PLACE, &[1]);
+    lay(year, TESTS_PLACE + TEST_WIDTH * group, &[1, month]);
     lay(
         year,
-        TESTS + TEST * group + TEST_DEFICITS,
-        &listing[128..144],
+        TESTS_PLACE + TEST_WIDTH * group + TEST_DEFICITS_IN,
+        &listing[DEFICITS_IN..SECOND_IN],
     );
-    enter(year, TESTED, listing);
+    enter(year, TEST_ENTRIES_PLACE, listing);
 }
 
 // A retest; its listing is such a row without deficits.
 pub fn add_retest(year: &mut Cells, listing: &[u64])
     requires { ⌜ ValidCells (now year) ⌝ }
     requires { ⌜ yearIn (now year) .started ≡ true ⌝ }
-    requires { ⌜ length (now listing) ≡ 208 ⌝ }
+    requires { ⌜ length (now listing) ≡ listingWidth ⌝ }
     requires { ⌜ SoundListing (listingAt (at (now listing))) ⌝ }
     ensures equals { λ r. ⌜ yearIn (now (year .exit)) ≡ withRetest (yearIn (now (year .entry))) (listingAt (at (now (listing .entry)))) ⌝ }
     ensures valid { λ r. ⌜ ValidCells (now (year .exit)) ⌝ }
 {
-    enter(year, RETESTED, listing);
+    enter(year, RETEST_ENTRIES_PLACE, listing);
 }

@@ -2,13 +2,17 @@
 ghost use mathlib.Core.Path.{_≡_};
 ghost use Prim.Native.Nat.{_+_, _≤_, _<_};
 ghost use lib.ListN.{length};
+ghost use Rattle.limits.specs.Limits.{registrations};
+ghost use Rattle.year_cells.specs.Places.{listingWidth, entriesWidth, cellCount};
 ghost use Rattle.year_test_steps.specs.Entered.{mergedAt, merged, Entered};
+use limits::REGISTRATIONS;
 use year_cells::Cells;
+use year_cells::REDUCTIONS_IN;
 use year_cells::lay;
 
 // An entry of a table with a listing's: where it lists, its own.
 fn merged_at(year: &Cells, place: usize, listing: &[u64], part: usize, i: usize) -> u64
-    requires { ⌜ place + i < 4807 ⌝ }
+    requires { ⌜ place + i < cellCount ⌝ }
     requires { ⌜ i < length (now listing) ⌝ }
     requires { ⌜ part + i < length (now listing) ⌝ }
     ensures { λ r. ⌜ r ≡ mergedAt (now (year .entry)) place (now (listing .entry)) part i ⌝ }
@@ -20,14 +24,14 @@ fn merged_at(year: &Cells, place: usize, listing: &[u64], part: usize, i: usize)
 }
 
 // All of them.
-fn merge(year: &Cells, place: usize, listing: &[u64], part: usize) -> [u64; 64]
-    requires { ⌜ place + 64 ≤ 4807 ⌝ }
-    requires { ⌜ part + 64 ≤ length (now listing) ⌝ }
+fn merge(year: &Cells, place: usize, listing: &[u64], part: usize) -> [u64; REGISTRATIONS]
+    requires { ⌜ place + registrations ≤ cellCount ⌝ }
+    requires { ⌜ part + registrations ≤ length (now listing) ⌝ }
     ensures { λ r. ⌜ r ≡ merged (now (year .entry)) place (now (listing .entry)) part ⌝ }
 {
-    let mut entries = [0u64; 64];
+    let mut entries = [0u64; REGISTRATIONS];
     let mut i: usize = 0;
-    while i < 64 {
+    while i < REGISTRATIONS {
         entries[i] = merged_at(year, place, listing, part, i);
         i += 1;
     }
@@ -36,13 +40,13 @@ fn merge(year: &Cells, place: usize, listing: &[u64], part: usize) -> [u64; 64]
 
 // A listing's entries go into a table: 64 marks, then 64 reductions.
 pub fn enter(year: &mut Cells, table: usize, listing: &[u64])
-    requires { ⌜ length (now year) ≡ 4807 ⌝ }
-    requires { ⌜ table + 128 ≤ 4807 ⌝ }
-    requires { ⌜ length (now listing) ≡ 208 ⌝ }
+    requires { ⌜ length (now year) ≡ cellCount ⌝ }
+    requires { ⌜ table + entriesWidth ≤ cellCount ⌝ }
+    requires { ⌜ length (now listing) ≡ listingWidth ⌝ }
     ensures { λ r. ⌜ Entered table (now (listing .entry)) (now (year .entry)) (now (year .exit)) ⌝ }
 {
     let marks = merge(year, table, listing, 0);
-    let reductions = merge(year, table + 64, listing, 64);
+    let reductions = merge(year, table + REDUCTIONS_IN, listing, REDUCTIONS_IN);
     lay(year, table, &marks);
-    lay(year, table + 64, &reductions);
+    lay(year, table + REDUCTIONS_IN, &reductions);
 }

@@ -2,6 +2,7 @@
 use borrow.Author.Needs.{needs}
 use native.Mathlib.Omega.{arith}
 use borrow.Author.Tests.{leb-true}
+use Rattle.limits.specs.Limits.{statementLimit}
 use Rattle.question_list.specs.Questions.{q16}
 use Rattle.book_recorded.specs.After.{yearBy}
 use Rattle.book_accept.specs.Leaves.{bufferWith, writtenWith}
@@ -81,7 +82,7 @@ close-month-requires c κs =
     let start = c .before .before .before .before .before .before .before in
     let is = c .before .before .before .head6 .given .1 in
     let t = rw is at (start .pre .1 .1 .0) in
-    (start .pre .0, (t .0, (t .1, leb-true 354 _ (rw is at (start .pre .1 .1 .1)))))
+    (start .pre .0, (t .0, (t .1, leb-true statementLimit _ (rw is at (start .pre .1 .1 .1)))))
 
 add-clearing-requires : tie.Need-add-clearing-requires
 unfolding Suits

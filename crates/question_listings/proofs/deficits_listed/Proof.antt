@@ -8,6 +8,8 @@ use borrow.Author.Tests.{not-true, not-false, eq-eqb, ne-eqb}
 use lib.Dec.{eqb}
 use Rattle.ids.specs.Ids.{at, holds, allTo}
 use Rattle.ids.specs.Tests.{all-more, all-fails}
+use Rattle.limits.specs.Limits.{sellers}
+use Rattle.year_cells.specs.Places.{deficitsIn}
 use Rattle.year.specs.Year.{deficit}
 use Rattle.year_cells.specs.Layout.{listingAt, cellTerms}
 use Rattle.year_cells.specs.Regions.{row-deficit}
@@ -33,7 +35,7 @@ returns c =
     let marks = c .before .before .before .before .before .sellers-listed in
     let s = c .before .before .before .before .loop .s in
     sym (all-fails 16 (λ k. eqb (deficit (listingAt (at row)) k) 0 || holds (marks .result) k) s (omega arith)
-    (rw (row-deficit row {s = s} (omega arith), ne-eqb (at row (128 + s)) 0 (c .before .if1 .taken), not-true (holds (marks .result) s) (c .if2 .taken))))
+    (rw (row-deficit row {s = s} (omega arith), ne-eqb (at row (deficitsIn + s)) 0 (c .before .if1 .taken), not-true (holds (marks .result) s) (c .if2 .taken))))
     ∙ deficits-listed (cellTerms (a .year .now)) (listingAt (at row)) (marks .ensures)
 
 loop-again : tie.Need-loop-again Inv-loop μ-loop
@@ -44,8 +46,8 @@ loop-again c =
       omega arith,
       all-more (l .s) (λ k. eqb (deficit (listingAt (at row)) k) 0 || holds marks k) (l .inv .1)
           (rw (row-deficit row {s = l .s} (omega arith))
-          (⊎-elim (λ w. rw (ne-eqb (at row (128 + l .s)) 0 (w .0 .taken), not-false (holds marks (l .s)) (w .1 .left)))
-          (λ w. rw (eq-eqb (at row (128 + l .s)) 0 (w .left))) (c .if1 .came))),
+          (⊎-elim (λ w. rw (ne-eqb (at row (deficitsIn + l .s)) 0 (w .0 .taken), not-false (holds marks (l .s)) (w .1 .left)))
+          (λ w. rw (eq-eqb (at row (deficitsIn + l .s)) 0 (w .left))) (c .if1 .came))),
     )
 
 returns-2 : tie.Need-returns-2 Inv-loop μ-loop

@@ -6,6 +6,7 @@ use native.Mathlib.Omega.{arith}
 use borrow.Author.Tests.{not-true, not-false}
 use Rattle.ids.specs.Ids.{at, allTo}
 use Rattle.ids.specs.Tests.{all-more, all-fails}
+use Rattle.limits.specs.Limits.{registrations}
 use Rattle.year.specs.Year.{listed, size}
 use Rattle.year.specs.Limits.{size-is}
 use Rattle.year_cells.specs.Layout.{listingAt, cellTerms, yearIn}
@@ -16,10 +17,10 @@ use Rattle.question_listings.proofs.every_listed.Tie as tie
 use Rattle.question_listings.proofs.passes.Reads as passes-reads
 
 abbrev Inv-loop : tie.InvT-loop
-Inv-loop year listing condition i₀ i = (i ≤ 64) × (allTo i (λ k. not (listed (listingAt (at listing)) k) || fulfils (yearIn year) condition k) ≡ true)
+Inv-loop year listing condition i₀ i = (i ≤ registrations) × (allTo i (λ k. not (listed (listingAt (at listing)) k) || fulfils (yearIn year) condition k) ≡ true)
 
 abbrev μ-loop : tie.MeasureT-loop
-μ-loop year listing condition i₀ i = 64 - i
+μ-loop year listing condition i₀ i = registrations - i
 
 loop-holds : tie.Need-loop-holds Inv-loop μ-loop
 unfolding allTo

@@ -6,6 +6,7 @@ use native.Mathlib.Omega.{arith}
 use borrow.Author.Tests.{not-true, not-false}
 use Rattle.ids.specs.Ids.{at, allTo}
 use Rattle.ids.specs.Tests.{all-more, all-fails}
+use Rattle.limits.specs.Limits.{registrations}
 use Rattle.year.specs.Year.{listed, size}
 use Rattle.year.specs.Limits.{size-is}
 use Rattle.year_cells.specs.Layout.{flag, listingAt, cellTerms, yearIn}
@@ -18,10 +19,10 @@ use Rattle.question_conditions.proofs.is_selected.Reads as is-selected-reads
 
 abbrev Inv-loop : tie.InvT-loop
 Inv-loop year listing selection i₀ i =
-    (i ≤ 64) × (allTo i (λ k. Bool·beq (listed (listingAt (at listing)) k) (selects (yearIn year) selection k)) ≡ true)
+    (i ≤ registrations) × (allTo i (λ k. Bool·beq (listed (listingAt (at listing)) k) (selects (yearIn year) selection k)) ≡ true)
 
 abbrev μ-loop : tie.MeasureT-loop
-μ-loop year listing selection i₀ i = 64 - i
+μ-loop year listing selection i₀ i = registrations - i
 
 loop-holds : tie.Need-loop-holds Inv-loop μ-loop
 unfolding allTo

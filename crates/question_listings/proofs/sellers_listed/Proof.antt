@@ -5,6 +5,7 @@ use mathlib.Core.Logic.{⊎-elim}
 use native.Mathlib.Omega.{arith}
 use borrow.Author.Tests.{eq-eqb, ne-eqb}
 use Rattle.ids.specs.Ids.{at}
+use Rattle.limits.specs.Limits.{registrations, sellers}
 use Rattle.year.specs.Year.{seller}
 use Rattle.year.specs.Limits.{seller-below, size-is}
 use Rattle.year_cells.specs.Layout.{listingAt, cellTerms}
@@ -15,10 +16,10 @@ use Rattle.question_listings.proofs.sellers_listed.Tie as tie
 use Rattle.year_cells.proofs.registration_at.Reads as registration-at-reads
 
 abbrev Inv-loop : tie.InvT-loop
-Inv-loop year listing sellers₀ i₀ sellers i = (i ≤ 64) × Marked (cellTerms year) (listingAt (at listing)) sellers i
+Inv-loop year listing sellers₀ i₀ sellers i = (i ≤ registrations) × Marked (cellTerms year) (listingAt (at listing)) sellers i
 
 abbrev μ-loop : tie.MeasureT-loop
-μ-loop year listing sellers₀ i₀ sellers i = 64 - i
+μ-loop year listing sellers₀ i₀ sellers i = registrations - i
 
 loop-holds : tie.Need-loop-holds Inv-loop μ-loop
 loop-holds c = (omega arith, marked-none _ _)

@@ -8,6 +8,7 @@ use native.Mathlib.Omega.{arith}
 use borrow.Author.Tests.{eq-eqb, ne-eqb}
 use lib.ListN.{length}
 use Rattle.ids.specs.Ids.{at}
+use Rattle.limits.specs.Limits.{registrations, sellers}
 use Rattle.record_layouts.specs.Layout.{listAt, itemsIn, itemAt, itemIn, mostNumbers}
 use Rattle.record_layouts.specs.LayoutLaws.{lists-few}
 use Rattle.record_layouts.specs.ListLaws.{length-list, item-some}
@@ -106,11 +107,11 @@ id-at : (c : tie.In-loop Inv-loop μ-loop) → (let s = c .before .before .befor
 id-at c = rw (c .before .loop .inv .1, add-zero)
 
 lacks : (c : tie.Then1 Inv-loop μ-loop) → (let l = c .before .before .before .loop in
-    (at (c .before .before .before .before .before .before .before .before .before .args .values .now) (l .p) < 16) × (l .p + 1 < mostNumbers))
+    (at (c .before .before .before .before .before .before .before .before .before .args .values .now) (l .p) < sellers) × (l .p + 1 < mostNumbers))
 lacks c = (rw (id-at (c .before .before)) at (deficit c .id), there (c .before .before) 1 (deficit c .inside))
 
 reduces : (c : tie.Else1 Inv-loop μ-loop) → (let l = c .before .before .before .loop in
-    (at (c .before .before .before .before .before .before .before .before .before .args .values .now) (l .p) < 64)
+    (at (c .before .before .before .before .before .before .before .before .before .args .values .now) (l .p) < registrations)
     × (l .p + c .before .before .before .before .before .part-at .result .reduction < mostNumbers))
 reduces c =
     let e = entry c in
@@ -118,7 +119,7 @@ reduces c =
 
 -- one with a second reduction is an entry
 twice : (c : tie.Then2 Inv-loop μ-loop) → (let l = c .before .before .before .before .loop in
-    (at (c .before .before .before .before .before .before .before .before .before .before .args .values .now) (l .p) < 64)
+    (at (c .before .before .before .before .before .before .before .before .before .before .args .values .now) (l .p) < registrations)
     × (l .p + c .before .before .before .before .before .before .part-at .result .second < mostNumbers))
 twice c =
     let n = counted (c .before .before .before .before .before .before) in

@@ -3,6 +3,7 @@ use Prim.Native.Nat.{_+_, _-_, _≤_}
 use mathlib.Core.Path.{_≡_, ap, _∙_}
 use mathlib.Core.Logic.{⊎-elim}
 use native.Mathlib.Omega.{arith}
+use Rattle.limits.specs.Limits.{registrations}
 use Rattle.settle_facts.specs.CellFacts.{facts}
 use Rattle.owed.specs.Facts.{Facts}
 use Rattle.owed.specs.Owed.{u, offU, daily, spent, charge}
@@ -19,7 +20,7 @@ abbrev Inv-loop : tie.InvT-loop
 Inv-loop year work₀ ev k peak month days all₀ i₀ work all i = Charging (facts year) k ev i work₀ work all
 
 abbrev μ-loop : tie.MeasureT-loop
-μ-loop year work₀ ev k peak month days all₀ i₀ work all i = 64 - i
+μ-loop year work₀ ev k peak month days all₀ i₀ work all i = registrations - i
 
 -- the registration has a share; its line, its daily charge and its charge to date, as the rules have them
 module _ (c : tie.After-line-at Inv-loop μ-loop) where
@@ -88,7 +89,7 @@ add-at-requires-2 c κs =
 returns : tie.Need-returns Inv-loop μ-loop
 returns c =
     let h = c .before .loop .inv in
-    let z : c .before .loop .i ≡ 64 = omega (arith, h .upto) in
+    let z : c .before .loop .i ≡ registrations = omega (arith, h .upto) in
     (charging-all h z, (rw z at (h .sum), h .aside))
 
 pub charge-spec : {M : Type 1} → statement M

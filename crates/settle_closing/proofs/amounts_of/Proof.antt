@@ -42,6 +42,7 @@ use denote.Triple.Table.{entered, cited}
 use denote.Triple.Walked.{says, needs, Stays, stay-dropped, walkOf, goes-dropped, Walks, ends-at, walked, walk-meets}
 use denote.Exit.{yes}
 use denote.Triple.Clauses.{ensured, lasts}
+use Rattle.year_cells.specs.Places.{cellCount}
 use Rattle.year.specs.declared.Registration.{Registration}
 use Rattle.year.specs.declared.Amounts.{Amounts}
 use Rattle.year_cells.specs.Layout.{yearIn, ValidCells}
@@ -65,7 +66,7 @@ abbrev runSlot : Slot 1
 runSlot = ArrayOf (plain (λ _. T.the-row)) (λ _. tt) 64
 
 abbrev yearSlot : Slot 1
-yearSlot = shrRefTo (0 ∷ []) tt (ArrayOf (plain (λ _. u64)) (λ _. tt) 4807)
+yearSlot = shrRefTo (0 ∷ []) tt (ArrayOf (plain (λ _. u64)) (λ _. tt) cellCount)
 
 abbrev stayed : Stays (f.ended .signature .params) (f.ended .kept)
 stayed = (stay-dropped runSlot yes, (stay-dropped yearSlot yes, (stay-dropped (plain (λ _. u64)) yes, tt)))
@@ -75,7 +76,7 @@ vals = LL.vals T.the-type T′.the-laws
 
 -- the year's cells, and the run by value
 abbrev Y : RattleType
-Y = Array u64 4807
+Y = Array u64 cellCount
 
 abbrev R : RattleType
 R = Array T.the-row 64

@@ -51,6 +51,7 @@ use denote.Triple.Table.{entered, cited}
 use denote.Triple.Walked.{says, needs, Stays, stay-dropped, walkOf, goes-dropped, Walks, ends-at, walked, walk-meets}
 use denote.Exit.{yes}
 use denote.Triple.Clauses.{ensured, lasts}
+use Rattle.year_cells.specs.Places.{cellCount}
 use Rattle.year.specs.Year.{noRegistration, registration}
 use Rattle.year.specs.declared.Registration.{Registration}
 use Rattle.year.specs.declared.Amounts.{Amounts}
@@ -83,7 +84,7 @@ abbrev slot : Slot 2
 slot = shrSliceOf (0 ∷ []) tt (plain (λ _. T.the-row))
 
 abbrev yearSlot : Slot 2
-yearSlot = shrRefTo (1 ∷ []) tt (ArrayOf (plain (λ _. u64)) (λ _. tt) 4807)
+yearSlot = shrRefTo (1 ∷ []) tt (ArrayOf (plain (λ _. u64)) (λ _. tt) cellCount)
 
 abbrev stayed : Stays (f.ended .signature .params) (f.ended .kept)
 stayed = (stay-dropped slot yes, (stay-dropped yearSlot yes, (stay-dropped (plain (λ _. u64)) yes, tt)))
@@ -100,7 +101,7 @@ wv w = only (array-vals (uint-vals w64) w)
 
 -- the year's cells, and the table
 abbrev Y : RattleType
-Y = Array u64 4807
+Y = Array u64 cellCount
 
 abbrev R : RattleType
 R = Array u64 size
@@ -177,7 +178,7 @@ module _ {M : Type 1} (𝓤 : URA M) (H : Heap 𝓤) (A : Atoms 𝓤) (W : Given
           nothing ! $ owned ! T.the-row (Is T.the-row) (LL.makes T.the-type T′.the-plain 𝓤 H A) r _ is $ fjoin ! $
           owned ! usize (Is usize) (uint-makes 𝓤 H A W w64) i _ (refl, fits) $ fjoin ! $ move ! (2 ∷ 0 ∷ []) $ fjoin ! $ move ! (1 ∷ 0 ∷ []) $ fjoin ! $ done !
 
-    -- the call of `close`
+    -- the call of `amounts_to_date`
     abbrev to-close : Close 𝓤 H A at-mem run .Ghost
     to-close = (((κ′, (α ∷ [], tt)), (q′, (fullShare, tt)), tt, (y, (lent, (k, tt))), (vptr b′ o′ ∷ [], (vptr l 0 ∷ [], (vint w64 k ∷ [], tt)))), tt)
 
@@ -205,7 +206,7 @@ module _ {M : Type 1} (𝓤 : URA M) (H : Heap 𝓤) (A : Atoms 𝓤) (W : Given
       slice = sliceTy (tyRef (named 0) imm (pointee (T.the-row .written)))
 
       abbrev yref : Ty
-      yref = tyRef (named 1) imm (tyArray word 4807)
+      yref = tyRef (named 1) imm (tyArray word cellCount)
 
       abbrev mref : Ty
       mref = tyRef erased mut arr

@@ -4,6 +4,7 @@ use mathlib.Core.Path.{_≡_, refl, _∙_}
 use mathlib.Core.Logic.{⊎-elim}
 use native.Mathlib.Omega.{arith}
 use Rattle.ids.specs.Ids.{at}
+use Rattle.limits.specs.Limits.{registrations}
 use Rattle.year.specs.Year.{listed}
 use Rattle.settle_charges.specs.Charging.{lineOf, line-is}
 use Rattle.settle_facts.specs.CellFacts.{facts}
@@ -20,7 +21,7 @@ abbrev Inv-loop : tie.InvT-loop
 Inv-loop year work₀ ev k charges days total allotment₀ i₀ work allotment i = Crediting (facts year) k ev i work₀ work allotment
 
 abbrev μ-loop : tie.MeasureT-loop
-μ-loop year work₀ ev k charges days total allotment₀ i₀ work allotment i = 64 - i
+μ-loop year work₀ ev k charges days total allotment₀ i₀ work allotment i = registrations - i
 
 sum-requires : tie.Need-sum-requires Inv-loop μ-loop
 sum-requires c κs =
@@ -75,7 +76,7 @@ loop-again c =
     (c .if1 .came)
 
 returns : tie.Need-returns Inv-loop μ-loop
-returns c = let h = c .before .loop .inv in let all : c .before .loop .i ≡ 64 = omega (arith, h .upto) in (crediting-all h all, (crediting-divisions h all, h .aside))
+returns c = let h = c .before .loop .inv in let all : c .before .loop .i ≡ registrations = omega (arith, h .upto) in (crediting-all h all, (crediting-divisions h all, h .aside))
 
 pub credit-spec : {M : Type 1} → statement M
 credit-spec =

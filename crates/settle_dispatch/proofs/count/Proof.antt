@@ -3,14 +3,14 @@ use Prim.Native.Nat.{_-_, _≤_}
 use mathlib.Core.Path.{_≡_}
 use native.Mathlib.Omega.{arith}
 use Rattle.settle_facts.specs.CellFacts.{facts}
-use Rattle.settle_table.specs.Places.{dispatchCountRow}
+use Rattle.settle_table.specs.Places.{dispatchCountRow, spentRow}
 use Rattle.settle_table.specs.Rows.{Aside, aside-none, aside-then}
 use Rattle.settle_dispatch.specs.Counting.{Counting, counting-first, dispatch-count-all, dispatched-all}
 use Rattle.settle_dispatch.proofs.count.Statement.{statement}
 use Rattle.settle_dispatch.proofs.count.Tie as tie
 
 abbrev Inv-loop : tie.InvT-loop
-Inv-loop year work₀ accepted ev₀ work ev = (ev ≤ accepted) × (Counting (facts year) ev work × Aside dispatchCountRow 128 work₀ work)
+Inv-loop year work₀ accepted ev₀ work ev = (ev ≤ accepted) × (Counting (facts year) ev work × Aside dispatchCountRow (spentRow - dispatchCountRow) work₀ work)
 
 abbrev μ-loop : tie.MeasureT-loop
 μ-loop year work₀ accepted ev₀ work ev = accepted - ev

@@ -3,6 +3,7 @@ use Prim.Native.Nat.{_-_}
 use mathlib.Core.Path.{ap, sym, _∙_}
 use mathlib.Core.Logic.{⊎-elim}
 use native.Mathlib.Omega.{arith}
+use Rattle.limits.specs.Limits.{registrations}
 use Rattle.settle_facts.specs.CellFacts.{facts}
 use Rattle.settle_facts.specs.declared.EventEntry.{EventEntry}
 use Rattle.ids.specs.Tests.{cond-le}
@@ -15,7 +16,7 @@ abbrev Inv-loop : tie.InvT-loop
 Inv-loop year work₀ ev one i₀ work i = Counts (facts year) ev i work₀ work
 
 abbrev μ-loop : tie.MeasureT-loop
-μ-loop year work₀ ev one i₀ work i = 64 - i
+μ-loop year work₀ ev one i₀ work i = registrations - i
 
 loop-holds : tie.Need-loop-holds Inv-loop μ-loop
 loop-holds c = counts-first (c .before .before .pre .1)

@@ -6,6 +6,7 @@ use native.Mathlib.Omega.{arith}
 use lib.Dec.{lit<}
 use lib.ListN.{length}
 use borrow.Author.Tests.{lt-ltb}
+use Rattle.limits.specs.Limits.{lses}
 use Rattle.allotment.specs.Allot.{share, share-zero}
 use Rattle.allotment.specs.Stepper.{Before, before-first, share-asks, share-value, share-next, share-skip, divisions-made}
 use Rattle.year.specs.Year.{obligation}
@@ -13,7 +14,7 @@ use Rattle.settle_facts.specs.CellFacts.{facts}
 use Rattle.owed.specs.Divisions.{knownLse, lseDivisions}
 use Rattle.owed_laws.specs.Limits.{limits}
 use Rattle.owed_laws.specs.Totals.{obligations-le}
-use Rattle.settle_table.specs.Places.{size, lseRow}
+use Rattle.settle_table.specs.Places.{lseRow, size}
 use Rattle.settle_table.specs.Rows.{Aside, aside-none, aside-more, Renewed, none, renewed-first, renewed-more, renewed-none}
 use Rattle.settle_lses.specs.Lses.{net, obligations}
 use Rattle.settle_lses.proofs.credit_lses.Statement.{statement}
@@ -21,8 +22,8 @@ use Rattle.settle_lses.proofs.credit_lses.Tie as tie
 
 abbrev Inv-loop : tie.InvT-loop
 Inv-loop year work₀ net₀ a₀ j₀ work a j =
-    (j ≤ 16) × (length work ≡ size) × Aside lseRow 16 work₀ work × Before 16 (knownLse (facts year)) (obligation (facts year .terms)) (net work₀) j a
-    × Renewed work lseRow 16 (share 16 (obligation (facts year .terms)) (net work₀)) none j
+    (j ≤ 16) × (length work ≡ size) × Aside lseRow lses work₀ work × Before 16 (knownLse (facts year)) (obligation (facts year .terms)) (net work₀) j a
+    × Renewed work lseRow lses (share 16 (obligation (facts year .terms)) (net work₀)) none j
 
 abbrev μ-loop : tie.MeasureT-loop
 μ-loop year work₀ net₀ a₀ j₀ work a j = 16 - j

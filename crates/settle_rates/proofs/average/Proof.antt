@@ -3,14 +3,15 @@ use Prim.Native.Nat.{_+_, _-_, _≤_}
 use mathlib.Core.Path.{_≡_, _∙_}
 use native.Mathlib.Omega.{arith}
 use borrow.Author.Needs.{needs}
-use Rattle.settle_table.specs.Places.{areaRateRow, areaKwRow, areaWorthRow}
+use Rattle.limits.specs.Limits.{areas}
+use Rattle.settle_table.specs.Places.{areaKwRow, areaWorthRow, areaRateRow}
 use Rattle.settle_table.specs.Rows.{Aside, Row, aside-none, aside-more, row-first, row-more}
 use Rattle.settle_rates.specs.Rating.{averageIn}
 use Rattle.settle_rates.proofs.average.Statement.{statement}
 use Rattle.settle_rates.proofs.average.Tie as tie
 
 abbrev Inv-loop : tie.InvT-loop
-Inv-loop work₀ a₀ work a = (a ≤ 8) × (Row work areaRateRow a (averageIn work₀) × Aside areaRateRow 8 work₀ work)
+Inv-loop work₀ a₀ work a = (a ≤ areas) × (Row work areaRateRow a (averageIn work₀) × Aside areaRateRow areas work₀ work)
 
 abbrev μ-loop : tie.MeasureT-loop
 μ-loop work₀ a₀ work a = 8 - a

@@ -5,6 +5,7 @@ use native.Mathlib.Omega.{arith}
 use native.Mathlib.Nat.{mul-le-mul}
 use borrow.Author.Needs.{needs}
 use borrow.Author.Tests.{lt-ltb, le-ltb}
+use Rattle.limits.specs.Limits.{unforcedLimit, rateLimit}
 use Rattle.settle_facts.specs.CellFacts.{facts}
 use Rattle.owed.specs.Owed.{cap}
 use Rattle.owed.specs.Owed as owed
@@ -68,9 +69,9 @@ mul-cap : tie.Need-mul-cap
 mul-cap c =
     let s = c .before .before .before .before .before .before .before .before .before .before .before .before .before .before in
     let L = limits (s .pre .0 .sound) in
-    let all : c .before .unforced .result .0 ≤ 144000 = rw (c .before .unforced .ensures, new-is (c .before .before .before .before .before .before .before .before)) (unforced-one L (L .committed (s .args .i))) in
-    let rate : c .before .before .get4 .result ≤ 100000 = rw (rate-is (c .before .before)) (L .rate (s .args .i)) in
-    let own : c .before .before .before .before .before .before .before .before .before .before .before .before .get .result ≤ 100000 = rw (own-is (c .before .before .before .before .before .before .before .before .before .before .before .before)) (L .own (s .args .i)) in
+    let all : c .before .unforced .result .0 ≤ unforcedLimit = rw (c .before .unforced .ensures, new-is (c .before .before .before .before .before .before .before .before)) (unforced-one L (L .committed (s .args .i))) in
+    let rate : c .before .before .get4 .result ≤ rateLimit = rw (rate-is (c .before .before)) (L .rate (s .args .i)) in
+    let own : c .before .before .before .before .before .before .before .before .before .before .before .before .get .result ≤ rateLimit = rw (own-is (c .before .before .before .before .before .before .before .before .before .before .before .before)) (L .own (s .args .i)) in
     record { fits = omega (arith, mul-le-mul all rate, mul-le-mul all own) }
 
 returns-3 : tie.Need-returns-3

@@ -1,4 +1,4 @@
--- `settle_shortfalls::entry_at` meets its contract: the look, held against the table's columns. Assumes nothing.
+-- `settle_shortfalls::entry_at` meets its contract: the look, compared with the table's columns. Assumes nothing.
 use Prim.Native.Nat.{_-_}
 use mathlib.Core.Path.{_≡_, _∙_}
 use native.Mathlib.Omega.{arith}

@@ -4,17 +4,18 @@ use mathlib.Core.Path.{_≡_, refl, sym, _∙_}
 use native.Mathlib.Omega.{arith}
 use lib.ListN.{length}
 use Rattle.ids.specs.Sets.{getD-replicate-same}
+use Rattle.limits.specs.Limits.{sellers}
 use Rattle.owed.specs.Owed.{test}
 use Rattle.settle_facts.specs.CellFacts.{facts}
-use Rattle.settle_table.specs.Places.{size, testRow}
+use Rattle.settle_table.specs.Places.{testRow, size}
 use Rattle.settle_table.specs.Rows.{Aside, aside-none, aside-more, Row, row-same, row-first, row-more}
 use Rattle.settle_tests.specs.Entries.{unless, none-taken}
-use Rattle.settle_tests.specs.Sums.{Summed}
+use Rattle.settle_tests.specs.Sums.{sumsWidth, Summed}
 use Rattle.settle_tests.proofs.charge_tests.Statement.{statement}
 use Rattle.settle_tests.proofs.charge_tests.Tie as tie
 
 abbrev Inv-loop : tie.InvT-loop
-Inv-loop year work₀ k sums s₀ work s = (s ≤ 16) × (length work ≡ size) × Aside testRow 16 work₀ work × Row work testRow s (test (facts year) k) × Summed year sums
+Inv-loop year work₀ k sums s₀ work s = (s ≤ 16) × (length work ≡ size) × Aside testRow sellers work₀ work × Row work testRow s (test (facts year) k) × Summed year sums
 
 abbrev μ-loop : tie.MeasureT-loop
 μ-loop year work₀ k sums s₀ work s = 16 - s
@@ -25,7 +26,7 @@ returns c =
     (row-same (s .pre .1 .1 .0) (λ j l. none-taken (s .pre .0) (s .args .k) j (sym (c .before .any-taken .ensures) ∙ unless _ (c .if1 .taken))), aside-none)
 
 sum-up-requires : tie.Need-sum-up-requires Inv-loop μ-loop
-sum-up-requires c κs = let s = c .before .before .before .before in (s .pre .0, (s .pre .1 .0, (refl, record { is = λ j l. getD-replicate-same 1152 (0 + j) 0 })))
+sum-up-requires c κs = let s = c .before .before .before .before in (s .pre .0, (s .pre .1 .0, (refl, record { is = λ j l. getD-replicate-same sumsWidth (0 + j) 0 })))
 
 loop-again : tie.Need-loop-again Inv-loop μ-loop
 loop-again c =

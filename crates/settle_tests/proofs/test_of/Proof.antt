@@ -5,6 +5,7 @@ use mathlib.Core.Logic.{⊎-elim}
 use native.Mathlib.Omega.{arith}
 use Rattle.ids.specs.Ids.{sumTo}
 use Rattle.ids.specs.Sums.{sum-step}
+use Rattle.limits.specs.Limits.{testGroups}
 use Rattle.owed.specs.Owed.{testCharge, test}
 use Rattle.owed_laws.specs.Limits.{limits}
 use Rattle.owed_laws.specs.Bounds.{D-le, test-le}
@@ -15,10 +16,10 @@ use Rattle.settle_tests.proofs.test_of.Statement.{statement}
 use Rattle.settle_tests.proofs.test_of.Tie as tie
 
 abbrev Inv-loop : tie.InvT-loop
-Inv-loop year sums s k days sum₀ place₀ sum group = (group ≤ 24) × (sum ≡ sumTo group (λ p. testCharge (facts year) k p s))
+Inv-loop year sums s k days sum₀ place₀ sum group = (group ≤ testGroups) × (sum ≡ sumTo group (λ p. testCharge (facts year) k p s))
 
 abbrev μ-loop : tie.MeasureT-loop
-μ-loop year sums s k days sum₀ place₀ sum group = 24 - group
+μ-loop year sums s k days sum₀ place₀ sum group = testGroups - group
 
 loop-holds : tie.Need-loop-holds Inv-loop μ-loop
 unfolding sumTo
@@ -54,7 +55,7 @@ loop-again c =
 
 returns : tie.Need-returns Inv-loop μ-loop
 unfolding test
-returns c = let l = c .before .loop in let z : l .group ≡ 24 = omega arith in rw z at (l .inv .1)
+returns c = let l = c .before .loop in let z : l .group ≡ testGroups = omega arith in rw z at (l .inv .1)
 
 pub test-of-spec : {M : Type 1} → statement M
 test-of-spec =

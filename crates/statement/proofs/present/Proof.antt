@@ -3,6 +3,7 @@ use Prim.Native.Nat.{_≤_, _-_}
 use mathlib.Core.Logic.{⊎-elim}
 use mathlib.Core.Path.{_≡_}
 use native.Mathlib.Omega.{arith}
+use Rattle.limits.specs.Limits.{sellers}
 use Rattle.year.specs.Year.{known, seller, size}
 use Rattle.year.specs.Limits.{seller-below, size-is}
 use Rattle.statement.specs.Statement.{hasRegistration}

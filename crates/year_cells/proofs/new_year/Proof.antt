@@ -2,6 +2,7 @@
 use Prim.Native.Nat.{ℕ}
 use lib.ListN.{replicate, length-replicate}
 use Rattle.ids.specs.Sets.{getD-replicate-same}
+use Rattle.year_cells.specs.Places.{cellCount}
 use Rattle.year.specs.StaysSound.{sound-new}
 use Rattle.year_cells.specs.Regions.{new-year}
 use Rattle.year_cells.proofs.new_year.Statement.{statement}
@@ -9,8 +10,8 @@ use Rattle.year_cells.proofs.new_year.Tie as tie
 
 returns : tie.Need-returns
 returns c =
-    let e = new-year (replicate 4807 0) (λ k. getD-replicate-same 4807 k 0) in
-    (e, record { long = length-replicate {A = ℕ} 4807 0; sound = rw e sound-new })
+    let e = new-year (replicate cellCount 0) (λ k. getD-replicate-same cellCount k 0) in
+    (e, record { long = length-replicate {A = ℕ} cellCount 0; sound = rw e sound-new })
 
 pub new-year-spec : {M : Type 1} → statement M
 new-year-spec = tie.close (tie.spec returns)

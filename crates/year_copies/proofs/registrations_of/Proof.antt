@@ -4,6 +4,8 @@ use mathlib.Core.Path.{_∙_}
 use native.Mathlib.Omega.{arith}
 use lib.ListN.{length-replicate}
 use Rattle.ids.specs.Fill.{Filled, filled-none, filled-more, filled-all}
+use Rattle.limits.specs.Limits.{registrations}
+use Rattle.year_cells.specs.Places.{registrationWidth, registrationsPlace}
 use Rattle.year.specs.Year.{noRegistration}
 use Rattle.year_cells.specs.Rows.{from}
 use Rattle.year_cells.specs.Layout.{registrationAt, cellRegistrations}
@@ -13,13 +15,13 @@ use Rattle.year_copies.proofs.registrations_of.Tie as tie
 use Rattle.year_cells.proofs.registration_at.Reads as registration-at-reads
 
 abbrev Inv-loop : tie.InvT-loop
-Inv-loop year registrations₀ i₀ registrations i = Filled noRegistration 64 (λ j. registrationAt (from (7 + 7 * j) year)) registrations i
+Inv-loop year copied₀ i₀ copied i = Filled noRegistration registrations (λ j. registrationAt (from (registrationsPlace + registrationWidth * j) year)) copied i
 
 abbrev μ-loop : tie.MeasureT-loop
-μ-loop year registrations₀ i₀ registrations i = 64 - i
+μ-loop year copied₀ i₀ copied i = registrations - i
 
 loop-holds : tie.Need-loop-holds Inv-loop μ-loop
-loop-holds c = filled-none (length-replicate 64 (c .registration-at .result))
+loop-holds c = filled-none (length-replicate registrations (c .registration-at .result))
 
 loop-again : tie.Need-loop-again Inv-loop μ-loop
 loop-again c =

@@ -4,6 +4,7 @@ use Prim.Native.Nat.{_+_, _*_, _<_}
 use mathlib.Core.Path.{_≡_, sym, _∙_}
 use native.Mathlib.Omega.{arith}
 use borrow.Author.Tests.{eq-eqb, ne-eqb}
+use Rattle.limits.specs.Limits.{zones}
 use Rattle.year.specs.Year.{zone, product}
 use Rattle.year.specs.Limits.{zone-below, product-below}
 use Rattle.year_cells.specs.Layout.{groupIn}
@@ -13,7 +14,7 @@ use Rattle.year_tested.proofs.tested_in.Tie as tie
 use Rattle.year_cells.proofs.registration_at.Reads as registration-at-reads
 
 -- the registration's place, and its limits
-zone-most : (c : tie.After-registration-at) → c .registration-at .result .zone < 8
+zone-most : (c : tie.After-registration-at) → c .registration-at .result .zone < zones
 unfolding zone
 zone-most c = rw (c .registration-at .ensures) (zone-below (c .before .pre .0 .sound .terms) (c .before .args .i))
 

@@ -7,8 +7,8 @@ use borrow.Author.Tests.{lt-ltb, le-ltb}
 use lib.Dec.{ltb}
 use Rattle.ids.specs.Ids.{anyTo}
 use Rattle.ids.specs.Tests.{any-at, any-none}
-use Rattle.year.specs.Year.{obligation, lses}
-use Rattle.year.specs.Limits.{lses-is}
+use Rattle.year.specs.Year.{obligation, lseCount}
+use Rattle.year.specs.Limits.{lse-count-is}
 use Rattle.year_cells.specs.Layout.{cellTerms}
 use Rattle.question_listings.proofs.registrations.any_lse.Statement.{statement}
 use Rattle.question_listings.proofs.registrations.any_lse.Tie as tie
@@ -29,7 +29,7 @@ returns c =
     let start = c .before .before .before .before in
     let T = cellTerms (start .args .year .now) in
     let j = c .before .before .before .loop .j in
-    sym (any-at (lses T) (λ k. ltb 0 (obligation T k)) j (omega (arith, lses-is (start .pre .sound .terms))) (lt-ltb 0 (obligation T j) (omega (arith, c .before .obligation-of .ensures, c .if1 .taken))))
+    sym (any-at (lseCount T) (λ k. ltb 0 (obligation T k)) j (omega (arith, lse-count-is (start .pre .sound .terms))) (lt-ltb 0 (obligation T j) (omega (arith, c .before .obligation-of .ensures, c .if1 .taken))))
 
 loop-again : tie.Need-loop-again Inv-loop μ-loop
 loop-again c =
@@ -40,7 +40,7 @@ loop-again c =
 returns-2 : tie.Need-returns-2 Inv-loop μ-loop
 returns-2 c =
     let start = c .before .before in
-    let all : c .before .loop .j ≡ lses (cellTerms (start .args .year .now)) = omega (arith, lses-is (start .pre .sound .terms)) in
+    let all : c .before .loop .j ≡ lseCount (cellTerms (start .args .year .now)) = omega (arith, lse-count-is (start .pre .sound .terms)) in
     sym (rw all at (c .before .loop .inv .1))
 
 pub any-lse-spec : {M : Type 1} → statement M

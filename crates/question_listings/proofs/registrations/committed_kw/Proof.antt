@@ -5,6 +5,7 @@ use native.Mathlib.Omega.{arith}
 use Rattle.ids.specs.Ids.{sumTo, only}
 use Rattle.ids.specs.Sums.{sum-step}
 use Rattle.ids.specs.Tests.{cond-le}
+use Rattle.limits.specs.Limits.{registrations, nominatedLimit}
 use Rattle.year.specs.Year.{committed}
 use Rattle.year.specs.Limits.{committed-most, committed-sum}
 use Rattle.year_cells.specs.Layout.{cellTerms, yearIn}
@@ -15,22 +16,22 @@ use Rattle.question_listings.proofs.registrations.committed_by.Reads as
 use Rattle.units.proofs.Nominated.sum.Reads as sum-reads
 
 abbrev Inv-loop : tie.InvT-loop
-Inv-loop year selection sum₀ i₀ sum i = (i ≤ 64) × (sum ≡ sumTo i (only (selects (yearIn year) selection) (committed (cellTerms year))))
+Inv-loop year selection sum₀ i₀ sum i = (i ≤ registrations) × (sum ≡ sumTo i (only (selects (yearIn year) selection) (committed (cellTerms year))))
 
 abbrev μ-loop : tie.MeasureT-loop
-μ-loop year selection sum₀ i₀ sum i = 64 - i
+μ-loop year selection sum₀ i₀ sum i = registrations - i
 
 loop-holds : tie.Need-loop-holds Inv-loop μ-loop
 unfolding sumTo
 loop-holds c = (omega arith, refl)
 
 -- what is summed, at most
-sum-most : (c : tie.At-loop Inv-loop μ-loop) → c .loop .sum ≤ c .loop .i * 100000
+sum-most : (c : tie.At-loop Inv-loop μ-loop) → c .loop .sum ≤ c .loop .i * nominatedLimit
 sum-most c =
     let s = c .before in
     rw (c .loop .inv .1) (committed-sum (s .pre .sound .terms) (selects (yearIn (s .args .year .now)) (s .args .selection)) (c .loop .i))
 
-one-most : (c : tie.After-committed-by Inv-loop μ-loop) → c .committed-by .result ≤ 100000
+one-most : (c : tie.After-committed-by Inv-loop μ-loop) → c .committed-by .result ≤ nominatedLimit
 one-most c =
     let s = c .before .before .before in
     let i = c .before .before .loop .i in
@@ -43,7 +44,7 @@ loop-again c =
 
 returns : tie.Need-returns Inv-loop μ-loop
 returns c =
-    let all : c .before .before .loop .i ≡ 64 = omega arith in
+    let all : c .before .before .loop .i ≡ registrations = omega arith in
     c .sum .ensures ∙ (rw all at (c .before .before .loop .inv .1))
 
 pub committed-kw-spec : {M : Type 1} → statement M

@@ -1,6 +1,7 @@
 -- `question_retest::retestable::may_retest` meets its contract. Assumes nothing.
 use borrow.Author.Needs.{needs}
 use mathlib.Core.Path.{sym, _∙_}
+use Rattle.limits.specs.Limits.{registrations}
 use Rattle.year.specs.Limits.{committed-sum}
 use Rattle.year_cells.specs.Layout.{yearIn}
 use Rattle.question_conditions.specs.declared.Selection.the-variants.{Failed}
@@ -31,7 +32,7 @@ returns-2 c =
 below-quarter-requires : tie.Need-below-quarter-requires
 below-quarter-requires c κs =
     let s = c .before .before .before .before .before .before .before in
-    rw (c .before .committed-kw .ensures) (committed-sum (s .pre .0 .sound .terms) (selects (yearIn (s .args .year .now)) (Failed (c .before .before .before .before .before .before .group-of .result) (s .args .t .seller))) 64)
+    rw (c .before .committed-kw .ensures) (committed-sum (s .pre .0 .sound .terms) (selects (yearIn (s .args .year .now)) (Failed (c .before .before .before .before .before .before .group-of .result) (s .args .t .seller))) registrations)
 
 returns-3 : tie.Need-returns-3
 unfolding hadRetest failedKw testedKw

@@ -1,7 +1,7 @@
 -- `settle_closing::events::bill_event` meets its contract: each pass finds what the one before it left. Assumes nothing.
 use native.Mathlib.Omega.{arith}
 use lib.Dec.{lit≤}
-use Rattle.settle_table.specs.Places.{dispatchCountRow, offURow, passedPlaces, offPeakPlaces}
+use Rattle.settle_table.specs.Places.{dispatchCountRow, offURow, offPeakPlaces, passedPlaces}
 use Rattle.settle_table.specs.Rows.{aside-then, row-aside, row-within}
 use Rattle.settle_shortfalls.specs.Sharing.{shares-aside}
 use Rattle.settle_charges.specs.Charging.{given-aside}

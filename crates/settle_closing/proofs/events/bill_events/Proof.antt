@@ -5,7 +5,7 @@ use native.Mathlib.Omega.{arith}
 use Rattle.settle_charges.specs.Charging.{billed-all}
 use Rattle.settle_credits.specs.Crediting.{credit-all}
 use Rattle.settle_facts.specs.CellFacts.{facts}
-use Rattle.settle_table.specs.Places.{dispatchCountRow, passedPlaces}
+use Rattle.settle_table.specs.Places.{dispatchCountRow, spentRow, passedPlaces}
 use Rattle.settle_table.specs.Rows.{Aside, aside-none, aside-then, row-within}
 use Rattle.settle_closing.specs.Passes.{Run, run-first}
 use Rattle.settle_closing.proofs.events.bill_events.Statement.{statement}
@@ -18,7 +18,7 @@ abbrev μ-loop : tie.MeasureT-loop
 μ-loop year work₀ k accepted ev₀ work ev = accepted - ev
 
 count-requires : tie.Need-count-requires Inv-loop μ-loop
-count-requires c κs = let s = c .before .pre in (s .0, (s .1 .1 .0 .long, row-within dispatchCountRow 128 (s .1 .1 .1) (omega arith) (omega arith)))
+count-requires c κs = let s = c .before .pre in (s .0, (s .1 .1 .0 .long, row-within dispatchCountRow (spentRow - dispatchCountRow) (s .1 .1 .1) (omega arith) (omega arith)))
 
 loop-holds : tie.Need-loop-holds Inv-loop μ-loop
 loop-holds c =

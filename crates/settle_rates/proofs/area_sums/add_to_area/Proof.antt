@@ -1,9 +1,10 @@
--- `settle_rates::area_sums::add_to_area` meets its contract: two sums of its area grow by what the registration lends.
+-- `settle_rates::area_sums::add_to_area` meets its contract: two sums of its area grow.
 use Prim.Native.Nat.{_+_, _≤_}
 use mathlib.Core.Path.{_≡_}
 use native.Mathlib.Omega.{arith}
 use native.Mathlib.Nat.{mul-le-mul}
 use borrow.Author.Needs.{needs}
+use Rattle.limits.specs.Limits.{nominatedLimit, rateLimit}
 use Rattle.year.specs.Year.{area, committed}
 use Rattle.year.specs.Sound.{SoundRegistration}
 use Rattle.settle_facts.specs.CellFacts.{facts}
@@ -23,10 +24,10 @@ area-at c =
     let s = c .before .before in
     rw (c .before .own-rate .ensures, s .pre .1 .0 .1) at (c .averaged-kw .ensures)
 
-area-most : (c : tie.After-averaged-kw) → c .averaged-kw .result .0 ≤ 100000
+area-most : (c : tie.After-averaged-kw) → c .averaged-kw .result .0 ≤ nominatedLimit
 area-most c = let s = c .before .before in rw (area-at c) (area-le (limits (s .pre .0 .sound)) (s .args .i))
 
-own-most : (c : tie.After-own-rate) → c .own-rate .result ≤ 100000
+own-most : (c : tie.After-own-rate) → c .own-rate .result ≤ rateLimit
 own-most c = let s = c .before in rw (c .own-rate .ensures) (limits (s .pre .0 .sound) .own (s .args .i))
 
 -- each sum has room for what is lent, and for what that is worth

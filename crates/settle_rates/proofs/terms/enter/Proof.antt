@@ -1,8 +1,9 @@
--- `settle_rates::terms::enter` meets its contract: what the registration lends, and seven stores, each its own.
+-- `settle_rates::terms::enter` meets its contract: what the registration adds to its area, and seven stores, each its own.
 use Prim.Native.Nat.{_≤_}
 use native.Mathlib.Omega.{arith}
 use native.Mathlib.Nat.{mul-le-mul}
 use borrow.Author.Needs.{needs}
+use Rattle.limits.specs.Limits.{unforcedLimit, rateLimit}
 use Rattle.year.specs.Year.{seller, area, zone, product, committed}
 use Rattle.year.specs.Sound.{SoundRegistration}
 use Rattle.year_cells.specs.Layout.{groupIn}
@@ -26,8 +27,8 @@ mul-cap : tie.Need-mul-cap
 mul-cap c =
     let s = c .before .before .before .before .before in
     let L = limits (s .pre .0 .sound) in
-    let all : c .before .unforced .result .0 ≤ 144000 = rw (c .before .unforced .ensures) (unforced-one L (sound s .committed)) in
-    let own : c .before .before .before .add-to-area .result ≤ 100000 = rw (c .before .before .before .add-to-area .ensures .0) (L .own (s .args .i)) in
+    let all : c .before .unforced .result .0 ≤ unforcedLimit = rw (c .before .unforced .ensures) (unforced-one L (sound s .committed)) in
+    let own : c .before .before .before .add-to-area .result ≤ rateLimit = rw (c .before .before .before .add-to-area .ensures .0) (L .own (s .args .i)) in
     record { fits = omega (arith, mul-le-mul all own, mul-le-mul all (sound s .rate)) }
 
 put-requires-6 : tie.Need-put-requires-6

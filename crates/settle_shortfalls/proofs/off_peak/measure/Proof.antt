@@ -1,6 +1,7 @@
--- `settle_shortfalls::off_peak::measure` meets its contract: sums, shortfalls and shares one after the other, or nothing where nothing is measured apart. Assumes nothing.
+-- `settle_shortfalls::off_peak::measure` meets its contract: sums, shortfalls and shares one after the other, or nothing where the event is not dual. Assumes nothing.
 use mathlib.Core.Path.{sym, _∙_}
 use native.Mathlib.Omega.{arith}
+use Rattle.limits.specs.Limits.{registrations}
 use Rattle.settle_facts.specs.CellFacts.{facts}
 use Rattle.settle_table.specs.Places.{offURow, offShortRow, offPeakPlaces}
 use Rattle.settle_table.specs.Rows.{aside-none, aside-then, row-aside, row-within}
@@ -23,7 +24,7 @@ share-requires c κs =
     let s = c .before .before .before .before .before .before .before .pre in
     let a = c .before .before .before .sums .ensures in
     let n = c .before .nets .ensures in
-    let fresh = row-within offURow 64 (s .1 .1 .1) (omega arith) (omega arith) in
+    let fresh = row-within offURow registrations (s .1 .1 .1) (omega arith) (omega arith) in
     (s .0, (s .1 .0, netted-all (n .0) (row-aside (row-aside fresh (a .1) (λ j l x y. omega arith)) (n .1) (λ j l x y. omega arith))))
 
 returns : tie.Need-returns

@@ -5,6 +5,7 @@ use mathlib.Core.Logic.{⊎-elim}
 use mathlib.Core.Bool.{true}
 use native.Mathlib.Omega.{arith}
 use lib.Dec.{lit≤}
+use Rattle.limits.specs.Limits.{registrations}
 use Rattle.settle_facts.specs.CellFacts.{facts}
 use Rattle.owed.specs.Owed.{measured}
 use Rattle.owed_laws.specs.Limits.{limits}
@@ -17,7 +18,7 @@ abbrev Inv-loop : tie.InvT-loop
 Inv-loop year work₀ ev i₀ work i = Sharing (facts year) ev i work₀ work
 
 abbrev μ-loop : tie.MeasureT-loop
-μ-loop year work₀ ev i₀ work i = 64 - i
+μ-loop year work₀ ev i₀ work i = registrations - i
 
 on : (c : tie.After-entry-at Inv-loop μ-loop) → c .entry-at .result .measured ≡ true → measured (facts (c .before .before .before .before .args .year .now)) (c .before .before .before .before .args .ev) (c .before .before .before .loop .i) ≡ true
 on c t = sym (ap (λ (x : OffPeakEntry). x .measured) (c .entry-at .ensures)) ∙ t

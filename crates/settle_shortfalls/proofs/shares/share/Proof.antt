@@ -5,6 +5,7 @@ use mathlib.Core.Logic.{⊎-elim}
 use mathlib.Core.Bool.{true}
 use native.Mathlib.Omega.{arith}
 use lib.Dec.{lit≤}
+use Rattle.limits.specs.Limits.{registrations}
 use Rattle.year.specs.Year.{listed}
 use Rattle.settle_facts.specs.CellFacts.{facts}
 use Rattle.owed_laws.specs.Limits.{limits}
@@ -17,7 +18,7 @@ abbrev Inv-loop : tie.InvT-loop
 Inv-loop year work₀ ev i₀ work i = Sharing (facts year) ev i work₀ work
 
 abbrev μ-loop : tie.MeasureT-loop
-μ-loop year work₀ ev i₀ work i = 64 - i
+μ-loop year work₀ ev i₀ work i = registrations - i
 
 is-listed : (c : tie.After-entry-at Inv-loop μ-loop) → c .entry-at .result .listed ≡ true → listed (facts (c .before .before .before .before .args .year .now) .event (c .before .before .before .before .args .ev) .listing) (c .before .before .before .loop .i) ≡ true
 is-listed c t = sym (ap (λ (x : MeasuredEntry). x .listed) (c .entry-at .ensures)) ∙ t
@@ -46,7 +47,7 @@ loop-again c =
     (c .if1 .came)
 
 returns : tie.Need-returns Inv-loop μ-loop
-returns c = let v = c .before .loop .inv in let all : c .before .loop .i ≡ 64 = omega (arith, v .upto) in (sharing-all v all, (sharing-divided v all, v .aside))
+returns c = let v = c .before .loop .inv in let all : c .before .loop .i ≡ registrations = omega (arith, v .upto) in (sharing-all v all, (sharing-divided v all, v .aside))
 
 pub share-spec : {M : Type 1} → statement M
 share-spec =

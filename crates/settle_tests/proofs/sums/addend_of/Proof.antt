@@ -4,6 +4,7 @@ use mathlib.Core.Path.{_≡_, _∙_}
 use native.Mathlib.Omega.{arith}
 use native.Mathlib.Nat.{mul-le-mul}
 use borrow.Author.Needs.{needs}
+use Rattle.limits.specs.Limits.{sellers, testGroups, nominatedLimit, rateLimit}
 use Rattle.year_cells.specs.Layout.{groupIn}
 use Rattle.year_tested.specs.Tested.{group-below}
 use Rattle.settle_facts.specs.CellFacts.{facts}
@@ -26,22 +27,22 @@ seller-is c = let s = c .before .before .before .before .before .before in c .ge
 rate-is : (c : tie.After-get4) → c .get4 .result ≡ owed.rate (facts (c .before .before .before .before .before .before .before .args .year .now)) (c .before .before .before .before .before .before .before .args .i)
 rate-is c = let s = c .before .before .before .before .before .before .before in c .get4 .ensures ∙ s .pre .1 .0 .columns .rate .is (s .args .i) (s .pre .1 .1)
 
-group-less : (c : tie.After-get2) → c .get2 .result < 24
+group-less : (c : tie.After-get2) → c .get2 .result < testGroups
 group-less c = rw (group-is c) (group-below (c .before .before .before .before .before .args .year .now) (c .before .before .before .before .before .pre .0 .sound) (c .before .before .before .before .before .args .i))
 
-committed-most : (c : tie.After-new) → c .new .result .0 ≤ 100000
+committed-most : (c : tie.After-new) → c .new .result .0 ≤ nominatedLimit
 committed-most c = rw (c .new .ensures ∙ committed-is (c .before)) (limits (c .before .before .before .before .pre .0 .sound) .committed (c .before .before .before .before .args .i))
 
 mul-worth : tie.Need-mul-t10
 mul-worth c =
     let L = limits (c .before .before .before .before .before .before .before .before .pre .0 .sound) in
-    let rate : c .before .get4 .result ≤ 100000 = rw (rate-is (c .before)) (L .rate (c .before .before .before .before .before .before .before .before .args .i)) in
+    let rate : c .before .get4 .result ≤ rateLimit = rw (rate-is (c .before)) (L .rate (c .before .before .before .before .before .before .before .before .args .i)) in
     record { fits = omega (arith, mul-le-mul (committed-most (c .before .before .before .before)) rate) }
 
 returns : tie.Need-returns
 returns c =
     let committed = c .before .before .before .before .new .ensures ∙ committed-is (c .before .before .before .before .before) in
-    λ j. record { key = 16 * group-is (c .before .before .before) j + seller-is (c .before .before) j; committed = record { 0 = committed j }; reduction = c .before .before .before .before .before .before .before .look .ensures j .reduction; worth = committed j * rate-is (c .before) j }
+    λ j. record { key = sellers * group-is (c .before .before .before) j + seller-is (c .before .before) j; committed = record { 0 = committed j }; reduction = c .before .before .before .before .before .before .before .look .ensures j .reduction; worth = committed j * rate-is (c .before) j }
 
 pub addend-of-spec : {M : Type 1} → statement M
 addend-of-spec =

@@ -7,16 +7,17 @@ use native.Mathlib.Omega.{arith}
 use lib.ListN.{replicate, length-replicate}
 use Rattle.ids.specs.Sets.{getD-replicate-same}
 use Rattle.ids.specs.Update.{Updated, updated-none, updated-more, updated-kept, updated-all}
+use Rattle.limits.specs.Limits.{registrations}
 use Rattle.settle_tests.specs.declared.sums.TestEntry.{TestEntry}
 use Rattle.settle_tests.specs.Entries.{stands, stands-off, stands-on}
 use Rattle.settle_tests.proofs.sums.standing.Statement.{statement}
 use Rattle.settle_tests.proofs.sums.standing.Tie as tie
 
 abbrev Inv-loop : tie.InvT-loop
-Inv-loop year work r₀ i₀ r i = Updated false 64 (stands year) (replicate 64 false) r i
+Inv-loop year work r₀ i₀ r i = Updated false registrations (stands year) (replicate registrations false) r i
 
 abbrev μ-loop : tie.MeasureT-loop
-μ-loop year work r₀ i₀ r i = 64 - i
+μ-loop year work r₀ i₀ r i = registrations - i
 
 loop-again : tie.Need-loop-again Inv-loop μ-loop
 loop-again c =
@@ -26,7 +27,7 @@ loop-again c =
     let on = sym (ap (λ (x : TestEntry). x .listed) (c .before .look .ensures)) in
     ⊎-elim
     (λ a. rw (a .2) (updated-more (l .inv) (omega arith) (stands-on y (l .i) (on ∙ a .0 .taken) (a .1 .ensures ∙ s .pre .dispatched .is (l .i) (omega arith)))))
-    (λ a. rw (a .1) (updated-kept (l .inv) (omega arith) (getD-replicate-same 64 (l .i) false ∙ stands-off y (l .i) (on ∙ a .0 .left))))
+    (λ a. rw (a .1) (updated-kept (l .inv) (omega arith) (getD-replicate-same registrations (l .i) false ∙ stands-off y (l .i) (on ∙ a .0 .left))))
     (c .if1 .came)
 
 pub standing-spec : {M : Type 1} → statement M
@@ -35,7 +36,7 @@ standing-spec =
     (tie.spec
     Inv-loop
     μ-loop
-    (λ c. updated-none (length-replicate 64 false))
+    (λ c. updated-none (length-replicate registrations false))
     (λ c κs. omega arith)
     (λ c κs. omega arith)
     (λ c. omega arith)

@@ -7,21 +7,22 @@ use native.Mathlib.Omega.{arith}
 use native.Mathlib.Nat.{mul-le-mul}
 use lib.ListN.{getD}
 use Rattle.ids.specs.Tables.{table-at}
+use Rattle.limits.specs.Limits.{registrations}
 use Rattle.owed_laws.specs.Limits.{limits}
 use Rattle.settle_tests.specs.Entries.{stands, standing-le}
-use Rattle.settle_tests.specs.Sums.{Summing, keyAt, key-below, summing-first, summing-none, summing-more, committed-room, reduction-room, worth-room}
+use Rattle.settle_tests.specs.Sums.{reductionSum, worthSum, Summing, keyAt, key-below, summing-first, summing-none, summing-more, committed-room, reduction-room, worth-room}
 use Rattle.settle_tests.proofs.sums.sum_up.Statement.{statement}
 use Rattle.settle_tests.proofs.sums.sum_up.Tie as tie
 
 abbrev Inv-loop : tie.InvT-loop
-Inv-loop year work sums₀ left i₀ sums i = (i ≤ 64) × Summing year i sums
+Inv-loop year work sums₀ left i₀ sums i = (i ≤ registrations) × Summing year i sums
 
 abbrev μ-loop : tie.MeasureT-loop
-μ-loop year work sums₀ left i₀ sums i = 64 - i
+μ-loop year work sums₀ left i₀ sums i = registrations - i
 
 -- whether the entry stands
 stands-is : (c : tie.In-loop Inv-loop μ-loop) {t : Bool} → getD (c .before .before .standing .result) (c .before .loop .i) false ≡ t → stands (c .before .before .before .args .year .now) (c .before .loop .i) ≡ t
-stands-is c e = sym (table-at (stands (c .before .before .before .args .year .now)) 64 (c .before .before .standing .ensures) false (c .loop-test .taken)) ∙ e
+stands-is c e = sym (table-at (stands (c .before .before .before .args .year .now)) registrations (c .before .before .standing .ensures) false (c .loop-test .taken)) ∙ e
 
 add-at-requires : tie.Need-add-at-requires Inv-loop μ-loop
 add-at-requires c κs =
@@ -38,7 +39,7 @@ add-at-requires-2 c κs =
     let b = key-below H (l .i) in
     let e = c .before .before .before .before .addend-of .ensures in
     let d = rw e at (c .before .add-at .ensures) in
-    let kept = d .others (384 + keyAt (s .args .year .now) (l .i)) (λ z. omega (arith, b)) in
+    let kept = d .others (reductionSum + keyAt (s .args .year .now) (l .i)) (λ z. omega (arith, b)) in
     rw e (omega (arith, b, d .long, l .inv .1 .long), omega (arith, standing-le H (l .i) (c .before .before .before .before .before .loop-test .taken) (stands-is (c .before .before .before .before .before) (c .before .before .before .if1 .taken)), kept, reduction-room H (l .inv .0) (l .inv .1) _ b))
 
 add-at-requires-3 : tie.Need-add-at-requires-3 Inv-loop μ-loop
@@ -51,7 +52,7 @@ add-at-requires-3 c κs =
     let e = c .before .before .before .before .before .before .addend-of .ensures in
     let d₁ = rw e at (c .before .before .before .add-at .ensures) in
     let d₂ = rw e at (c .before .add-at2 .ensures) in
-    let q = 768 + keyAt (s .args .year .now) (l .i) in
+    let q = worthSum + keyAt (s .args .year .now) (l .i) in
     rw e (omega (arith, b, d₂ .long, d₁ .long, l .inv .1 .long), omega (arith, mul-le-mul (L .committed (l .i)) (L .rate (l .i)), d₂ .others q (λ z. omega (arith, b)), d₁ .others q (λ z. omega (arith, b)), worth-room H (l .inv .0) (l .inv .1) _ b))
 
 loop-again : tie.Need-loop-again Inv-loop μ-loop
@@ -66,7 +67,7 @@ loop-again c =
     (c .if1 .came)
 
 returns : tie.Need-returns Inv-loop μ-loop
-returns c = let l = c .before .loop in let z : l .i ≡ 64 = omega arith in rw z at (l .inv .1)
+returns c = let l = c .before .loop in let z : l .i ≡ registrations = omega arith in rw z at (l .inv .1)
 
 pub sum-up-spec : {M : Type 1} → statement M
 sum-up-spec =

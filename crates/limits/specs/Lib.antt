@@ -1,0 +1,2 @@
+-- The limits of document 01, each once.
+pub mod Limits
