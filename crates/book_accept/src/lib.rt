@@ -67,7 +67,8 @@ pub fn accept(year: &mut Cells, head: Head, listing: &[u64], buffer: &mut [u8]) 
             0
         }
         Head::Test(t) => {
-            year_test_steps::add_test(year, (3 * t.zone + t.product) as usize, t.month, listing);
+            let group = year::group_of(t.zone, t.product);
+            year_test_steps::add_test(year, group as usize, t.month, listing);
             0
         }
         Head::Close(c) => close_month(year, c.month, buffer),

@@ -1,5 +1,5 @@
 // The limits of document 01, for the code: how many there may be of each, and the most of a figure (specs/Limits.antt).
-// Ids of registrations, of sellers and LSEs (the parties of a statement), and of areas are below these.
+// Ids of registrations, of sellers and LSEs (the parties of a statement), of areas and zones are below these; there are three products.
 pub const REGISTRATIONS: usize = 64;
 
 pub const PARTIES: usize = 16;
@@ -10,8 +10,12 @@ pub const LSES: usize = PARTIES;
 
 pub const AREAS: usize = 8;
 
+pub const ZONES: usize = 8;
+
+pub const PRODUCTS: usize = 3;
+
 // A group is a zone and a product: a group has one test.
-pub const TEST_GROUPS: usize = 3 * 8;
+pub const TEST_GROUPS: usize = PRODUCTS * ZONES;
 
 // The events that a year takes, and the months that are closed.
 pub const EVENT_LIMIT: usize = 16;

@@ -16,7 +16,7 @@ use Rattle.year.specs.declared.Event.{Event}
 use Rattle.year.specs.declared.Test.{Test}
 use Rattle.year.specs.declared.Listing.{Listing}
 use Rattle.year.specs.declared.Year.{Year}
-use Rattle.year.specs.Year.{noListing, noEvent, noTest, zone, product, obligation}
+use Rattle.year.specs.Year.{noListing, noEvent, noTest, zone, product, testGroup, obligation}
 use Rattle.year.specs.Year as year
 use Rattle.year.specs.Sound.{SoundListing, AtMost, Sound}
 use Rattle.year.specs.Limits.{each-anywhere, clearings-sound, seller-below, area-below, zone-below, product-below, committed-most, committed-some, committed-blank, field-rate-most, retest-most, reduction-most, second-most}
@@ -93,13 +93,13 @@ module _ {y : Year} (S : Sound y) where
   -- a registration is in the test of its zone and product alone
   in-one-test : (i : ℕ) → i < registrations → countTo testGroups (λ p. year.listed (factsOf y .test p .listing) i) ≤ 1
   in-one-test i l =
-      let own = 3 * zone (y .terms) i + product (y .terms) i in
+      let own = testGroup (zone (y .terms) i) (product (y .terms) i) in
       le-trans (sum-le testGroups (λ p b. go p (year.listed (factsOf y .test p .listing) i) (S .tests p b .own i l)))
       (le-of-eq (sum-at testGroups own 1 (omega (arith, zone-below (S .terms) i, product-below (S .terms) i))))
     where
-      go : (p : ℕ) (b : Bool) → (b ≡ true → 3 * zone (y .terms) i + product (y .terms) i ≡ p)
-          → cond b 1 0 ≤ cond (eqb (3 * zone (y .terms) i + product (y .terms) i) p) 1 0
-      go p true h = rw (eq-eqb (3 * zone (y .terms) i + product (y .terms) i) p (h refl)) (le-refl 1)
+      go : (p : ℕ) (b : Bool) → (b ≡ true → testGroup (zone (y .terms) i) (product (y .terms) i) ≡ p)
+          → cond b 1 0 ≤ cond (eqb (testGroup (zone (y .terms) i) (product (y .terms) i)) p) 1 0
+      go p true h = rw (eq-eqb (testGroup (zone (y .terms) i) (product (y .terms) i)) p (h refl)) (le-refl 1)
       go p false h = omega arith
 
   own-most : (i : ℕ) → own (factsOf y) i ≤ rateLimit

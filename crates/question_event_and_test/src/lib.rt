@@ -76,7 +76,8 @@ pub fn test_number(year: &Cells, t: TestHead, listing: &[u64]) -> u64
     if !may_test(year, t.product, t.month) {
         return 11;
     }
-    if year_tested::test_taken(year, (3 * t.zone + t.product) as usize) {
+    let group = year::group_of(t.zone, t.product);
+    if year_tested::test_taken(year, group as usize) {
         return 13;
     }
     if lists_exactly(year, listing, Selection::Undispatched(t.zone, t.product)) {

@@ -12,7 +12,6 @@ ghost use Rattle.year_cells.specs.Layout.{listingAt, yearIn, ValidCells};
 ghost use Rattle.record_heads.specs.Within.{GroupWithin};
 ghost use Rattle.question_conditions.specs.Entries.{inGroup, everyListed};
 ghost use Rattle.question_list.specs.Questions.{monthBegun, mayTest, questions};
-use crate::retestable::group_of;
 use crate::retestable::may_retest;
 use question_conditions::Condition;
 use question_conditions::Selection;
@@ -45,7 +44,7 @@ fn in_time(year: &Cells, t: RetestHead) -> bool
     if !may_test(year, t.product, t.month) {
         return false;
     }
-    let group = group_of(t) as usize;
+    let group = year::group_of(t.zone, t.product) as usize;
     if !year_tested::test_taken(year, group) {
         return true;
     }
@@ -72,7 +71,7 @@ pub fn retest_number(year: &Cells, t: RetestHead, listing: &[u64]) -> u64
     if !may_retest(year, t) {
         return 20;
     }
-    let group = group_of(t);
+    let group = year::group_of(t.zone, t.product);
     if lists_exactly(year, listing, Selection::Failed(group, t.seller)) {
         0
     } else {

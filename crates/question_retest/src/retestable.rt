@@ -1,4 +1,4 @@
-// May a seller retest: question 20, and the group of the test that is retested.
+// May a seller retest: question 20.
 ghost use mathlib.Core.Path.{_≡_};
 ghost use mathlib.Core.Bool.{not, _&&_};
 ghost use Prim.Native.Nat.{_≤_};
@@ -16,14 +16,6 @@ use record_heads::RetestHead;
 use units::Nominated;
 use year_cells::Cells;
 
-// The group of a retest: its zone and product.
-pub fn group_of(t: RetestHead) -> u64
-    requires { ⌜ GroupWithin (t .zone) (t .product) ⌝ }
-    ensures { λ r. ⌜ r ≡ testGroup (t .zone) (t .product) ⌝ }
-{
-    3 * t.zone + t.product
-}
-
 // Are failed kW × 4 between 1 and one less than tested kW?
 fn below_quarter(failed: Nominated, tested: Nominated) -> bool
     requires { ⌜ failed .0 ≤ nominatedSum ⌝ }
@@ -39,7 +31,7 @@ pub fn may_retest(year: &Cells, t: RetestHead) -> bool
     requires { ⌜ GroupWithin (t .zone) (t .product) ⌝ }
     ensures { λ r. ⌜ r ≡ (let y = yearIn (now (year .entry)) in let p = testGroup (t .zone) (t .product) in getD (y .tests) p noTest .taken && (not (hadRetest (factsOf y) p (t .seller)) && belowQuarter (failedKw (factsOf y) p (t .seller)) (testedKw (factsOf y) p (t .seller)))) ⌝ }
 {
-    let group = group_of(t);
+    let group = year::group_of(t.zone, t.product);
     if !year_tested::test_taken(year, group as usize) {
         return false;
     }

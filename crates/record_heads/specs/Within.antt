@@ -1,6 +1,6 @@
 -- What question 3 says of a head: its fields within their limits, as far as the year and the code rest on them.
 use Prim.Native.Nat.{ℕ, _≤_, _<_}
-use Rattle.limits.specs.Limits.{registrations, sellers, lses, closeLimit, nominatedLimit, obligationLimit, rateLimit}
+use Rattle.limits.specs.Limits.{registrations, sellers, lses, zones, products, closeLimit, nominatedLimit, obligationLimit, rateLimit}
 use Rattle.year.specs.Sound.{Factors}
 use Rattle.record_heads.specs.declared.RegistrationHead.{RegistrationHead}
 use Rattle.record_heads.specs.declared.LseHead.{LseHead}
@@ -13,7 +13,7 @@ pub record RegistrationWithin (r : RegistrationHead) : Type 0 where
   pub seller : r .seller < sellers
   pub area : r .area < 8
   pub zone : r .zone < 8
-  pub product : r .product < 3
+  pub product : r .product < products
   pub some : 1 ≤ r .committed
   pub committed : r .committed ≤ nominatedLimit
   pub rate : r .rate ≤ rateLimit
@@ -24,8 +24,8 @@ pub record LseWithin (j : LseHead) : Type 0 where
 
 -- a zone and a product
 pub record GroupWithin (z p : ℕ) : Type 0 where
-  pub zone : z < 8
-  pub product : p < 3
+  pub zone : z < zones
+  pub product : p < products
 
 pub record ClearingWithin (c : ClearingHead) : Type 0 where
   pub registration : c .registration < registrations

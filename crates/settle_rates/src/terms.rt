@@ -19,7 +19,7 @@ pub fn enter(year: &Cells, work: &mut Work, i: usize, r: Registration)
     let committed = r.committed;
     let all = settle_facts::unforced(year, committed);
     let cap = all.0 * own;
-    let group = 3 * r.zone + r.product;
+    let group = year::group_of(r.zone, r.product);
     settle_table::put(work, settle_table::SELLER, i, r.seller);
     settle_table::put(work, settle_table::PRODUCT, i, r.product);
     settle_table::put(work, settle_table::COMMITTED, i, committed.0);

@@ -10,7 +10,7 @@ use Rattle.ids.specs.Ids.{sumTo, only}
 use Rattle.ids.specs.Sums.{sum-bound}
 use Rattle.ids.specs.Tests.{cond-le}
 use Rattle.ids.specs.Each.{Each}
-use Rattle.limits.specs.Limits.{registrations, sellers, lses, areas, zones, nominatedLimit, rateLimit}
+use Rattle.limits.specs.Limits.{registrations, sellers, lses, areas, zones, products, nominatedLimit, rateLimit}
 use Rattle.year.specs.declared.Listing.{Listing}
 use Rattle.year.specs.declared.Terms.{Terms}
 use Rattle.year.specs.declared.Year.{Year}
@@ -44,7 +44,7 @@ module _ {T : Terms} (s : SoundTerms T) where
   unfolding zone
   zone-below i = registration-sound i .zone
 
-  pub product-below : (i : ℕ) → product T i < 3
+  pub product-below : (i : ℕ) → product T i < products
   unfolding product
   product-below i = registration-sound i .product
 

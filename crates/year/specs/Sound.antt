@@ -5,7 +5,7 @@ use mathlib.Core.Bool.{true, false}
 use lib.ListN.{length, getD, replicate}
 use Rattle.ids.specs.Ids.{at, holds}
 use Rattle.ids.specs.Each.{Each}
-use Rattle.limits.specs.Limits.{registrations, sellers, lses, areas, zones, testGroups, eventLimit, closeLimit, nominatedLimit, obligationLimit, rateLimit, factorLimit}
+use Rattle.limits.specs.Limits.{registrations, sellers, lses, areas, zones, products, testGroups, eventLimit, closeLimit, nominatedLimit, obligationLimit, rateLimit, factorLimit}
 use Rattle.year.specs.declared.Registration.{Registration}
 use Rattle.year.specs.declared.Clearings.{Clearings}
 use Rattle.year.specs.declared.Listing.{Listing}
@@ -15,13 +15,13 @@ use Rattle.year.specs.declared.Retest.{Retest}
 use Rattle.year.specs.declared.Terms.{Terms}
 use Rattle.year.specs.declared.Amounts.{Amounts}
 use Rattle.year.specs.declared.Year.{Year}
-use Rattle.year.specs.Year.{noRegistration, noClearings, noTest, noRetest, noEvent, listed, zone, product}
+use Rattle.year.specs.Year.{noRegistration, noClearings, noTest, noRetest, noEvent, listed, zone, product, testGroup}
 
 pub record SoundRegistration (r : Registration) : Type 0 where
   pub seller : r .seller < sellers
   pub area : r .area < areas
   pub zone : r .zone < zones
-  pub product : r .product < 3
+  pub product : r .product < products
   pub committed : r .committed .0 ≤ nominatedLimit
   pub rate : r .rate ≤ rateLimit
   pub some : r .known ≡ true → 1 ≤ r .committed .0
@@ -51,7 +51,7 @@ pub record SoundEvent (e : Event) : Type 0 where
 -- a test at a place lists registrations of its zone and product alone, so that none is in two tests; one that was not taken lists none
 pub record SoundTest (T : Terms) (group : ℕ) (t : Test) : Type 0 where
   pub listing : SoundListing (t .listing)
-  pub own : (i : ℕ) → i < registrations → listed (t .listing) i ≡ true → 3 * zone T i + product T i ≡ group
+  pub own : (i : ℕ) → i < registrations → listed (t .listing) i ≡ true → testGroup (zone T i) (product T i) ≡ group
   pub untaken : t .taken ≡ false → (i : ℕ) → i < registrations → listed (t .listing) i ≡ false
 
 abbrev pub SoundRetest : Retest → Type 0

@@ -4,7 +4,7 @@ use mathlib.Core.List.{List}
 use mathlib.Core.Bool.{Bool, false}
 use lib.ListN.{getD, length, take, replicate}
 use Rattle.ids.specs.Ids.{at}
-use Rattle.limits.specs.Limits.{registrations, sellers, lses, testGroups, eventLimit}
+use Rattle.limits.specs.Limits.{registrations, sellers, lses, products, testGroups, eventLimit}
 use Rattle.year.specs.declared.Registration.{Registration}
 use Rattle.year.specs.declared.Clearings.{Clearings}
 use Rattle.year.specs.declared.Listing.{Listing}
@@ -117,4 +117,4 @@ module _ (T : Terms) where
 
 -- the group of a zone and product
 abbrev pub testGroup : ℕ → ℕ → ℕ
-testGroup z p = 3 * z + p
+testGroup z p = products * z + p

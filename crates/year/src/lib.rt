@@ -1,6 +1,11 @@
 // The delivery year: what the accepted records have made so far.
+ghost use mathlib.Core.Path.{_≡_};
+ghost use Prim.Native.Nat.{_<_};
+ghost use Rattle.limits.specs.Limits.{testGroups};
+ghost use Rattle.year.specs.Year.{testGroup};
 use limits::EVENT_LIMIT;
 use limits::LSES;
+use limits::PRODUCTS;
 use limits::REGISTRATIONS;
 use limits::SELLERS;
 use limits::TEST_GROUPS;
@@ -86,4 +91,15 @@ pub struct Year {
     pub tests: [Test; TEST_GROUPS],
     pub retests: [Retest; REGISTRATIONS],
     pub billed: Amounts,
+}
+
+// The groups of a zone, one a product.
+const PRODUCT_GROUPS: u64 = PRODUCTS as u64;
+
+// The group of a zone and product.
+pub fn group_of(zone: u64, product: u64) -> u64
+    requires { ⌜ testGroup zone product < testGroups ⌝ }
+    ensures { λ r. ⌜ r ≡ testGroup zone product ⌝ }
+{
+    PRODUCT_GROUPS * zone + product
 }

@@ -39,7 +39,8 @@ pub fn tested_in(year: &Cells, group: u64, i: usize) -> bool
     ensures { λ r. ⌜ r ≡ listed (getD (yearIn (now (year .entry)) .tests) group noTest .listing) i ⌝ }
 {
     let r = registration_at(year, i);
-    year[TEST_ENTRIES_PLACE + i] != 0 && 3 * r.zone + r.product == group
+    let own = year::group_of(r.zone, r.product);
+    year[TEST_ENTRIES_PLACE + i] != 0 && own == group
 }
 
 // With which reduction, 0 where it does not.

@@ -55,26 +55,19 @@ add-event-requires c κs =
     let t = rw (c .before .before .head4 .given .1) at (start .pre .1 .1 .0) in
     (start .pre .0, (t .0, (start .pre .1 .0, t .1)))
 
-mul-add-test : tie.Need-mul-add-test
+group-of-requires : tie.Need-group-of-requires
 unfolding Suits
-mul-add-test c =
-    let start = c .before .before .before .before .before .before .before in
-    let t = rw (c .before .before .before .head5 .given .1) at (start .pre .1 .1 .0) in
-    omega (arith, t .0)
-
-add-add-test : tie.Need-add-add-test
-unfolding Suits
-add-add-test c =
-    let start = c .before .before .before .before .before .before .before .before in
-    let t = rw (c .before .before .before .before .head5 .given .1) at (start .pre .1 .1 .0) in
-    omega (arith, t .0)
+group-of-requires c κs =
+    let start = c .before .before .before .before .before in
+    let t = rw (c .before .head5 .given .1) at (start .pre .1 .1 .0) in
+    t .0
 
 add-test-requires : tie.Need-add-test-requires
 unfolding Suits
 add-test-requires c κs =
-    let start = c .before .before .before .before .before .before .before .before in
-    let t = rw (c .before .before .before .before .head5 .given .1) at (start .pre .1 .1 .0) in
-    (start .pre .0, (t .0, (t .1, (start .pre .1 .0, t .2))))
+    let start = c .before .before .before .before .before .before .before in
+    let t = rw (c .before .before .before .head5 .given .1) at (start .pre .1 .1 .0) in
+    rw (c .before .group-of .ensures) (start .pre .0, (t .0, (t .1, (start .pre .1 .0, t .2))))
 
 close-month-requires : tie.Need-close-month-requires
 unfolding Suits q16
@@ -125,8 +118,8 @@ returns-4 c =
 returns-5 : tie.Need-returns-5
 unfolding yearBy bufferWith writtenWith
 returns-5 c =
-    let is = c .before .before .before .before .before .head5 .given .1 in
-    (rw is (c .add-test .ensures .0), (c .add-test .ensures .1, (rw is, rw is)))
+    let is = c .before .before .before .before .head5 .given .1 in
+    (rw is (rw (c .before .before .group-of .ensures) at (c .add-test .ensures .0)), (c .add-test .ensures .1, (rw is, rw is)))
 
 returns-6 : tie.Need-returns-6
 unfolding yearBy bufferWith writtenWith
@@ -161,8 +154,7 @@ accept-spec =
     (λ c. search needs)
     add-event-requires
     (λ c. search needs)
-    mul-add-test
-    add-add-test
+    group-of-requires
     add-test-requires
     (λ c. search needs)
     close-month-requires

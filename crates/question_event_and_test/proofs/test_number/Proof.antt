@@ -10,6 +10,7 @@ use Rattle.question_list.specs.Questions.{monthBegun, q6, q7, q8, q9, q10, q17,
 use Rattle.question_list.specs.Answers.{yes, no, both-pass, one-fails}
 use Rattle.question_event_and_test.proofs.test_number.Statement.{statement}
 use Rattle.question_event_and_test.proofs.test_number.Tie as tie
+use Rattle.year.proofs.group_of.Reads as group-of-reads
 use Rattle.year_tested.proofs.test_taken.Reads as test-taken-reads
 use Rattle.question_listings.proofs.entries_pass.Reads as entries-pass-reads
 use Rattle.question_listings.proofs.lists_exactly.Reads as lists-exactly-reads
@@ -35,7 +36,7 @@ eleven c = c .may-test .ensures
 eleven-passes : (c : tie.Else3) → let a = c .before .before .before .before .before .before .before .args in q11 (yearIn (a .year .now)) monthBegun (listingAt (at (a .listing .now))) (Test (a .t)) ≡ true
 eleven-passes c = yes (eleven (c .before)) (c .if3 .left)
 
-fourteen : (c : tie.After-lists-exactly) → let a = c .before .before .before .before .before .before .before .before .before .before .before .before .args in c .lists-exactly .result ≡ q14 (yearIn (a .year .now)) (listingAt (at (a .listing .now))) (Test (a .t))
+fourteen : (c : tie.After-lists-exactly) → let a = c .before .before .before .before .before .before .before .before .before .before .before .args in c .lists-exactly .result ≡ q14 (yearIn (a .year .now)) (listingAt (at (a .listing .now))) (Test (a .t))
 unfolding q14
 fourteen c = c .lists-exactly .ensures
 
@@ -57,23 +58,23 @@ returns-3 c room =
 returns-4 : tie.Need-returns-4
 unfolding firstFailed questions q7 q9 q17 q20 q21 q12 q13
 returns-4 c room =
-    let three = c .before .before .before .before in
+    let three = c .before .before .before in
     let both = opens (three .before .before .before .before) in
-    rw (both .0, both .1, ten-passes (three .before .before), eleven-passes three, sym (c .before .test-taken .ensures), c .if4 .taken)
+    rw (both .0, both .1, ten-passes (three .before .before), eleven-passes three, sym (rw (c .before .before .group-of .ensures) at (c .before .test-taken .ensures)), c .if4 .taken)
 
 returns-5 : tie.Need-returns-5
 unfolding firstFailed questions q7 q9 q17 q20 q21 q12 q13 q15 q16
 returns-5 c room =
-    let three = c .before .before .before .before .before .before in
+    let three = c .before .before .before .before .before in
     let both = opens (three .before .before .before .before) in
-    rw (both .0, both .1, ten-passes (three .before .before), eleven-passes three, sym (c .before .before .before .test-taken .ensures), c .before .before .if4 .left, sym (fourteen (c .before)) ∙ c .if5 .taken)
+    rw (both .0, both .1, ten-passes (three .before .before), eleven-passes three, sym (rw (c .before .before .before .before .group-of .ensures) at (c .before .before .before .test-taken .ensures)), c .before .before .if4 .left, sym (fourteen (c .before)) ∙ c .if5 .taken)
 
 returns-6 : tie.Need-returns-6
 unfolding firstFailed questions q7 q9 q17 q20 q21 q12 q13
 returns-6 c room =
-    let three = c .before .before .before .before .before .before in
+    let three = c .before .before .before .before .before in
     let both = opens (three .before .before .before .before) in
-    rw (both .0, both .1, ten-passes (three .before .before), eleven-passes three, sym (c .before .before .before .test-taken .ensures), c .before .before .if4 .left, sym (fourteen (c .before)) ∙ c .if5 .left)
+    rw (both .0, both .1, ten-passes (three .before .before), eleven-passes three, sym (rw (c .before .before .before .before .group-of .ensures) at (c .before .before .before .test-taken .ensures)), c .before .before .if4 .left, sym (fourteen (c .before)) ∙ c .if5 .left)
 
 pub test-number-spec : {M : Type 1} → statement M
 test-number-spec =
@@ -85,8 +86,7 @@ test-number-spec =
     returns-2
     (λ c κs. search needs)
     returns-3
-    (λ c. search needs)
-    (λ c. search needs)
+    (λ c κs. search needs)
     (λ c κs. search needs)
     returns-4
     (λ c κs. search needs)

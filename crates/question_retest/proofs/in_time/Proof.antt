@@ -7,7 +7,7 @@ use Rattle.question_retest.proofs.in_time.Tie as tie
 use Rattle.year_tested.proofs.test_month.Reads as test-month-reads
 use Rattle.year_tested.proofs.test_taken.Reads as test-taken-reads
 use Rattle.question_list.proofs.may_test.Reads as may-test-reads
-use Rattle.question_retest.proofs.retestable.group_of.Reads as group-of-reads
+use Rattle.year.proofs.group_of.Reads as group-of-reads
 
 returns : tie.Need-returns
 returns c = rw (no (c .before .may-test .ensures) (c .if1 .taken))

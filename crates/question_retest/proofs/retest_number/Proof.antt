@@ -15,7 +15,7 @@ use Rattle.question_list.proofs.open_number.Reads as open-number-reads
 use Rattle.question_retest.proofs.in_time.Reads as in-time-reads
 use Rattle.question_retest.proofs.lists_own.Reads as lists-own-reads
 use Rattle.question_retest.proofs.retestable.may_retest.Reads as may-retest-reads
-use Rattle.question_retest.proofs.retestable.group_of.Reads as group-of-reads
+use Rattle.year.proofs.group_of.Reads as group-of-reads
 
 -- the questions' answers, and that they pass further on
 opens : (c : tie.Else1) → let a = c .before .before .before .args in (q6 (yearIn (a .year .now)) (Retest (a .t)) ≡ true) × (q8 (yearIn (a .year .now)) (Retest (a .t)) ≡ true)

@@ -14,7 +14,7 @@ use Rattle.year_tested.proofs.test_taken.Reads as test-taken-reads
 use Rattle.question_listings.proofs.any_selected.Reads as any-selected-reads
 use Rattle.question_listings.proofs.committed_kw.Reads as committed-kw-reads
 use Rattle.question_retest.proofs.retestable.below_quarter.Reads as below-quarter-reads
-use Rattle.question_retest.proofs.retestable.group_of.Reads as group-of-reads
+use Rattle.year.proofs.group_of.Reads as group-of-reads
 
 returns : tie.Need-returns
 returns c =

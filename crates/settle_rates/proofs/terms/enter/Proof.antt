@@ -33,22 +33,22 @@ mul-cap c =
 
 put-requires-6 : tie.Need-put-requires-6
 put-requires-6 c κs =
-    let s = c .before .before .before .before .before .before .before .before .before .before .before .before .before .before .before .before .before .before in
-    omega (arith, c .before .put5 .ensures .long, c .before .before .before .put4 .ensures .long, c .before .before .before .before .before .put3 .ensures .long, c .before .before .before .before .before .before .before .put2 .ensures .long, c .before .before .before .before .before .before .before .before .before .put .ensures .long, c .before .before .before .before .before .before .before .before .before .before .before .before .before .before .before .before .add-to-area .ensures .1 .1 .long, s .pre .3 .long, s .pre .1)
+    let s = c .before .before .before .before .before .before .before .before .before .before .before .before .before .before .before .before .before in
+    omega (arith, c .before .put5 .ensures .long, c .before .before .before .put4 .ensures .long, c .before .before .before .before .before .put3 .ensures .long, c .before .before .before .before .before .before .before .put2 .ensures .long, c .before .before .before .before .before .before .before .before .before .put .ensures .long, c .before .before .before .before .before .before .before .before .before .before .before .before .before .before .before .add-to-area .ensures .1 .1 .long, s .pre .3 .long, s .pre .1)
 
 put-requires-7 : tie.Need-put-requires-7
 put-requires-7 c κs =
-    let s = c .before .before .before .before .before .before .before .before .before .before .before .before .before .before .before .before .before .before .before .before in
-    omega (arith, c .before .put6 .ensures .long, c .before .before .before .put5 .ensures .long, c .before .before .before .before .before .put4 .ensures .long, c .before .before .before .before .before .before .before .put3 .ensures .long, c .before .before .before .before .before .before .before .before .before .put2 .ensures .long, c .before .before .before .before .before .before .before .before .before .before .before .put .ensures .long, c .before .before .before .before .before .before .before .before .before .before .before .before .before .before .before .before .before .before .add-to-area .ensures .1 .1 .long, s .pre .3 .long, s .pre .1)
+    let s = c .before .before .before .before .before .before .before .before .before .before .before .before .before .before .before .before .before .before .before in
+    omega (arith, c .before .put6 .ensures .long, c .before .before .before .put5 .ensures .long, c .before .before .before .before .before .put4 .ensures .long, c .before .before .before .before .before .before .before .put3 .ensures .long, c .before .before .before .before .before .before .before .before .before .put2 .ensures .long, c .before .before .before .before .before .before .before .before .before .before .before .put .ensures .long, c .before .before .before .before .before .before .before .before .before .before .before .before .before .before .before .before .before .add-to-area .ensures .1 .1 .long, s .pre .3 .long, s .pre .1)
 
 returns : tie.Need-returns
 unfolding seller area zone product committed groupIn
 returns c =
-    let s = c .before .before .before .before .before .before .before .before .before .before .before .before .before .before .before .before .before .before .before .before .before in
+    let s = c .before .before .before .before .before .before .before .before .before .before .before .before .before .before .before .before .before .before .before .before in
     let r = s .pre .2 in
-    let l = c .before .before .before .before .before .before .before .before .before .before .before .before .before .before .before .before .before .before .before .add-to-area .ensures in
-    let all = c .before .before .before .before .before .before .before .before .before .before .before .before .before .before .before .before .before .unforced .ensures in
-    begun-more (s .pre .3) (s .pre .1) (l .1 .0) (l .1 .1) (rw r at (c .before .before .before .before .before .before .before .before .before .before .before .before .put .ensures)) (rw r at (c .before .before .before .before .before .before .before .before .before .before .put2 .ensures)) (rw r at (c .before .before .before .before .before .before .before .before .put3 .ensures)) (rw (l .0) at (c .before .before .before .before .before .before .put4 .ensures)) (rw (l .0, all, r) at (c .before .before .before .before .put5 .ensures)) (rw r at (c .before .before .put6 .ensures)) (rw r at (c .put7 .ensures))
+    let l = c .before .before .before .before .before .before .before .before .before .before .before .before .before .before .before .before .before .before .add-to-area .ensures in
+    let all = c .before .before .before .before .before .before .before .before .before .before .before .before .before .before .before .before .unforced .ensures in
+    begun-more (s .pre .3) (s .pre .1) (l .1 .0) (l .1 .1) (rw r at (c .before .before .before .before .before .before .before .before .before .before .before .before .put .ensures)) (rw r at (c .before .before .before .before .before .before .before .before .before .before .put2 .ensures)) (rw r at (c .before .before .before .before .before .before .before .before .put3 .ensures)) (rw (l .0) at (c .before .before .before .before .before .before .put4 .ensures)) (rw (l .0, all, r) at (c .before .before .before .before .put5 .ensures)) (rw (c .before .before .before .before .before .before .before .before .before .before .before .before .before .before .group-of .ensures, r) at (c .before .before .put6 .ensures)) (rw r at (c .put7 .ensures))
 
 pub enter-spec : {M : Type 1} → statement M
 enter-spec =
@@ -57,8 +57,7 @@ enter-spec =
     add-to-area-requires
     unforced-requires
     mul-cap
-    (λ c. let h = sound (c .before .before .before .before .before .before) in record { fits = omega (arith, h) })
-    (λ c. let h = sound (c .before .before .before .before .before .before .before) in record { fits = omega (arith, h) })
+    (λ c κs. let h = sound (c .before .before .before .before .before) in omega (arith, h))
     (λ c κs. search needs)
     (λ c κs. search needs)
     (λ c κs. search needs)
