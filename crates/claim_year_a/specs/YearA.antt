@@ -6,6 +6,7 @@ use mathlib.Core.List.{List, [], _∷_, _++_}
 use lib.ListN.{replicate}
 use Rattle.ids.specs.Ids.{sumTo, anyTo, allTo, tabulate}
 use Rattle.units.specs.Units.{convert}
+use Rattle.limits.specs.Limits.{statementLimit}
 use Rattle.calendar.specs.Calendar.{days, due, callable, testable}
 use Rattle.allotment.specs.Allot.{share}
 use Rattle.bits.specs.Bits.{bitAt, number}
