@@ -26,19 +26,26 @@ linesFrom line bits p (suc n) = linesFrom line bits p n ++ line (p + bits * n)
 unfoldable pub monthLine : ℕ → List ℕ
 monthLine month = 77 ∷ (word (decimal month) ++ (10 ∷ []))
 
+-- a party with n amounts: the bits that it has in a statement, and the bytes that its line has at most
+abbrev pub partyBits : ℕ → ℕ
+partyBits n = 4 + 42 * n
+
+abbrev pub partyRoom : ℕ → ℕ
+partyRoom n = 23 + 22 * n
+
 -- of a statement's bytes
 module _ (xs : List ℕ) where
   -- the amount in the 42 bits from p on
   abbrev pub amountAt : ℕ → List ℕ
   amountAt p = word (cents (value42 (fieldAt xs p 42)))
 
-  -- the line of a party at bit p, of 4 + 42 n bits: a letter, its id and n amounts
+  -- the line of a party at bit p: a letter, its id and n amounts
   unfoldable pub partyLine : ℕ → ℕ → ℕ → List ℕ
   partyLine letter n p = letter ∷ (word (decimal (fieldAt xs p 4)) ++ (linesFrom amountAt 42 (p + 4) n ++ (10 ∷ [])))
 
   -- the lines of so many parties from bit p on
   abbrev pub partyLines : ℕ → ℕ → ℕ → ℕ → List ℕ
-  partyLines letter n p count = linesFrom (partyLine letter n) (4 + 42 * n) p count
+  partyLines letter n p count = linesFrom (partyLine letter n) (partyBits n) p count
 
   -- a statement's lines, in its order: `S seller compliance test credit`, `L lse credit`
   unfoldable pub statementLines : List ℕ
@@ -47,7 +54,7 @@ module _ (xs : List ℕ) where
       ++ (partyLines 83 3 14 (fieldAt xs 4 5)
       ++ partyLines 76 1 (14 + 130 * fieldAt xs 4 5) (fieldAt xs 9 5))
 
--- what is printed of a record: a refusal's line, an accepted close's statement, of any other record nothing
+-- the report of a record: a refusal's line, an accepted close's statement, of any other record nothing
 unfoldable pub answerLines : ℕ → ℕ → ℕ → List ℕ → List ℕ
 answerLines position kind number xs = cond (eqb number 0) (cond (eqb kind 6) (statementLines xs) []) (refusalLine position number)
 

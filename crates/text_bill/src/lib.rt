@@ -4,14 +4,14 @@ use bits_read::Cursor;
 use text::put_byte;
 use text::put_decimal;
 use text::put_number;
-ghost use mathlib.Core.Path.{_≡_};
 ghost use Prim.Native.Nat.{_+_, _*_, _^_, _≤_, _<_};
 ghost use lib.ListN.{length};
 ghost use Rattle.statement.specs.Value42.{value42};
 ghost use Rattle.text.specs.Pasted.{Pasted};
 ghost use Rattle.text_bill.specs.Lies.{Lies};
 ghost use Rattle.text.specs.Lines.{word};
-ghost use Rattle.text_bill.specs.Text.{amountAt, answerLines, cents, linesFrom, monthLine, partyLine, partyLines, refusalLine, room, statementLines, statementRoom};
+ghost use Rattle.text_bill.specs.Put.{Puts, Reaches, Reports, amountsAt, lineAt, linesAt};
+ghost use Rattle.text_bill.specs.Text.{cents, monthLine, partyBits, partyRoom, refusalLine, room, statementLines, statementRoom};
 
 // The bytes that a caller leaves free for one report.
 pub const ROOM: usize = 4177;
@@ -39,6 +39,7 @@ fn put_amount(bits: u64, out: &mut [u8], at: usize) -> usize
     put_decimal(out, q, WHOLE - bits)
 }
 
+// The line of a month: `M month`.
 fn put_month(month: u64, out: &mut [u8], at: usize) -> usize
     requires { ⌜ at + 23 ≤ length (now out) ⌝ }
     ensures { λ r. ⌜ Pasted (now (out .entry)) (now (out .exit)) at (monthLine month) r ⌝ }
@@ -66,8 +67,8 @@ fn put_amounts(statement: &[u8], n: usize, out: &mut [u8], from: Place) -> Place
     requires { ⌜ n ≤ 3 ⌝ }
     requires { ⌜ Lies (now statement) (from .next .at) (42 * n) ⌝ }
     requires { ⌜ from .at + 22 * n ≤ length (now out) ⌝ }
-    ensures { λ r. ⌜ Pasted (now (out .entry)) (now (out .exit)) (from .at) (linesFrom (amountAt (now (statement .entry))) 42 (from .next .at) n) (r .at) ⌝ }
-    ensures { λ r. ⌜ (r .at ≤ from .at + 22 * n) × (r .next .at ≡ from .next .at + 42 * n) ⌝ }
+    ensures { λ r. ⌜ Puts (now (out .entry)) (now (out .exit)) from (amountsAt (now (statement .entry)) from n) r ⌝ }
+    ensures { λ r. ⌜ Reaches from (22 * n) (42 * n) r ⌝ }
 {
     let mut place = from;
     let mut i: usize = 0;
@@ -81,13 +82,13 @@ fn put_amounts(statement: &[u8], n: usize, out: &mut [u8], from: Place) -> Place
     place
 }
 
-// The line of a party.
+// The line of a party of a sort.
 fn put_party(statement: &[u8], sort: Sort, out: &mut [u8], from: Place) -> Place
     requires { ⌜ sort .amounts ≤ 3 ⌝ }
-    requires { ⌜ Lies (now statement) (from .next .at) (4 + 42 * sort .amounts) ⌝ }
-    requires { ⌜ from .at + (23 + 22 * sort .amounts) ≤ length (now out) ⌝ }
-    ensures { λ r. ⌜ Pasted (now (out .entry)) (now (out .exit)) (from .at) (partyLine (now (statement .entry)) (sort .letter) (sort .amounts) (from .next .at)) (r .at) ⌝ }
-    ensures { λ r. ⌜ (r .at ≤ from .at + (23 + 22 * sort .amounts)) × (r .next .at ≡ from .next .at + (4 + 42 * sort .amounts)) ⌝ }
+    requires { ⌜ Lies (now statement) (from .next .at) (partyBits (sort .amounts)) ⌝ }
+    requires { ⌜ from .at + partyRoom (sort .amounts) ≤ length (now out) ⌝ }
+    ensures { λ r. ⌜ Puts (now (out .entry)) (now (out .exit)) from (lineAt (now (statement .entry)) sort from) r ⌝ }
+    ensures { λ r. ⌜ Reaches from (partyRoom (sort .amounts)) (partyBits (sort .amounts)) r ⌝ }
 {
     let id = from.next.read_field(statement, 4);
     let mut p = put_byte(out, from.at, sort.letter);
@@ -105,10 +106,10 @@ fn put_party(statement: &[u8], sort: Sort, out: &mut [u8], from: Place) -> Place
 // The lines of so many parties of a sort.
 fn put_parties(statement: &[u8], sort: Sort, count: u64, out: &mut [u8], from: Place) -> Place
     requires { ⌜ (sort .amounts ≤ 3) × (count ≤ 31) ⌝ }
-    requires { ⌜ Lies (now statement) (from .next .at) ((4 + 42 * sort .amounts) * count) ⌝ }
-    requires { ⌜ from .at + (23 + 22 * sort .amounts) * count ≤ length (now out) ⌝ }
-    ensures { λ r. ⌜ Pasted (now (out .entry)) (now (out .exit)) (from .at) (partyLines (now (statement .entry)) (sort .letter) (sort .amounts) (from .next .at) count) (r .at) ⌝ }
-    ensures { λ r. ⌜ (r .at ≤ from .at + (23 + 22 * sort .amounts) * count) × (r .next .at ≡ from .next .at + (4 + 42 * sort .amounts) * count) ⌝ }
+    requires { ⌜ Lies (now statement) (from .next .at) (partyBits (sort .amounts) * count) ⌝ }
+    requires { ⌜ from .at + partyRoom (sort .amounts) * count ≤ length (now out) ⌝ }
+    ensures { λ r. ⌜ Puts (now (out .entry)) (now (out .exit)) from (linesAt (now (statement .entry)) sort from count) r ⌝ }
+    ensures { λ r. ⌜ Reaches from (partyRoom (sort .amounts) * count) (partyBits (sort .amounts) * count) r ⌝ }
 {
     let mut place = from;
     let mut i: u64 = 0;
@@ -159,7 +160,7 @@ pub fn refusal_line(position: u64, number: u64, out: &mut [u8], at: usize) -> us
     put_byte(out, p, b'\n')
 }
 
-// What is printed of a record of this kind that is answered with this number.
+// The report of a record of this kind that is answered with this number.
 pub fn answer_lines(
     position: u64,
     kind: u8,
@@ -170,7 +171,7 @@ pub fn answer_lines(
 ) -> usize
     requires { ⌜ statementRoom ≤ length (now statement) ⌝ }
     requires { ⌜ at + room ≤ length (now out) ⌝ }
-    ensures { λ r. ⌜ Pasted (now (out .entry)) (now (out .exit)) at (answerLines position kind number (now (statement .entry))) r ⌝ }
+    ensures { λ r. ⌜ Reports position kind number (now (statement .entry)) (now (out .entry)) (now (out .exit)) at r ⌝ }
 {
     if number != 0 {
         return refusal_line(position, number, out, at);

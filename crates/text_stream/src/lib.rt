@@ -1,11 +1,11 @@
 // Input in pieces through a lent buffer. What is still to be taken of it is moved to the front, so that a record or a line across two pieces is read as one.
-ghost use mathlib.Core.Bool.{false, cond, _||_};
+ghost use mathlib.Core.Bool.{false};
 ghost use mathlib.Core.Path.{_≡_};
 ghost use Prim.Native.Nat.{_+_, _-_, _≤_, _<_, min};
 ghost use lib.ListN.{length, take, drop};
 ghost use lib.Seq.{paste};
 ghost use Rattle.text.specs.Find.{Ends};
-ghost use Rattle.text_stream.specs.Filled.{Filled};
+ghost use Rattle.text_stream.specs.Filled.{Behind, Filled, LineWithin};
 
 mod output;
 
@@ -68,7 +68,7 @@ pub struct Line {
 pub fn next_line(input: i32, buffer: &mut [u8], window: Window) -> Line
     requires { ⌜ window .start ≤ window .end ⌝ }
     requires { ⌜ window .end ≤ length (now buffer) ⌝ }
-    ensures { λ r. ⌜ (r .window .start ≤ r .end) × (r .end ≤ r .window .end) × (r .window .end ≤ length (now (buffer .entry))) ⌝ }
+    ensures { λ r. ⌜ LineWithin (now (buffer .entry)) r ⌝ }
     ensures { λ r. ⌜ Ends (take (r .window .end) (now (buffer .exit))) (r .window .start) 10 (r .end) ⌝ }
 {
     let end = window.end;
@@ -108,7 +108,7 @@ pub fn past(line: Line) -> Window
 pub fn behind(window: Window, used: usize, last: bool) -> Window
     requires { ⌜ window .start + used ≤ window .end ⌝ }
     ensures { λ r. ⌜ (r .start ≤ r .end) × (r .end ≡ window .end) ⌝ }
-    ensures { λ r. ⌜ (r .start ≡ cond last (window .end) (window .start + used)) × (r .ended ≡ last || window .ended) × (r .failed ≡ window .failed) ⌝ }
+    ensures { λ r. ⌜ Behind window used last r ⌝ }
 {
     let mut next = window;
     if last {

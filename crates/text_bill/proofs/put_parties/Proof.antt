@@ -4,7 +4,7 @@ use native.Mathlib.Nat.{mul-le-mul-left}
 use native.Mathlib.Omega.{arith}
 use Prim.Native.Nat.{_+_, _-_, _*_, _≤_}
 use mathlib.Core.Path.{_≡_}
-use Rattle.text_bill.specs.Text.{partyLine, partyLines}
+use Rattle.text_bill.specs.Text.{partyBits, partyRoom, partyLine, partyLines}
 use Rattle.text.specs.Pasted.{Pasted, pasted-length}
 use Rattle.text_bill.specs.TextLaws.{lines-none, lines-step}
 use Rattle.text_bill.proofs.put_parties.Statement.{statement}
@@ -14,8 +14,8 @@ abbrev Inv-loop : tie.InvT-loop
 Inv-loop statement sort count out₀ place₀ i₀ out place i =
     (i ≤ count)
     × Pasted out₀ out (place₀ .at) (partyLines statement (sort .letter) (sort .amounts) (place₀ .next .at) i) (place .at)
-    × (place .at ≤ place₀ .at + (23 + 22 * sort .amounts) * i)
-    × (place .next .at ≡ place₀ .next .at + (4 + 42 * sort .amounts) * i)
+    × (place .at ≤ place₀ .at + partyRoom (sort .amounts) * i)
+    × (place .next .at ≡ place₀ .next .at + partyBits (sort .amounts) * i)
 
 abbrev μ-loop : tie.MeasureT-loop
 μ-loop statement sort count out₀ place₀ i₀ out place i = count - i
@@ -23,7 +23,7 @@ abbrev μ-loop : tie.MeasureT-loop
 loop-holds : tie.Need-loop-holds Inv-loop μ-loop
 loop-holds c =
     let a = c .before .before .args in
-    (omega arith, lines-none (partyLine (a .statement .now) (a .sort .letter) (a .sort .amounts)) (4 + 42 * a .sort .amounts) (a .from .next .at) (a .out .now) (a .from .at) (omega arith), omega arith, omega arith)
+    (omega arith, lines-none (partyLine (a .statement .now) (a .sort .letter) (a .sort .amounts)) (partyBits (a .sort .amounts)) (a .from .next .at) (a .out .now) (a .from .at) (omega arith), omega arith, omega arith)
 
 put-party-requires : tie.Need-put-party-requires Inv-loop μ-loop
 put-party-requires c κs =
@@ -40,7 +40,7 @@ loop-again c =
     let l = c .before .before .before .before .before .loop in
     let put = c .before .before .put-party .ensures in (
       omega arith,
-      lines-step (partyLine (a .statement .now) (a .sort .letter) (a .sort .amounts)) (4 + 42 * a .sort .amounts) (a .from .next .at) (l .i) (l .inv .1) (rw (l .inv .3) at (put .0)),
+      lines-step (partyLine (a .statement .now) (a .sort .letter) (a .sort .amounts)) (partyBits (a .sort .amounts)) (a .from .next .at) (l .i) (l .inv .1) (rw (l .inv .3) at (put .0)),
       omega (arith, put .1, l .inv .2),
       omega (arith, put .1, l .inv .3),
     )
