@@ -1,5 +1,5 @@
 // A whole record file billed: each record's number, and the statements one after another.
-ghost use Rattle.bill_file.specs.Billed.{Bills};
+ghost use Rattle.bill_file.specs.Billed.{FileLeaves};
 
 // How many records are answered, the bytes consumed, and the bytes of statements.
 pub struct Totals {
@@ -10,7 +10,7 @@ pub struct Totals {
 
 // Bills a record file from a new book: up to its end, an answer that ends it, or the end of the numbers.
 pub fn bill(records: &[u8], numbers: &mut [u64], statements: &mut [u8]) -> Totals
-    ensures { λ r. ⌜ Bills (now (records .entry)) (now (numbers .entry)) (now (statements .entry)) (r .answered) (r .used) (r .written) (now (numbers .exit)) (now (statements .exit)) ⌝ }
+    ensures { λ r. ⌜ FileLeaves records numbers statements r ⌝ }
 {
     let mut year = book::new_book();
     let mut answered: usize = 0;

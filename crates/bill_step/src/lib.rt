@@ -3,10 +3,9 @@ use book::Posted;
 use year_cells::Cells;
 ghost use mathlib.Core.Path.{_≡_};
 ghost use Prim.Native.Nat.{_+_};
-ghost use Rattle.year_cells.specs.Layout.{yearIn, ValidCells};
-ghost use Rattle.book_outcome.specs.Outcome.{Posts};
-ghost use Rattle.text.specs.Pasted.{Pasted};
-ghost use Rattle.bill_step.specs.Answer.{answerText, Ready};
+ghost use Rattle.year_cells.specs.Layout.{ValidCells};
+ghost use Rattle.bill_step.specs.Answer.{Ready};
+ghost use Rattle.bill_step.specs.Step.{PostLeaves, Prints};
 
 // What goes from record to record beside the year: the next record's position, and the place behind what is printed.
 pub struct Course {
@@ -20,7 +19,7 @@ pub struct Answered {
     pub next: Course,
 }
 
-// Takes the record at the front of the bytes.
+// Takes the record at the front of the bytes, and prints its report.
 pub fn step(
     year: &mut Cells,
     course: Course,
@@ -30,8 +29,8 @@ pub fn step(
 ) -> Answered
     requires { ⌜ ValidCells (now year) ⌝ }
     requires { ⌜ Ready course (now bytes) (now statement) (now out) ⌝ }
-    ensures posts { λ r. ⌜ Posts (yearIn (now (year .entry))) (now (bytes .entry)) (now (statement .entry)) (r .posted .number) (r .posted .used) (r .posted .written) (yearIn (now (year .exit))) (now (statement .exit)) ⌝ }
-    ensures prints { λ r. ⌜ Pasted (now (out .entry)) (now (out .exit)) (course .at) (answerText (course .position) (yearIn (now (year .entry))) (record { bytes = now (bytes .entry); buffer = now (statement .entry) })) (r .next .at) ⌝ }
+    ensures posts { λ r. ⌜ PostLeaves year bytes statement (r .posted) ⌝ }
+    ensures prints { λ r. ⌜ Prints year bytes statement out course (r .next) ⌝ }
     ensures counts { λ r. ⌜ r .next .position ≡ course .position + 1 ⌝ }
     ensures valid { λ r. ⌜ ValidCells (now (year .exit)) ⌝ }
 {

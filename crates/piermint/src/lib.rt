@@ -1,17 +1,16 @@
 // The engine for C: a record read, a record written, a record taken by a book, a whole record file billed, and a reduction made from a sample. Every input is answered.
 ghost use mathlib.Core.Path.{_≡_};
-ghost use Rattle.record_numbers.specs.Calls.{Reads, Writes};
 ghost use Rattle.year.specs.Year.{newYear};
 ghost use Rattle.year_cells.specs.Layout.{yearIn, ValidCells};
-ghost use Rattle.book_outcome.specs.Outcome.{Posts};
-ghost use Rattle.bill_file.specs.Billed.{Bills};
+ghost use Rattle.piermint.specs.Leaves.{ReadLeaves, WriteLeaves, PostLeaves, BillLeaves};
 ghost use Rattle.telemetry.specs.declared.Sample.the-variants.{Pair, Direct};
 ghost use Rattle.telemetry.specs.Reduction.{Answers};
 ghost use lib.Ieee.{binary32, ofBits};
 use telemetry::Sample;
 use year_cells::Cells;
 
-// A record's numbers into the front of a lent buffer; how many they are and the bytes of the record go out.
+// Reads a record: its numbers go into the front of a lent buffer, and how many they are and the bytes of the record go out.
+// Answers 0, or the number of the question that failed.
 #[no_mangle]
 pub extern "C" fn piermint_read(
     bytes: &[u8],
@@ -19,7 +18,7 @@ pub extern "C" fn piermint_read(
     count: &mut usize,
     used: &mut usize,
 ) -> u64
-    ensures { λ r. ⌜ Reads (now (bytes .entry)) (now (numbers .entry)) r (now (count .exit)) (now (used .exit)) (now (numbers .exit)) ⌝ }
+    ensures { λ r. ⌜ ReadLeaves bytes numbers r count used ⌝ }
 {
     let read = record_read::read(bytes, numbers);
     *count = read.count;
@@ -27,10 +26,10 @@ pub extern "C" fn piermint_read(
     read.number
 }
 
-// A record's bytes into the front of a lent buffer; how many they are goes out.
+// Writes a record: its bytes go into the front of a lent buffer, and how many they are goes out. Answers as a read does.
 #[no_mangle]
 pub extern "C" fn piermint_write(numbers: &[u64], bytes: &mut [u8], used: &mut usize) -> u64
-    ensures { λ r. ⌜ Writes (now (numbers .entry)) (now (bytes .entry)) r (now (used .exit)) (now (bytes .exit)) ⌝ }
+    ensures { λ r. ⌜ WriteLeaves numbers bytes r used ⌝ }
 {
     let wrote = record_write::write(numbers, bytes);
     *used = wrote.used;
@@ -47,7 +46,7 @@ pub extern "C" fn piermint_new(cells: &mut Cells)
 }
 
 // Takes a record; an accepted close leaves its statement in the buffer. The bytes consumed and the bytes of the statement
-// go out.
+// go out. Answers 0, or the number of the question that failed: then the cells are as they were.
 #[no_mangle]
 pub extern "C" fn piermint_post(
     cells: &mut Cells,
@@ -57,7 +56,7 @@ pub extern "C" fn piermint_post(
     written: &mut usize,
 ) -> u64
     requires { ⌜ ValidCells (now cells) ⌝ }
-    ensures posts { λ r. ⌜ Posts (yearIn (now (cells .entry))) (now (bytes .entry)) (now (buffer .entry)) r (now (used .exit)) (now (written .exit)) (yearIn (now (cells .exit))) (now (buffer .exit)) ⌝ }
+    ensures posts { λ r. ⌜ PostLeaves cells bytes buffer r used written ⌝ }
     ensures refused { λ r. ⌜ ((r ≡ 0 → ⊥) → now (cells .exit) ≡ now (cells .entry)) ⌝ }
     ensures valid { λ r. ⌜ ValidCells (now (cells .exit)) ⌝ }
 {
@@ -67,7 +66,7 @@ pub extern "C" fn piermint_post(
     posted.number
 }
 
-// A record file billed from a new book: the records' numbers, and the statements of the accepted closes one after
+// Bills a record file from a new book: leaves the records' numbers, and the statements of the accepted closes one after
 // another. Answers how many records are answered; the bytes consumed and the bytes of statements go out.
 #[no_mangle]
 pub extern "C" fn piermint_bill(
@@ -77,7 +76,7 @@ pub extern "C" fn piermint_bill(
     used: &mut usize,
     written: &mut usize,
 ) -> usize
-    ensures { λ r. ⌜ Bills (now (records .entry)) (now (numbers .entry)) (now (statements .entry)) r (now (used .exit)) (now (written .exit)) (now (numbers .exit)) (now (statements .exit)) ⌝ }
+    ensures { λ r. ⌜ BillLeaves records numbers statements r used written ⌝ }
 {
     let totals = bill_file::bill(records, numbers, statements);
     *used = totals.used;
@@ -85,7 +84,8 @@ pub extern "C" fn piermint_bill(
     totals.answered
 }
 
-// The kW of an entry from expected and metered load, given by their bit patterns; where they are refused it is 0.
+// Makes an entry's kW from expected and metered load, given by their bit patterns; the kW go out, 0 where they are refused.
+// Answers 0, or the number of the refusal.
 #[no_mangle]
 pub extern "C" fn piermint_reduction(expected: u32, metered: u32, kw: &mut u64) -> u64
     ensures { λ r. ⌜ Answers (Pair (ofBits binary32 expected) (ofBits binary32 metered)) r (now (kw .exit)) ⌝ }
@@ -95,7 +95,7 @@ pub extern "C" fn piermint_reduction(expected: u32, metered: u32, kw: &mut u64) 
     telemetry::answer(Sample::Pair(expected, metered), kw)
 }
 
-// The kW of an entry from a direct reduction, in the same way.
+// Makes an entry's kW from a direct reduction, in the same way.
 #[no_mangle]
 pub extern "C" fn piermint_direct_reduction(reduction: u32, kw: &mut u64) -> u64
     ensures { λ r. ⌜ Answers (Direct (ofBits binary32 reduction)) r (now (kw .exit)) ⌝ }

@@ -1,0 +1,2 @@
+-- What the calls for C leave.
+pub mod Leaves
