@@ -6,9 +6,9 @@ ghost use lib.ListN.{length};
 ghost use Rattle.text_bill.specs.Text.{room};
 ghost use Rattle.record_layouts.specs.Layout.{longestRecord};
 
-// One record after another, up to the end or a number that ends the file; answers whether all is read and written.
+// Bills one record after another, up to the end or a number that ends the file; answers whether all is read and written.
 // A failed read or write ends it with nothing more written. No contract can name what is read or written: that
-// each step on what is at hand prints the file's bill is a law of `answer` (text-first).
+// each step on what is at hand prints the file's bill is a law of `bill_step` (text-first).
 fn bill(input: i32, buffer: &mut [u8], out: &mut [u8]) -> bool
     requires { ⌜ longestRecord ≤ length (now buffer) ⌝ }
     requires { ⌜ room ≤ length (now out) ⌝ }
@@ -41,13 +41,14 @@ fn bill(input: i32, buffer: &mut [u8], out: &mut [u8]) -> bool
     false
 }
 
+// Bills one input, through buffers of its own.
 fn bill_input(input: i32) -> bool {
     let mut buffer = io::large_buffer();
     let mut out = io::large_buffer();
     bill(input, &mut buffer, &mut out)
 }
 
-// The file that an argument names.
+// Bills the file that an argument names; answers whether all is read and written.
 fn bill_argument(i: usize) -> bool {
     let mut name = io::buffer();
     let length = os::arg(i, &mut name);

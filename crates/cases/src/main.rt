@@ -14,7 +14,7 @@ fn main() {
     cases(STDIN_FILENO, &mut buffer);
 }
 
-// One line after another, up to the end.
+// Answers one line after another, up to the end.
 fn cases(input: i32, buffer: &mut [u8]) {
     let mut year = book::new_book();
     let mut window = text_stream::new_window();
@@ -31,7 +31,7 @@ fn cases(input: i32, buffer: &mut [u8]) {
     }
 }
 
-// The call that a line names, by its first letter, and where that is a t by the name's length too.
+// Makes the call that a line names, known by its first letter, and where that is a t by the name's length too.
 fn case(year: &mut Cells, line: &[u8])
     requires { ⌜ ValidCells (now year) ⌝ }
     ensures { λ r. ⌜ ValidCells (now (year .exit)) ⌝ }
@@ -76,7 +76,7 @@ struct Lent {
     room: usize,
 }
 
-// `BYTES ROOM`: the bytes into the front of a buffer, and the room, at most so much.
+// Reads `BYTES ROOM`: the bytes go into the front of a buffer, and the room is at most so much.
 fn operands(line: &[u8], bytes: &mut [u8], most: usize) -> Lent
     ensures { λ r. ⌜ (r .count ≤ length (now (bytes .entry))) × (r .room ≤ most) ⌝ }
 {
@@ -90,7 +90,7 @@ fn operands(line: &[u8], bytes: &mut [u8], most: usize) -> Lent
     }
 }
 
-// `take`: the bytes, and the length of the lent buffer.
+// Answers `take`: a line has the bytes, and the length of the lent buffer.
 fn take_case(year: &mut Cells, line: &[u8])
     requires { ⌜ ValidCells (now year) ⌝ }
     ensures { λ r. ⌜ ValidCells (now (year .exit)) ⌝ }
@@ -103,6 +103,7 @@ fn take_case(year: &mut Cells, line: &[u8])
     take(year, &bytes[0..count], &mut buffer[0..room]);
 }
 
+// Takes a record, and prints what the call leaves.
 fn take(year: &mut Cells, bytes: &[u8], buffer: &mut [u8])
     requires { ⌜ ValidCells (now year) ⌝ }
     requires { ⌜ length (now buffer) ≤ 4096 ⌝ }
@@ -113,7 +114,7 @@ fn take(year: &mut Cells, bytes: &[u8], buffer: &mut [u8])
     print_call(posted.number, posted.used, &buffer[0..written]);
 }
 
-// `read`: the bytes, and for how many numbers there is room.
+// Answers `read`: a line has the bytes, and for how many numbers there is room.
 fn read_case(line: &[u8]) {
     let mut bytes = [0u8; 4096];
     let mut row = [0u64; 515];
@@ -123,7 +124,7 @@ fn read_case(line: &[u8]) {
     read(&bytes[0..count], &mut row[0..end]);
 }
 
-// The answer goes before the numbers, in one row.
+// Reads a record, and prints what the call leaves: the answer goes before the numbers, in one row.
 fn read(bytes: &[u8], row: &mut [u64])
     requires { ⌜ 3 ≤ length (now row) ⌝ }
     requires { ⌜ length (now row) ≤ 515 ⌝ }
@@ -145,7 +146,7 @@ fn print_numbers(row: &[u64], count: usize)
     io::write_all(STDOUT_FILENO, &out[0..end]);
 }
 
-// `write`: for how many bytes there is room, and the numbers.
+// Answers `write`: a line has for how many bytes there is room, and the numbers.
 fn write_case(line: &[u8]) {
     let mut words = [0u64; 256];
     let n = text::decimals(line, &mut words);
@@ -157,6 +158,7 @@ fn write_case(line: &[u8]) {
     write(&words[1..n], &mut bytes[0..room]);
 }
 
+// Writes a record, and prints what the call leaves.
 fn write(numbers: &[u64], bytes: &mut [u8])
     requires { ⌜ length (now bytes) ≤ 4096 ⌝ }
 {
@@ -165,7 +167,7 @@ fn write(numbers: &[u64], bytes: &mut [u8])
     print_call(answer.number, answer.used, &bytes[0..used]);
 }
 
-// `telemetry`: a pair or a direct reduction, told apart by how many values there are.
+// Answers `telemetry`: a pair or a direct reduction, told apart by how many values there are.
 fn telemetry_case(line: &[u8]) {
     let space = text::find(line, 0, b' ');
     if space == line.len() {
@@ -189,6 +191,7 @@ fn value_of(word: &[u8]) -> f32 {
     telemetry_eighths::from_pattern(pattern.value as u32)
 }
 
+// Prints the answer to a sample.
 fn reduce(sample: Sample) {
     let mut kw: u64 = 0;
     let number = telemetry::answer(sample, &mut kw);

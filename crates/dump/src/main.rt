@@ -6,9 +6,9 @@ ghost use lib.ListN.{length};
 ghost use Rattle.record_layouts.specs.Layout.{longestRecord};
 ghost use Rattle.text_record.specs.Line.{lineRoom};
 
-// One record after another, up to the end or a number that ends the file; answers whether all is read and written.
+// Prints one record after another, up to the end or a number that ends the file; answers whether all is read and written.
 // A failed read or write ends it with nothing more written. No contract can name what is read or written: that
-// the lines of what is at hand are the file's is a law of `line` (lines-first).
+// the lines of what is at hand are the file's is a law of `text_record` (lines-first).
 fn dump(input: i32, buffer: &mut [u8], out: &mut [u8]) -> bool
     requires { ⌜ longestRecord ≤ length (now buffer) ⌝ }
     requires { ⌜ lineRoom ≤ length (now out) ⌝ }
@@ -39,13 +39,14 @@ fn dump(input: i32, buffer: &mut [u8], out: &mut [u8]) -> bool
     false
 }
 
+// Prints one input, through buffers of its own.
 fn dump_input(input: i32) -> bool {
     let mut buffer = io::large_buffer();
     let mut out = io::large_buffer();
     dump(input, &mut buffer, &mut out)
 }
 
-// The file that an argument names.
+// Prints the file that an argument names; answers whether all is read and written.
 fn dump_argument(i: usize) -> bool {
     let mut name = io::buffer();
     let length = os::arg(i, &mut name);

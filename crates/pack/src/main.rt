@@ -13,7 +13,7 @@ fn refuse(position: u64, number: u64) -> bool {
     io::write_all(STDERR_FILENO, &text[0..end])
 }
 
-// One line after another, up to the end; answers whether all is read and written.
+// Packs one line after another, up to the end; answers whether all is read and written.
 // A failed read or write ends it with nothing more written. No contract can name what is read or written:
 // what a line packs to is the contract of `text_record::pack`.
 fn pack(input: i32, buffer: &mut [u8], out: &mut [u8]) -> bool

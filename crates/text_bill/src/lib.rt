@@ -24,7 +24,7 @@ const NEGATIVE: u64 = 0x200_0000_0000;
 
 const WHOLE: u64 = 0x400_0000_0000;
 
-// An amount, as a further word of a line.
+// Puts an amount, as a further word of a line.
 fn put_amount(bits: u64, out: &mut [u8], at: usize) -> usize
     requires { ⌜ bits < 2 ^ 42 ⌝ }
     requires { ⌜ at + 22 ≤ length (now out) ⌝ }
@@ -39,7 +39,7 @@ fn put_amount(bits: u64, out: &mut [u8], at: usize) -> usize
     put_decimal(out, q, WHOLE - bits)
 }
 
-// The line of a month: `M month`.
+// Puts the line of a month: `M month`.
 fn put_month(month: u64, out: &mut [u8], at: usize) -> usize
     requires { ⌜ at + 23 ≤ length (now out) ⌝ }
     ensures { λ r. ⌜ Pasted (now (out .entry)) (now (out .exit)) at (monthLine month) r ⌝ }
@@ -62,7 +62,7 @@ struct Sort {
     amounts: usize,
 }
 
-// The next n amounts of a statement, as further words of a line.
+// Puts the next n amounts of a statement, as further words of a line.
 fn put_amounts(statement: &[u8], n: usize, out: &mut [u8], from: Place) -> Place
     requires { ⌜ n ≤ 3 ⌝ }
     requires { ⌜ Lies (now statement) (from .next .at) (42 * n) ⌝ }
@@ -82,7 +82,7 @@ fn put_amounts(statement: &[u8], n: usize, out: &mut [u8], from: Place) -> Place
     place
 }
 
-// The line of a party of a sort.
+// Puts the line of a party of a sort.
 fn put_party(statement: &[u8], sort: Sort, out: &mut [u8], from: Place) -> Place
     requires { ⌜ sort .amounts ≤ 3 ⌝ }
     requires { ⌜ Lies (now statement) (from .next .at) (partyBits (sort .amounts)) ⌝ }
@@ -103,7 +103,7 @@ fn put_party(statement: &[u8], sort: Sort, out: &mut [u8], from: Place) -> Place
     }
 }
 
-// The lines of so many parties of a sort.
+// Puts the lines of so many parties of a sort.
 fn put_parties(statement: &[u8], sort: Sort, count: u64, out: &mut [u8], from: Place) -> Place
     requires { ⌜ (sort .amounts ≤ 3) × (count ≤ 31) ⌝ }
     requires { ⌜ Lies (now statement) (from .next .at) (partyBits (sort .amounts) * count) ⌝ }
@@ -120,7 +120,7 @@ fn put_parties(statement: &[u8], sort: Sort, count: u64, out: &mut [u8], from: P
     place
 }
 
-// The lines of a statement: `M month`, `S seller compliance test credit`, `L lse credit`. One cursor goes through its fields.
+// Puts the lines of a statement: `M month`, `S seller compliance test credit`, `L lse credit`. One cursor goes through its fields.
 fn statement_lines(statement: &[u8], out: &mut [u8], at: usize) -> usize
     requires { ⌜ statementRoom ≤ length (now statement) ⌝ }
     requires { ⌜ at + room ≤ length (now out) ⌝ }
@@ -149,7 +149,7 @@ fn statement_lines(statement: &[u8], out: &mut [u8], at: usize) -> usize
     put_parties(statement, lse, lses.value, out, place).at
 }
 
-// The line of a refusal: `N position number`.
+// Puts the line of a refusal: `N position number`.
 pub fn refusal_line(position: u64, number: u64, out: &mut [u8], at: usize) -> usize
     requires { ⌜ at + 44 ≤ length (now out) ⌝ }
     ensures { λ r. ⌜ Pasted (now (out .entry)) (now (out .exit)) at (refusalLine position number) r ⌝ }
@@ -160,7 +160,7 @@ pub fn refusal_line(position: u64, number: u64, out: &mut [u8], at: usize) -> us
     put_byte(out, p, b'\n')
 }
 
-// The report of a record of this kind that is answered with this number.
+// Puts the report of a record of this kind that is answered with this number.
 pub fn answer_lines(
     position: u64,
     kind: u8,

@@ -20,7 +20,7 @@ pub struct Printed {
     pub at: usize,
 }
 
-// The line of the record at the front of the bytes.
+// Prints the line of the record at the front of the bytes.
 pub fn print(position: u64, bytes: &[u8], out: &mut [u8], at: usize) -> Printed
     requires { ⌜ at + lineRoom ≤ length (now out) ⌝ }
     ensures { λ r. ⌜ (r .number ≡ recordNumber (now (bytes .entry))) × (r .used ≡ consumed (now (bytes .entry))) ⌝ }

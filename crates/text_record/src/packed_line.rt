@@ -15,7 +15,7 @@ pub struct Packed {
     pub at: usize,
 }
 
-// The record of a line. One of which the start is cut off is longer than any record's.
+// Packs a line into its record. A line of which the start is cut off is longer than any record's, and is refused.
 pub fn pack(line: &[u8], cut: bool, out: &mut [u8], at: usize) -> Packed
     requires { ⌜ at + longestPermitted ≤ length (now out) ⌝ }
     ensures { λ r. ⌜ r .number ≡ lineNumber cut (now (line .entry)) ⌝ }

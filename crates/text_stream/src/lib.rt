@@ -32,7 +32,7 @@ pub fn new_window() -> Window
     }
 }
 
-// The window with so many bytes in it at least, unless the input ends before.
+// Reads until the window has at least so many bytes, or the input ends; answers the window.
 pub fn filled(input: i32, buffer: &mut [u8], window: Window, least: usize) -> Window
     requires { ⌜ window .start ≤ window .end ⌝ }
     requires { ⌜ window .end ≤ length (now buffer) ⌝ }
@@ -64,7 +64,7 @@ pub struct Line {
     pub end: usize,
 }
 
-// The next line, up to its newline, or to the window's end where the input ends or the buffer is full before.
+// Finds the next line, up to its newline, or to the window's end where the input ends or the buffer is full before.
 pub fn next_line(input: i32, buffer: &mut [u8], window: Window) -> Line
     requires { ⌜ window .start ≤ window .end ⌝ }
     requires { ⌜ window .end ≤ length (now buffer) ⌝ }
@@ -120,7 +120,7 @@ pub fn behind(window: Window, used: usize, last: bool) -> Window
     next
 }
 
-// The bytes from `start` up to `end` to the front; answers how many they are.
+// Moves the bytes from `start` up to `end` to the front; answers how many they are.
 fn to_front(buffer: &mut [u8], start: usize, end: usize) -> usize
     requires { ⌜ start ≤ end ⌝ }
     requires { ⌜ end ≤ length (now buffer) ⌝ }
@@ -136,7 +136,7 @@ fn to_front(buffer: &mut [u8], start: usize, end: usize) -> usize
     left
 }
 
-// Reads once behind what is there.
+// Reads once behind what is there; answers the window of both.
 fn read_more(input: i32, buffer: &mut [u8], end: usize) -> Window
     requires { ⌜ end ≤ length (now buffer) ⌝ }
     ensures { λ r. ⌜ (r .start ≡ 0) × (end ≤ r .end) × (r .end ≤ length (now (buffer .entry))) ⌝ }

@@ -12,7 +12,7 @@ pub struct Gathered {
     pub failed: bool,
 }
 
-// Room for so many bytes more: where less is left, what is gathered is written. With room for the whole buffer all is written.
+// Makes room for so many bytes more: where less is left, what is gathered is written. With room for the whole buffer all is written.
 pub fn with_room(out: &[u8], at: usize, room: usize) -> Gathered
     requires { ⌜ at ≤ length (now out) ⌝ }
     requires { ⌜ room ≤ length (now out) ⌝ }
