@@ -1,5 +1,5 @@
 //! Times the proved engine (Rattle) and this implementation (Rust) on the same inputs. Prints the
-//! table of docs/DECISIONS.md, "Speed". `bench --before`, with the feature `before`: closes and years
+//! table of docs/SPEED.md. `bench --before`, with the feature `before`: closes and years
 //! of the earlier engine that is linked in and of the present one.
 
 mod flood;
