@@ -24,6 +24,13 @@ module _ (F : Facts) (m i : ℕ) where
   unfoldable pub dispatchedBy : ℕ
   dispatchedBy = mark (anyTo m (λ ev. year.listed (F .event ev .listing) i))
 
+-- the rows after all events: each registration's n, and whether it is dispatched
+abbrev pub DispatchCounts : Facts → List ℕ → Type 0
+DispatchCounts F w = Row w dispatchCountRow registrations (dispatchCount F)
+
+abbrev pub DispatchMarks : Facts → List ℕ → Type 0
+DispatchMarks F w = Row w dispatchedRow registrations (λ i. mark (dispatched F i))
+
 -- after m events
 pub record Counting (F : Facts) (m : ℕ) (w : List ℕ) : Type 0 where
   pub long : length w ≡ size
@@ -41,11 +48,11 @@ counting-first F l r =
 
 -- after all
 module _ {F : Facts} {w : List ℕ} (h : Counting F (F .events) w) where
-  pub dispatch-count-all : Row w dispatchCountRow registrations (dispatchCount F)
+  pub dispatch-count-all : DispatchCounts F w
   unfolding dispatchCount dispatchCountBy
   dispatch-count-all = row-same (h .dispatchCount) (λ j m. refl)
 
-  pub dispatched-all : Row w dispatchedRow registrations (λ i. mark (dispatched F i))
+  pub dispatched-all : DispatchMarks F w
   unfolding dispatched dispatchedBy
   dispatched-all = row-same (h .dispatched) (λ j m. refl)
 

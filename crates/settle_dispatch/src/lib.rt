@@ -2,13 +2,12 @@
 ghost use mathlib.Core.Path.{_≡_};
 ghost use Prim.Native.Nat.{_+_, _-_, _<_};
 ghost use lib.ListN.{length};
-ghost use Rattle.limits.specs.Limits.{registrations, eventLimit};
+ghost use Rattle.limits.specs.Limits.{eventLimit};
 ghost use Rattle.year_cells.specs.Layout.{ValidCells};
 ghost use Rattle.settle_facts.specs.CellFacts.{facts};
-ghost use Rattle.owed.specs.Owed.{dispatchCount, dispatched};
-ghost use Rattle.settle_table.specs.Places.{dispatchCountRow, dispatchedRow, spentRow, size};
+ghost use Rattle.settle_table.specs.Places.{dispatchCountRow, spentRow, size};
 ghost use Rattle.settle_table.specs.Rows.{Aside, Row, none, mark};
-ghost use Rattle.settle_dispatch.specs.Counting.{Counting};
+ghost use Rattle.settle_dispatch.specs.Counting.{DispatchCounts, DispatchMarks, Counting};
 use limits::REGISTRATIONS;
 use settle_table::Work;
 use year_cells::Cells;
@@ -43,8 +42,8 @@ pub fn count(year: &Cells, work: &mut Work)
     requires { ⌜ ValidCells (now year) ⌝ }
     requires { ⌜ length (now work) ≡ size ⌝ }
     requires { ⌜ Row (now work) dispatchCountRow (spentRow - dispatchCountRow) none ⌝ }
-    ensures dispatchCount { λ _. ⌜ Row (now (work .exit)) dispatchCountRow registrations (dispatchCount (facts (now (year .entry)))) ⌝ }
-    ensures dispatched { λ _. ⌜ Row (now (work .exit)) dispatchedRow registrations (λ i. mark (dispatched (facts (now (year .entry))) i)) ⌝ }
+    ensures dispatchCount { λ _. ⌜ DispatchCounts (facts (now (year .entry))) (now (work .exit)) ⌝ }
+    ensures dispatched { λ _. ⌜ DispatchMarks (facts (now (year .entry))) (now (work .exit)) ⌝ }
     ensures aside { λ _. ⌜ Aside dispatchCountRow (spentRow - dispatchCountRow) (now (work .entry)) (now (work .exit)) ⌝ }
 {
     let accepted = year_cells::events_accepted(year);

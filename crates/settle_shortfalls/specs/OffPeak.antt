@@ -65,6 +65,14 @@ second-is F ev i on =
 pub second-small : {F : Facts} → Limits F → (ev i : ℕ) → secondOf F ev i ≤ nominatedLimit
 second-small {F} L ev i = cond-le (year.listed (F .event ev .listing) i) (L .offPeak ev i)
 
+-- the off-peak u of its entries
+abbrev pub OffShares : Facts → ℕ → List ℕ → Type 0
+OffShares F ev w = Row w offURow registrations (offU F ev)
+
+-- how many divisions each seller's off-peak allotment made
+abbrev pub OffDivided : Facts → ℕ → List ℕ → Type 0
+OffDivided F ev w = Row w (offShortRow + divisionsIn) sellers (offDivisions F ev)
+
 -- how many places there are of the third allotment and of what is given more
 abbrev pub sumPlaces : ℕ
 sumPlaces = testRow - offShortRow
@@ -164,7 +172,7 @@ module _ {F : Facts} {ev i : ℕ} {w₀ w : List ℕ} (h : Sharing F ev i w₀ w
   sharing-none l off =
       record { upto = omega arith; entries = h .entries; aside = h .aside; short = allotments-none (h .short) off (rw off); u = renewed-none (h .u) l (sym (off-none F ev i off)) }
 
-  pub sharing-all : i ≡ registrations → Row w offURow registrations (offU F ev) × Row w (offShortRow + divisionsIn) sellers (offDivisions F ev)
+  pub sharing-all : i ≡ registrations → OffShares F ev w × OffDivided F ev w
   sharing-all q = (rw q at (h .u .done), allotments-all (h .short) q)
 
   -- a measured entry
@@ -202,7 +210,7 @@ module _ (F : Facts) (ev : ℕ) (off : F .event ev .dual ≡ false) where
       let none : ofSeller F s (offShort F ev) ≡ 0 = sum-zero registrations (λ i l. rw (unmeasured i) (let le = cond-le (eqb (F .seller i) s) {x = 0} {b = 0} (lit≤ tt) in omega arith)) in
       rw none
 
-  pub measured-none : {w : List ℕ} → Row w offURow offPeakPlaces none → Row w offURow registrations (offU F ev) × Row w (offShortRow + divisionsIn) sellers (offDivisions F ev)
+  pub measured-none : {w : List ℕ} → Row w offURow offPeakPlaces none → OffShares F ev w × OffDivided F ev w
   measured-none r = (
     row-same (row-within offURow registrations r (omega arith) (omega arith)) (λ i l. sym (off-none F ev i (unmeasured i))),
     row-same (row-within (offShortRow + divisionsIn) sellers r (omega arith) (omega arith)) (λ s l. sym (none-divided s)),

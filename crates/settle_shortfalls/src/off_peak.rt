@@ -4,11 +4,9 @@ ghost use Prim.Native.Nat.{_+_, _<_};
 ghost use Rattle.limits.specs.Limits.{registrations, sellers, eventLimit};
 ghost use Rattle.year_cells.specs.Layout.{ValidCells};
 ghost use Rattle.settle_facts.specs.CellFacts.{facts};
-ghost use Rattle.owed.specs.Divisions.{offDivisions};
-ghost use Rattle.owed.specs.Owed.{offU};
-ghost use Rattle.settle_table.specs.Places.{divisionsIn, offURow, offShortRow, offPeakPlaces};
+ghost use Rattle.settle_table.specs.Places.{offURow, offShortRow, offPeakPlaces};
 ghost use Rattle.settle_table.specs.Rows.{Aside, Row, none};
-ghost use Rattle.settle_shortfalls.specs.OffPeak.{Entries, entryAt, sumPlaces, Weighed, Netted, Ready};
+ghost use Rattle.settle_shortfalls.specs.OffPeak.{Entries, OffShares, OffDivided, entryAt, sumPlaces, Weighed, Netted, Ready};
 use limits::REGISTRATIONS;
 use limits::SELLERS;
 use settle_table::Work;
@@ -93,8 +91,8 @@ fn share(year: &Cells, work: &mut Work, ev: usize)
     requires { ⌜ ValidCells (now year) ⌝ }
     requires { ⌜ ev < eventLimit ⌝ }
     requires { ⌜ Ready (facts (now year)) ev (now work) ⌝ }
-    ensures shares { λ _. ⌜ Row (now (work .exit)) offURow registrations (offU (facts (now (year .entry))) ev) ⌝ }
-    ensures divisions { λ _. ⌜ Row (now (work .exit)) (offShortRow + divisionsIn) sellers (offDivisions (facts (now (year .entry))) ev) ⌝ }
+    ensures shares { λ _. ⌜ OffShares (facts (now (year .entry))) ev (now (work .exit)) ⌝ }
+    ensures divisions { λ _. ⌜ OffDivided (facts (now (year .entry))) ev (now (work .exit)) ⌝ }
     ensures aside { λ _. ⌜ Aside offURow offPeakPlaces (now (work .entry)) (now (work .exit)) ⌝ }
 {
     let mut i: usize = 0;
@@ -119,8 +117,8 @@ pub fn measure(year: &Cells, work: &mut Work, ev: usize)
     requires { ⌜ ev < eventLimit ⌝ }
     requires { ⌜ Entries (facts (now year)) ev (now work) ⌝ }
     requires { ⌜ Row (now work) offURow offPeakPlaces none ⌝ }
-    ensures shares { λ _. ⌜ Row (now (work .exit)) offURow registrations (offU (facts (now (year .entry))) ev) ⌝ }
-    ensures divisions { λ _. ⌜ Row (now (work .exit)) (offShortRow + divisionsIn) sellers (offDivisions (facts (now (year .entry))) ev) ⌝ }
+    ensures shares { λ _. ⌜ OffShares (facts (now (year .entry))) ev (now (work .exit)) ⌝ }
+    ensures divisions { λ _. ⌜ OffDivided (facts (now (year .entry))) ev (now (work .exit)) ⌝ }
     ensures aside { λ _. ⌜ Aside offURow offPeakPlaces (now (work .entry)) (now (work .exit)) ⌝ }
 {
     if settle_facts::is_dual(year, ev) {
