@@ -12,6 +12,8 @@ use Rattle.ids.specs.Ids.{at}
 use Rattle.limits.specs.Limits.{registrations, sellers, eventLimit}
 use Rattle.year_cells.specs.Places.{registrationWidth, clearingWidth, listingWidth, eventListingIn, eventWidth, entriesWidth, closedPlace, startedPlace, acceptedPlace, openedPlace, leapPlace, registrationsPlace, eventsPlace, testsPlace, billedPlace, billedTestPlace, billedCreditPlace, billedLsePlace, clearingsPlace, retestEntriesPlace, cellCount}
 use Rattle.year.specs.declared.Amounts.{Amounts}
+use Rattle.year.specs.declared.Event.{Event}
+use Rattle.year.specs.declared.Year.{Year}
 use Rattle.year.specs.Steps.{withEvent, withClose}
 use Rattle.year.specs.Sound.{SoundAmounts}
 use Rattle.year_cells.specs.Rows.{Laid, laid-on, Same, same-on, same-in, same-before, same-behind, rows-laid, numbers-kept, numbers-anew}
@@ -19,6 +21,13 @@ use Rattle.year_cells.specs.Layout.{flag, listingAt, eventAt, cellEvents, cellB
 use Rattle.year_cells.specs.Regions.{listing-view, event-view, registrations-kept, terms-kept, events-kept, tests-kept, billed-kept, clearings-kept, retests-kept}
 use Rattle.record_heads.specs.declared.EventHead.{EventHead}
 use Rattle.record_heads.specs.Events.{eventOf}
+
+-- the event of a head and of the row of its listing, and the year in the cells with it
+abbrev pub eventBy : EventHead → List ℕ → Event
+eventBy e l = eventOf e (listingAt (at l))
+
+abbrev pub yearWithEvent : List ℕ → EventHead → List ℕ → Year
+yearWithEvent c e l = withEvent (yearIn c) (eventBy e l)
 
 -- the row of an event's head, with a mark for its bool, and of the whole event
 abbrev pub headRow : EventHead → List ℕ
@@ -28,14 +37,14 @@ marked : (b : Bool) → flag (boolByte b) ≡ b
 marked true = refl
 marked false = refl
 
-event-row : (e : EventHead) (l : List ℕ) → eventAt (at (headRow e ++ l)) ≡ eventOf e (listingAt (at l))
+event-row : (e : EventHead) (l : List ℕ) → eventAt (at (headRow e ++ l)) ≡ eventBy e l
 event-row e l =
     cc (marked (e .dual), listing-view (λ k. at (headRow e ++ l) (eventListingIn + k)) (at l) (λ k m. getD-append-add (headRow e) l k 0))
 
 -- an event is laid by three rows: its head, its listing, and the marks
 pub call-laid : {a b c d l : List ℕ} (n : ℕ) (event : EventHead) → n ≡ at a acceptedPlace → n < eventLimit → length l ≡ listingWidth
     → Laid (eventsPlace + eventWidth * n) (headRow event) a b → Laid (eventsPlace + eventWidth * n + eventListingIn) l b c → Laid startedPlace (1 ∷ (n + 1) ∷ []) c d
-    → yearIn d ≡ withEvent (yearIn a) (eventOf event (listingAt (at l)))
+    → yearIn d ≡ yearWithEvent a event l
 unfolding cellEvents
 call-laid {a} {b} {c} {d} {l} n event q m e g h i =
     let row : Laid (eventsPlace + eventWidth * n) (headRow event ++ l) a c = laid-on g h in

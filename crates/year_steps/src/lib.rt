@@ -2,13 +2,12 @@
 ghost use mathlib.Core.Path.{_≡_};
 ghost use Prim.Native.Nat.{_<_};
 ghost use lib.ListN.{length};
-ghost use Rattle.ids.specs.Ids.{at};
 ghost use Rattle.limits.specs.Limits.{eventLimit, closeLimit};
 ghost use Rattle.year_cells.specs.Places.{listingWidth};
-ghost use Rattle.year.specs.Steps.{withEvent, withClose};
+ghost use Rattle.year.specs.Steps.{withClose};
 ghost use Rattle.year.specs.Sound.{SoundEvent, SoundAmounts};
-ghost use Rattle.year_cells.specs.Layout.{listingAt, yearIn, ValidCells};
-ghost use Rattle.record_heads.specs.Events.{eventOf};
+ghost use Rattle.year_cells.specs.Layout.{yearIn, ValidCells};
+ghost use Rattle.year_steps.specs.StepsLaid.{eventBy, yearWithEvent};
 use record_heads::EventHead;
 use year::Amounts;
 use year_cells::BILLED_CREDIT_PLACE;
@@ -35,8 +34,8 @@ pub fn add_event(year: &mut Cells, e: EventHead, listing: &[u64])
     requires { ⌜ ValidCells (now year) ⌝ }
     requires { ⌜ yearIn (now year) .accepted < eventLimit ⌝ }
     requires { ⌜ length (now listing) ≡ listingWidth ⌝ }
-    requires { ⌜ SoundEvent (eventOf e (listingAt (at (now listing)))) ⌝ }
-    ensures equals { λ r. ⌜ yearIn (now (year .exit)) ≡ withEvent (yearIn (now (year .entry))) (eventOf e (listingAt (at (now (listing .entry))))) ⌝ }
+    requires { ⌜ SoundEvent (eventBy e (now listing)) ⌝ }
+    ensures equals { λ r. ⌜ yearIn (now (year .exit)) ≡ yearWithEvent (now (year .entry)) e (now (listing .entry)) ⌝ }
     ensures valid { λ r. ⌜ ValidCells (now (year .exit)) ⌝ }
 {
     let n = year_cells::events_accepted(year);

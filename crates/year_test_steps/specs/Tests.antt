@@ -15,8 +15,10 @@ use Rattle.limits.specs.Limits.{registrations, sellers, testGroups}
 use Rattle.year_cells.specs.Places.{reductionsIn, deficitsIn, testDeficitsIn, testWidth, testsPlace, testEntriesPlace}
 use Rattle.year.specs.declared.Listing.{Listing}
 use Rattle.year.specs.declared.Test.{Test}
+use Rattle.year.specs.declared.Year.{Year}
 use Rattle.year.specs.Year.{noTest, listed, reduction}
 use Rattle.year.specs.Listing.{single}
+use Rattle.year.specs.Steps.{withTest, withRetest}
 use Rattle.year.specs.Sound.{SoundTest, Sound}
 use Rattle.year_cells.specs.Rows.{from, Same}
 use Rattle.year_cells.specs.Layout.{flag, listingAt, cellTerms, groupIn, testAt, cellTests, yearIn}
@@ -26,6 +28,13 @@ use Rattle.year_tested.specs.Tested.{testedAt, firstAt, tested-in}
 -- a test that was taken
 abbrev pub takenTest : ℕ → Listing → Test
 takenTest month l = record { taken = true; month = month; listing = single l }
+
+-- the year in the cells with the test of a group, and with a retest, from the row of its listing
+abbrev pub yearWithTest : List ℕ → ℕ → ℕ → List ℕ → Year
+yearWithTest c group month l = withTest (yearIn c) group (takenTest month (listingAt (at l)))
+
+abbrev pub yearWithRetest : List ℕ → List ℕ → Year
+yearWithRetest c l = withRetest (yearIn c) (listingAt (at l))
 
 -- a group without a test lists nothing
 pub untaken-free : (c : List ℕ) → Sound (yearIn c) → {k : ℕ} → k < testGroups → getD (cellTests c) k noTest .taken ≡ false → (i : ℕ) → i < registrations → testedAt c k i ≡ false

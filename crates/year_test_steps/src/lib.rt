@@ -7,10 +7,9 @@ ghost use Rattle.ids.specs.Ids.{at};
 ghost use Rattle.limits.specs.Limits.{testGroups};
 ghost use Rattle.year_cells.specs.Places.{listingWidth};
 ghost use Rattle.year.specs.Year.{noTest};
-ghost use Rattle.year.specs.Steps.{withTest, withRetest};
 ghost use Rattle.year.specs.Sound.{SoundListing, SoundTest};
 ghost use Rattle.year_cells.specs.Layout.{listingAt, yearIn, ValidCells};
-ghost use Rattle.year_test_steps.specs.Tests.{takenTest};
+ghost use Rattle.year_test_steps.specs.Tests.{takenTest, yearWithTest, yearWithRetest};
 use crate::merging::enter;
 use year_cells::Cells;
 use year_cells::DEFICITS_IN;
@@ -32,7 +31,7 @@ pub fn add_test(year: &mut Cells, group: usize, month: u64, listing: &[u64])
     requires { ⌜ getD (yearIn (now year) .tests) group noTest .taken ≡ false ⌝ }
     requires { ⌜ length (now listing) ≡ listingWidth ⌝ }
     requires { ⌜ SoundTest (yearIn (now year) .terms) group (takenTest month (listingAt (at (now listing)))) ⌝ }
-    ensures equals { λ r. ⌜ yearIn (now (year .exit)) ≡ withTest (yearIn (now (year .entry))) group (takenTest month (listingAt (at (now (listing .entry))))) ⌝ }
+    ensures equals { λ r. ⌜ yearIn (now (year .exit)) ≡ yearWithTest (now (year .entry)) group month (now (listing .entry)) ⌝ }
     ensures valid { λ r. ⌜ ValidCells (now (year .exit)) ⌝ }
 {
     lay(year, STARTED_PLACE, &[1]);
@@ -51,7 +50,7 @@ pub fn add_retest(year: &mut Cells, listing: &[u64])
     requires { ⌜ yearIn (now year) .started ≡ true ⌝ }
     requires { ⌜ length (now listing) ≡ listingWidth ⌝ }
     requires { ⌜ SoundListing (listingAt (at (now listing))) ⌝ }
-    ensures equals { λ r. ⌜ yearIn (now (year .exit)) ≡ withRetest (yearIn (now (year .entry))) (listingAt (at (now (listing .entry)))) ⌝ }
+    ensures equals { λ r. ⌜ yearIn (now (year .exit)) ≡ yearWithRetest (now (year .entry)) (now (listing .entry)) ⌝ }
     ensures valid { λ r. ⌜ ValidCells (now (year .exit)) ⌝ }
 {
     enter(year, RETEST_ENTRIES_PLACE, listing);
