@@ -18,7 +18,7 @@ use Rattle.owed_laws.specs.Limits.{limits}
 use Rattle.owed_laws.specs.Balance.{credits-le-charges}
 use Rattle.owed_laws.specs.Totals.{charges-le, lse-fits}
 use Rattle.settle_facts.specs.CellFacts.{facts}
-use Rattle.settle_table.specs.Places.{complianceRow, creditRow, testRow}
+use Rattle.settle_table.specs.Places.{complianceRow, creditRow, testRow, lseRow}
 use Rattle.settle_table.specs.Rows.{Row}
 
 -- the sum of the sixteen places from p on
@@ -32,6 +32,10 @@ net w = rowSum w complianceRow + rowSum w testRow - rowSum w creditRow
 pub record Covered (w : List ℕ) : Type 0 where
   pub charges : rowSum w complianceRow + rowSum w testRow < 2 ^ 64
   pub credits : rowSum w creditRow ≤ rowSum w complianceRow + rowSum w testRow
+
+-- the LSEs' row holds what is left in the table before, allotted by obligation
+abbrev pub Credited : Facts → List ℕ → List ℕ → Type 0
+Credited F before w = Row w lseRow lses (share lses (year.obligation (F .terms)) (net before))
 
 -- all obligations, in the year's cells
 pub obligations : (c : List ℕ) → sumTo lses (λ j. at c (obligationsPlace + j)) ≡ sumTo lses (year.obligation (facts c .terms))

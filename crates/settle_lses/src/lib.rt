@@ -4,14 +4,13 @@ ghost use Prim.Native.Nat.{_*_, _<_, _^_};
 ghost use lib.ListN.{length};
 ghost use Rattle.ids.specs.Ids.{sumTo};
 ghost use Rattle.limits.specs.Limits.{lses};
-ghost use Rattle.allotment.specs.Allot.{share};
 ghost use Rattle.year.specs.Year.{obligation};
 ghost use Rattle.year_cells.specs.Layout.{ValidCells};
 ghost use Rattle.settle_facts.specs.CellFacts.{facts};
 ghost use Rattle.owed.specs.Divisions.{lseDivisions};
 ghost use Rattle.settle_table.specs.Places.{lseRow, size};
 ghost use Rattle.settle_table.specs.Rows.{Aside, Row, none};
-ghost use Rattle.settle_lses.specs.Lses.{net, Covered};
+ghost use Rattle.settle_lses.specs.Lses.{net, Covered, Credited};
 use allotment::Allotment;
 use limits::LSES;
 use limits::SELLERS;
@@ -35,7 +34,7 @@ pub fn credit_lses(year: &Cells, work: &mut Work) -> u64
     requires { ⌜ Covered (now work) ⌝ }
     requires { ⌜ net (now work) * sumTo lses (obligation (facts (now year) .terms)) < 2 ^ 64 ⌝ }
     requires { ⌜ (length (now work) ≡ size) × Row (now work) lseRow lses none ⌝ }
-    ensures credited { λ _. ⌜ Row (now (work .exit)) lseRow lses (share lses (obligation (facts (now (year .entry)) .terms)) (net (now (work .entry)))) ⌝ }
+    ensures credited { λ _. ⌜ Credited (facts (now (year .entry))) (now (work .entry)) (now (work .exit)) ⌝ }
     ensures divisions { λ r. ⌜ r ≡ lseDivisions (facts (now (year .entry))) ⌝ }
     ensures aside { λ _. ⌜ Aside lseRow lses (now (work .entry)) (now (work .exit)) ⌝ }
 {

@@ -6,8 +6,9 @@ use native.Mathlib.Omega.{arith}
 use lib.ListN.{length, replicate, length-replicate}
 use Rattle.ids.specs.Sets.{getD-replicate-same}
 use Rattle.limits.specs.Limits.{registrations, areas}
+use Rattle.year.specs.declared.Registration.{Registration}
 use Rattle.year.specs.Year as year
-use Rattle.year_cells.specs.Layout.{groupIn}
+use Rattle.year_cells.specs.Layout.{groupIn, yearIn, ValidCells}
 use Rattle.owed.specs.Facts.{Facts}
 use Rattle.owed.specs.Owed as owed
 use Rattle.settle_facts.specs.CellFacts.{facts}
@@ -36,6 +37,10 @@ pub record Begun (c : List ℕ) (i : ℕ) (w : List ℕ) : Type 0 where
   pub cap : Row w capRow i (ownCap (facts c))
   pub sums : AreaSums (facts c) i w
   pub fresh : Row w dispatchCountRow freshPlaces none
+
+-- registration i may be entered next: it is that of the valid cells, and those before it stand in the table
+abbrev pub Next : List ℕ → ℕ → Registration → List ℕ → Type 0
+Next c i r w = ValidCells c × (i < registrations) × (r ≡ year.registration (yearIn c .terms) i) × Begun c i w
 
 pub begun-first : (c : List ℕ) → Begun c 0 (replicate size 0)
 begun-first c =

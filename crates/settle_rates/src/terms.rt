@@ -1,10 +1,6 @@
 // Registrations entered into the working table one by one, with what each adds to its area's sums.
-ghost use mathlib.Core.Path.{_≡_};
-ghost use Prim.Native.Nat.{_+_, _<_};
-ghost use Rattle.limits.specs.Limits.{registrations};
-ghost use Rattle.year.specs.Year.{registration};
-ghost use Rattle.year_cells.specs.Layout.{yearIn, ValidCells};
-ghost use Rattle.settle_rates.specs.Entering.{Begun};
+ghost use Prim.Native.Nat.{_+_};
+ghost use Rattle.settle_rates.specs.Entering.{Begun, Next};
 use crate::area_sums::add_to_area;
 use settle_table::Work;
 use year::Registration;
@@ -12,7 +8,7 @@ use year_cells::Cells;
 
 // A registration's terms go into the table, with its own rate and the cap by that: the rate for all that it committed.
 pub fn enter(year: &Cells, work: &mut Work, i: usize, r: Registration)
-    requires { ⌜ ValidCells (now year) × (i < registrations) × (r ≡ registration (yearIn (now year) .terms) i) × Begun (now year) i (now work) ⌝ }
+    requires { ⌜ Next (now year) i r (now work) ⌝ }
     ensures { λ _. ⌜ Begun (now (year .entry)) (i + 1) (now (work .exit)) ⌝ }
 {
     let own = add_to_area(year, work, i, r);

@@ -16,7 +16,7 @@ use Rattle.year.specs.Year as year
 use Rattle.year_cells.specs.Layout.{groupIn, ValidCells}
 use Rattle.year_tested.specs.Tested.{group-below}
 use Rattle.owed.specs.Facts.{Facts}
-use Rattle.owed.specs.Owed.{unforced, ofSeller, dispatched, shortfallOver, testShortfall, B}
+use Rattle.owed.specs.Owed.{unforced, ofSeller, dispatched, shortfallOver, testShortfall, B, raised}
 use Rattle.owed.specs.Owed as owed
 use Rattle.owed_laws.specs.Limits.{limits}
 use Rattle.owed_laws.specs.Sellers.{ofSeller-le}
@@ -126,6 +126,10 @@ module _ {c : List ℕ} (H : ValidCells c) {i : ℕ} (b : i ≤ registrations) {
   worth-room =
       grown-most (h .worth) 0 10000000000 b (λ j l. le-refl 0)
       (λ j l. cond-le (stands c j) (mul-le-mul (limits (H .sound) .committed j) (limits (H .sound) .rate j))) k m
+
+-- what the test of group p charges seller s for so many days
+abbrev pub chargeOver : Facts → ℕ → ℕ → ℕ → ℕ
+chargeOver F p s days = testShortfall F p s * raised (B F p s) * days / 1000
 
 -- the sums are those of each test's entries
 module _ {c : List ℕ} (H : ValidCells c) {p s : ℕ} (l : p < testGroups) (m : s < sellers) where

@@ -5,12 +5,12 @@ ghost use Rattle.ids.specs.Ids.{anyTo};
 ghost use Rattle.limits.specs.Limits.{sellers, testGroups, closeLimit, rateLimit};
 ghost use Rattle.year.specs.Year.{deficit};
 ghost use Rattle.year_cells.specs.Layout.{ValidCells};
-ghost use Rattle.owed.specs.Owed.{testShortfall, B, raised, test};
+ghost use Rattle.owed.specs.Owed.{raised, test};
 ghost use Rattle.settle_facts.specs.CellFacts.{facts};
 ghost use Rattle.settle_table.specs.Places.{testRow};
 ghost use Rattle.settle_table.specs.Rows.{Aside, Row, none};
 ghost use Rattle.settle_tests.specs.Entries.{takenAt, Ready};
-ghost use Rattle.settle_tests.specs.Sums.{Summed};
+ghost use Rattle.settle_tests.specs.Sums.{chargeOver, Summed};
 use crate::sums::Sums;
 use crate::sums::sum_up;
 use limits::SELLERS;
@@ -51,7 +51,7 @@ fn charge_of(year: &Cells, sums: &Sums, group: usize, s: usize, days: u64) -> u6
     requires { ⌜ ValidCells (now year) ⌝ }
     requires { ⌜ Summed (now year) (now sums) ⌝ }
     requires { ⌜ (group < testGroups) × (s < sellers) × (days ≤ 366) ⌝ }
-    ensures { λ r. ⌜ r ≡ testShortfall (facts (now (year .entry))) group s * raised (B (facts (now (year .entry))) group s) * days / 1000 ⌝ }
+    ensures { λ r. ⌜ r ≡ chargeOver (facts (now (year .entry))) group s days ⌝ }
 {
     let key = SELLERS * group + s;
     let committed = Nominated::sum(sums[sums::COMMITTED + key]);
