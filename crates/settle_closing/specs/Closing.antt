@@ -6,21 +6,20 @@ use lib.ListN.{length}
 use native.Mathlib.Omega.{arith}
 use Rattle.ids.specs.Ids.{tabulate}
 use Rattle.ids.specs.Tables.{tabulate-same}
-use Rattle.limits.specs.Limits.{registrations, parties, sellers, lses}
+use Rattle.limits.specs.Limits.{parties, sellers, lses}
 use Rattle.year.specs.declared.Amounts.{Amounts}
 use Rattle.year_cells.specs.Rows.{from}
-use Rattle.allotment.specs.Allot.{share}
-use Rattle.year.specs.Year as year
 use Rattle.owed.specs.Facts.{Facts}
 use Rattle.owed.specs.Owed.{amounts}
 use Rattle.owed.specs.Owed as owed
 use Rattle.settle_facts.specs.CellFacts.{facts}
 use Rattle.settle_table.specs.Columns.{columns-aside}
-use Rattle.settle_table.specs.Places.{dispatchCountRow, dispatchedRow, complianceRow, creditRow, testRow, lseRow, passedPlaces, size}
-use Rattle.settle_table.specs.Rows.{Aside, Row, none, mark, row-aside, row-within}
+use Rattle.settle_table.specs.Places.{dispatchCountRow, complianceRow, creditRow, testRow, lseRow, passedPlaces, size}
+use Rattle.settle_table.specs.Rows.{Aside, Row, none, row-aside, row-within}
+use Rattle.settle_dispatch.specs.Counting.{DispatchMarks}
 use Rattle.settle_rates.specs.Rating.{Rated}
 use Rattle.settle_tests.specs.Entries.{Ready}
-use Rattle.settle_lses.specs.Lses.{net, lses-are}
+use Rattle.settle_lses.specs.Lses.{Credited, lses-are}
 
 -- sixteen numbers from p on
 abbrev pub numbers : List ℕ → ℕ → List ℕ
@@ -45,7 +44,7 @@ module _ (c : List ℕ) (k : ℕ) where
     pub test : Row w testRow sellers (owed.test F k)
     pub lse : Row w lseRow lses none
 
-  pub evented : {w v : List ℕ} → Rated c w → Aside dispatchCountRow passedPlaces w v → Row v dispatchedRow registrations (λ i. mark (owed.dispatched F i)) → Row v complianceRow sellers (owed.compliance F k) → Row v creditRow sellers (owed.credit F k) → Evented v
+  pub evented : {w v : List ℕ} → Rated c w → Aside dispatchCountRow passedPlaces w v → DispatchMarks F v → Row v complianceRow sellers (owed.compliance F k) → Row v creditRow sellers (owed.credit F k) → Evented v
   evented h a dispatched x z =
       record {
         ready = record { columns = columns-aside (h .columns) a (omega arith) (omega arith); dispatched = dispatched; group = row-aside (h .group) a (λ j l x y. omega arith) };
@@ -66,7 +65,7 @@ module _ (c : List ℕ) (k : ℕ) where
       }
 
   -- the amounts in their rows
-  pub amounts-are : {w v : List ℕ} → Tested w → Aside lseRow lses w v → Row v lseRow lses (share lses (year.obligation (F .terms)) (net w))
+  pub amounts-are : {w v : List ℕ} → Tested w → Aside lseRow lses w v → Credited F w v
       → _≡_ {A = Amounts} (record { compliance = numbers v complianceRow; test = numbers v testRow; credit = numbers v creditRow; lse = numbers v lseRow }) (amounts F k)
   unfolding amounts
   amounts-are {w} {v} h a r =

@@ -6,23 +6,24 @@ use Rattle.limits.specs.Limits.{registrations, sellers}
 use Rattle.settle_charges.specs.Charging.{Given, Billed, billed-first}
 use Rattle.settle_credits.specs.Crediting.{creditBy, credit-first}
 use Rattle.owed.specs.Facts.{Facts}
-use Rattle.owed.specs.Owed as owed
+use Rattle.settle_dispatch.specs.Counting.{DispatchCounts, DispatchMarks}
 use Rattle.settle_shortfalls.specs.Sharing.{Shares}
+use Rattle.settle_shortfalls.specs.OffPeak.{OffShares}
 use Rattle.settle_table.specs.Columns.{Columns, columns-aside}
-use Rattle.settle_table.specs.Places.{dispatchCountRow, dispatchedRow, spentRow, complianceRow, creditRow, shortRow, offURow}
-use Rattle.settle_table.specs.Rows.{Aside, Row, none, mark, row-aside, row-within}
+use Rattle.settle_table.specs.Places.{dispatchCountRow, spentRow, complianceRow, creditRow, shortRow}
+use Rattle.settle_table.specs.Rows.{Aside, Row, none, row-aside, row-within}
 
 -- after m events
 pub record Run (F : Facts) (k m : ℕ) (w : List ℕ) : Type 0 where
   pub columns : Columns F registrations w
-  pub dispatchCount : Row w dispatchCountRow registrations (owed.dispatchCount F)
-  pub dispatched : Row w dispatchedRow registrations (λ i. mark (owed.dispatched F i))
+  pub dispatchCount : DispatchCounts F w
+  pub dispatched : DispatchMarks F w
   pub billed : Billed F k m w
   pub credit : Row w creditRow sellers (creditBy F k m)
 
 -- after pass 1
 pub run-first : {F : Facts} (k : ℕ) {w v : List ℕ} → Columns F registrations w → Row w dispatchCountRow 224 none → Aside dispatchCountRow (spentRow - dispatchCountRow) w v
-    → Row v dispatchCountRow registrations (owed.dispatchCount F) → Row v dispatchedRow registrations (λ i. mark (owed.dispatched F i)) → Run F k 0 v
+    → DispatchCounts F v → DispatchMarks F v → Run F k 0 v
 run-first {F} k {w} {v} h z a n c =
     record {
       columns = columns-aside h a (omega arith) (omega arith);
@@ -46,7 +47,7 @@ run-aside h a b =
       credit = row-aside (h .credit) a (λ j l x y. omega arith);
     }
 
-pub given : {F : Facts} {k ev : ℕ} {w : List ℕ} → Run F k ev w → Shares F ev w → Row w offURow registrations (owed.offU F ev) → Given F ev w
+pub given : {F : Facts} {k ev : ℕ} {w : List ℕ} → Run F k ev w → Shares F ev w → OffShares F ev w → Given F ev w
 given h s o = record { columns = h .columns; dispatchCount = h .dispatchCount; shares = s; off = o }
 
 -- its charges, then its credits

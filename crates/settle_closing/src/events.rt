@@ -3,10 +3,11 @@ ghost use Prim.Native.Nat.{_+_, _≤_, _<_};
 ghost use Rattle.limits.specs.Limits.{registrations, sellers, eventLimit, closeLimit};
 ghost use Rattle.year_cells.specs.Layout.{ValidCells};
 ghost use Rattle.settle_facts.specs.CellFacts.{facts};
-ghost use Rattle.owed.specs.Owed.{dispatched, compliance, credit};
+ghost use Rattle.owed.specs.Owed.{compliance, credit};
 ghost use Rattle.settle_table.specs.Columns.{Columns};
-ghost use Rattle.settle_table.specs.Places.{dispatchCountRow, dispatchedRow, complianceRow, creditRow, passedPlaces};
-ghost use Rattle.settle_table.specs.Rows.{Aside, Row, none, mark};
+ghost use Rattle.settle_table.specs.Places.{dispatchCountRow, complianceRow, creditRow, passedPlaces};
+ghost use Rattle.settle_table.specs.Rows.{Aside, Row, none};
+ghost use Rattle.settle_dispatch.specs.Counting.{DispatchMarks};
 ghost use Rattle.settle_closing.specs.Passes.{Run};
 use settle_table::Work;
 use year_cells::Cells;
@@ -34,7 +35,7 @@ pub fn bill_events(year: &Cells, work: &mut Work, k: u64)
     requires { ⌜ Row (now work) dispatchCountRow 224 none ⌝ }
     ensures compliance { λ _. ⌜ Row (now (work .exit)) complianceRow sellers (compliance (facts (now (year .entry))) k) ⌝ }
     ensures credit { λ _. ⌜ Row (now (work .exit)) creditRow sellers (credit (facts (now (year .entry))) k) ⌝ }
-    ensures dispatched { λ _. ⌜ Row (now (work .exit)) dispatchedRow registrations (λ i. mark (dispatched (facts (now (year .entry))) i)) ⌝ }
+    ensures dispatched { λ _. ⌜ DispatchMarks (facts (now (year .entry))) (now (work .exit)) ⌝ }
     ensures aside { λ _. ⌜ Aside dispatchCountRow passedPlaces (now (work .entry)) (now (work .exit)) ⌝ }
 {
     settle_dispatch::count(year, work);

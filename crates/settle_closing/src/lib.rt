@@ -2,7 +2,7 @@
 ghost use mathlib.Core.Path.{_≡_};
 ghost use Prim.Native.Nat.{_≤_};
 ghost use Rattle.limits.specs.Limits.{registrations, closeLimit};
-ghost use Rattle.year_cells.specs.Layout.{yearIn, ValidCells};
+ghost use Rattle.year_cells.specs.Layout.{cellRegistrations, ValidCells};
 ghost use Rattle.owed.specs.Owed.{amounts};
 ghost use Rattle.settle_facts.specs.CellFacts.{facts};
 use limits::REGISTRATIONS;
@@ -16,7 +16,7 @@ mod events;
 
 // All amounts to date at month k, of a year whose registrations are lent.
 pub fn settle(registrations: &[Registration], year: &Cells, k: u64) -> Amounts
-    requires { ⌜ ValidCells (now year) × (now registrations ≡ yearIn (now year) .terms .registrations) × (1 ≤ k) × (k ≤ closeLimit) ⌝ }
+    requires { ⌜ ValidCells (now year) × (now registrations ≡ cellRegistrations (now year)) × (1 ≤ k) × (k ≤ closeLimit) ⌝ }
     ensures { λ r. ⌜ r ≡ amounts (facts (now (year .entry))) k ⌝ }
 {
     let mut work = [0u64; SIZE];
@@ -30,7 +30,7 @@ pub fn settle(registrations: &[Registration], year: &Cells, k: u64) -> Amounts
 
 // All amounts to date at month k: the year's own registrations are lent.
 pub fn amounts_of(registrations: [Registration; REGISTRATIONS], year: &Cells, k: u64) -> Amounts
-    requires { ⌜ ValidCells (now year) × (registrations ≡ yearIn (now year) .terms .registrations) × (1 ≤ k) × (k ≤ closeLimit) ⌝ }
+    requires { ⌜ ValidCells (now year) × (registrations ≡ cellRegistrations (now year)) × (1 ≤ k) × (k ≤ closeLimit) ⌝ }
     ensures { λ r. ⌜ r ≡ amounts (facts (now (year .entry))) k ⌝ }
 {
     settle(&registrations, year, k)
