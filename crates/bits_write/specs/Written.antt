@@ -5,7 +5,7 @@ use Prim.Native.Nat.{ℕ, _+_, _-_, _*_, _^_, _≤_, _<_}
 use lib.ListN.{length, getD}
 use Rattle.bits_write.specs.declared.Writer.{Writer}
 use Rattle.bits.specs.Bits.{fieldAt}
-use Rattle.bits.specs.Table.{total}
+use Rattle.bits.specs.Table.{total, times}
 use Rattle.bits.specs.Pack.{bytesFor}
 
 -- the values' bits one after another, as one number
@@ -40,6 +40,13 @@ pub record Wrote (old new : List ℕ) (p q : Writer) (w v : ℕ) : Type 0 where
   pub ends : writtenBits q ≡ writtenBits p + w
   pub spells : written new q ≡ written old p * 2 ^ w + v
   pub after : (i : ℕ) → q .at ≤ i → getD new i 0 ≡ getD old i 0
+
+-- it has gone on by values in fields of these widths, and by those of n items with such fields
+abbrev pub PutAll : List ℕ → List ℕ → Writer → Writer → List ℕ → List ℕ → Type 0
+PutAll old new p q ws vs = Wrote old new p q (total ws) (joined ws vs)
+
+abbrev pub PutItems : List ℕ → List ℕ → Writer → Writer → ℕ → List ℕ → List ℕ → Type 0
+PutItems old new p q n ws vs = PutAll old new p q (times n ws) vs
 
 -- the writer's bits and zero bits behind them fill so many bytes
 pub record Finished (old new : List ℕ) (p : Writer) (size : ℕ) : Type 0 where

@@ -4,7 +4,7 @@ ghost use Prim.Native.Nat.{_+_, _*_, _^_, _≤_, _<_};
 ghost use lib.Dec.{T};
 ghost use lib.ListN.{length};
 ghost use Rattle.bits.specs.Table.{total, times, narrow, Valid};
-ghost use Rattle.bits_write.specs.Written.{writtenBits, joined, Out, Ready, Wrote, Finished};
+ghost use Rattle.bits_write.specs.Written.{writtenBits, Out, Ready, Wrote, PutAll, PutItems, Finished};
 
 // The next byte, and the bits held back from it on: how many, and the number that they spell.
 pub struct Writer {
@@ -68,40 +68,40 @@ impl Writer {
         }
     }
 
-    // The values in fields of these widths.
-    pub fn put_all(self, bytes: &mut [u8], widths: &[u8], values: &[u64]) -> Writer
+    // The values in fields of the widths ws.
+    pub fn put_all(self, bytes: &mut [u8], ws: &[u8], values: &[u64]) -> Writer
         requires { ⌜ Ready self ⌝ }
-        requires { ⌜ T (narrow (now widths)) ⌝ }
-        requires { ⌜ length (now values) ≡ length (now widths) ⌝ }
-        requires { ⌜ Valid (now widths) (now values) ⌝ }
-        requires { ⌜ writtenBits self + total (now widths) ≤ 8 * length (now bytes) ⌝ }
-        ensures { λ r. ⌜ Wrote (now (bytes .entry)) (now (bytes .exit)) self r (total (now (widths .entry))) (joined (now (widths .entry)) (now (values .entry))) ⌝ }
+        requires { ⌜ T (narrow (now ws)) ⌝ }
+        requires { ⌜ length (now values) ≡ length (now ws) ⌝ }
+        requires { ⌜ Valid (now ws) (now values) ⌝ }
+        requires { ⌜ writtenBits self + total (now ws) ≤ 8 * length (now bytes) ⌝ }
+        ensures { λ r. ⌜ PutAll (now (bytes .entry)) (now (bytes .exit)) self r (now (ws .entry)) (now (values .entry)) ⌝ }
     {
         let mut p = self;
         let mut i = 0;
-        while i < widths.len() {
-            let w = widths[i] as usize;
+        while i < ws.len() {
+            let w = ws[i] as usize;
             p = p.put(bytes, w, values[i]);
             i += 1;
         }
         p
     }
 
-    // The values in n items, each with fields of these widths.
-    pub fn put_items(self, bytes: &mut [u8], widths: &[u8], n: usize, values: &[u64]) -> Writer
+    // The values in n items, each with fields of the widths ws.
+    pub fn put_items(self, bytes: &mut [u8], ws: &[u8], n: usize, values: &[u64]) -> Writer
         requires { ⌜ Ready self ⌝ }
-        requires { ⌜ T (narrow (now widths)) ⌝ }
-        requires { ⌜ length (now values) ≡ length (times n (now widths)) ⌝ }
-        requires { ⌜ Valid (times n (now widths)) (now values) ⌝ }
-        requires { ⌜ writtenBits self + total (times n (now widths)) ≤ 8 * length (now bytes) ⌝ }
-        ensures { λ r. ⌜ Wrote (now (bytes .entry)) (now (bytes .exit)) self r (total (times n (now (widths .entry)))) (joined (times n (now (widths .entry))) (now (values .entry))) ⌝ }
+        requires { ⌜ T (narrow (now ws)) ⌝ }
+        requires { ⌜ length (now values) ≡ length (times n (now ws)) ⌝ }
+        requires { ⌜ Valid (times n (now ws)) (now values) ⌝ }
+        requires { ⌜ writtenBits self + total (times n (now ws)) ≤ 8 * length (now bytes) ⌝ }
+        ensures { λ r. ⌜ PutItems (now (bytes .entry)) (now (bytes .exit)) self r n (now (ws .entry)) (now (values .entry)) ⌝ }
     {
         let mut p = self;
         let mut i = 0;
         let mut k = 0;
         while k < n {
-            let end = i + widths.len();
-            p = p.put_all(bytes, widths, &values[i..end]);
+            let end = i + ws.len();
+            p = p.put_all(bytes, ws, &values[i..end]);
             i = end;
             k += 1;
         }

@@ -12,11 +12,11 @@ use Rattle.bits_write.proofs.Writer.put_all.Statement.{statement}
 use Rattle.bits_write.proofs.Writer.put_all.Tie as tie
 
 abbrev Inv-loop : tie.InvT-loop
-Inv-loop bytes₀ widths values p₀ i₀ bytes p i =
-    (i ≤ length widths) × Wrote bytes₀ bytes p₀ p (total (take i widths)) (joined (take i widths) (take i values))
+Inv-loop bytes₀ ws values p₀ i₀ bytes p i =
+    (i ≤ length ws) × Wrote bytes₀ bytes p₀ p (total (take i ws)) (joined (take i ws) (take i values))
 
 abbrev μ-loop : tie.MeasureT-loop
-μ-loop bytes₀ widths values p₀ i₀ bytes p i = length widths - i
+μ-loop bytes₀ ws values p₀ i₀ bytes p i = length ws - i
 
 loop-holds : tie.Need-loop-holds Inv-loop μ-loop
 unfolding joined
@@ -30,7 +30,7 @@ put-requires c κs =
     let s = c .before .before .before .before .before .before .before .before in
     let l = c .before .before .before .before .loop in
     let h = c .before .before .before .loop-test .taken in
-    let ws = s .args .widths .now in
+    let ws = s .args .ws .now in
     let k : l .i < length (s .args .values .now) = omega arith in
     (l .inv .1 .ready, (width-in ws (l .i) (s .pre .1 .0) h .1, (valid-in ws (s .args .values .now) (l .i) (s .pre .1 .1 .1 .0) h k, omega (arith, total-in ws (l .i) h, l .inv .1 .ends, l .inv .1 .long))))
 
@@ -41,7 +41,7 @@ loop-again c =
     let h = c .before .before .before .before .before .before .loop-test .taken in
     let k : l .i < length (s .args .values .now) = omega arith in (
       omega arith,
-      rw (total-more (s .args .widths .now) (l .i) h, joined-more (s .args .widths .now) (s .args .values .now) (l .i) h k) (written-join (l .inv .1) (c .before .before .put .ensures)),
+      rw (total-more (s .args .ws .now) (l .i) h, joined-more (s .args .ws .now) (s .args .values .now) (l .i) h k) (written-join (l .inv .1) (c .before .before .put .ensures)),
     )
 
 same-length : tie.Need-same-length Inv-loop μ-loop
@@ -51,7 +51,7 @@ returns : tie.Need-returns Inv-loop μ-loop
 returns c =
     let s = c .before .before .before .before .before in
     let l = c .before .loop in
-    let ws = s .args .widths .now in
+    let ws = s .args .ws .now in
     let vs = s .args .values .now in
     let n : l .i ≡ length ws = omega arith in
     let m : length ws ≡ length vs = sym (s .pre .1 .1 .0) in

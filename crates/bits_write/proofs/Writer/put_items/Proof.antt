@@ -12,22 +12,22 @@ use Rattle.bits_write.proofs.Writer.put_items.Statement.{statement}
 use Rattle.bits_write.proofs.Writer.put_items.Tie as tie
 
 abbrev Inv-loop : tie.InvT-loop
-Inv-loop bytes₀ widths n values p₀ i₀ k₀ bytes p i k =
-    (k ≤ n) × (i ≡ length (times k widths)) × Wrote bytes₀ bytes p₀ p (total (times k widths)) (joined (times k widths) (take i values))
+Inv-loop bytes₀ ws n values p₀ i₀ k₀ bytes p i k =
+    (k ≤ n) × (i ≡ length (times k ws)) × Wrote bytes₀ bytes p₀ p (total (times k ws)) (joined (times k ws) (take i values))
 
 abbrev μ-loop : tie.MeasureT-loop
-μ-loop bytes₀ widths n values p₀ i₀ k₀ bytes p i k = n - k
+μ-loop bytes₀ ws n values p₀ i₀ k₀ bytes p i k = n - k
 
 loop-holds : tie.Need-loop-holds Inv-loop μ-loop
 unfolding times joined
 loop-holds c = (omega arith, omega arith, written-none _ _ (c .before .before .before .pre .0))
 
 -- item k ends within the values
-ends : (c : tie.In-loop Inv-loop μ-loop) → let s = c .before .before .before .before .before in let l = c .before .loop in l .i + length (s .args .widths .now) ≤ length (s .args .values .now)
+ends : (c : tie.In-loop Inv-loop μ-loop) → let s = c .before .before .before .before .before in let l = c .before .loop in l .i + length (s .args .ws .now) ≤ length (s .args .values .now)
 ends c =
     let s = c .before .before .before .before .before in
     let l = c .before .loop in
-    omega (arith, length-item (s .args .widths .now) (s .args .n) (l .k) (c .loop-test .taken), l .inv .1, s .pre .1 .1 .0)
+    omega (arith, length-item (s .args .ws .now) (s .args .n) (l .k) (c .loop-test .taken), l .inv .1, s .pre .1 .1 .0)
 
 part : (i m : _) → i + m - i ≡ m
 part i m = omega arith
@@ -37,7 +37,7 @@ put-all-requires c κs =
     let s = c .before .before .before .before .before .before .before in
     let l = c .before .before .before .loop in
     let h = c .before .before .loop-test .taken in
-    let ws = s .args .widths .now in
+    let ws = s .args .ws .now in
     let vs = s .args .values .now in
     let n = s .args .n in
     let all = s .pre .1 .1 .0 in
@@ -49,7 +49,7 @@ loop-again c =
     let s = c .before .before .before .before .before .before .before .before .before .before in
     let l = c .before .before .before .before .before .before .loop in
     let h = c .before .before .before .before .before .loop-test .taken in
-    let ws = s .args .widths .now in
+    let ws = s .args .ws .now in
     let vs = s .args .values .now in
     let more = joined-item ws vs (s .args .n) (l .k) (l .i) h (l .inv .1) (s .pre .1 .1 .0) in
     let step = rw (part (l .i) (length ws)) at (c .before .before .put-all .ensures) in
