@@ -3,7 +3,8 @@ use Prim.Native.Nat.{ℕ, zero, suc, _+_, _-_, _*_, _%_, _^_}
 use mathlib.Core.Bool.{Bool, _&&_, cond}
 use mathlib.Core.List.{List, [], _∷_, _++_, map}
 use lib.Dec.{ltb, eqb}
-use Rattle.ids.specs.Ids.{at, countTo, anyTo, tabulate}
+use lib.ListN.{length, drop}
+use Rattle.ids.specs.Ids.{at, holds, countTo, anyTo, tabulate}
 use Rattle.limits.specs.Limits.{parties, sellers}
 use Rattle.bits.specs.Pack.{encode}
 use Rattle.year.specs.declared.Terms.{Terms}
@@ -61,6 +62,11 @@ unfoldable pub linesTo : ℕ → (ℕ → Bool) → (ℕ → List Field) → Lis
 linesTo zero p f = []
 linesTo (suc n) p f = linesTo n p f ++ cond (p n) (f n) []
 
+-- the lines of the marked sellers, then those of the marked LSEs
+abbrev pub partyLines : List Bool → List Bool → Amounts → Amounts → List Field
+partyLines ps qs now before =
+    linesTo parties (holds ps) (sellerFields now before) ++ linesTo parties (holds qs) (lseFields now before)
+
 -- the statement of month k: month, number of sellers, number of LSEs, then the lines of each
 module _ (T : Terms) (k : ℕ) (now before : Amounts) where
   unfoldable pub statementFields : List Field
@@ -71,3 +77,7 @@ module _ (T : Terms) (k : ℕ) (now before : Amounts) where
   -- its bytes, zero bits filling the last
   unfoldable pub statementOf : List ℕ
   statementOf = encode (widthsOf statementFields) (valuesOf statementFields)
+
+  -- a buffer with the statement over its front, and the rest as it was
+  abbrev pub issuedOver : List ℕ → List ℕ
+  issuedOver buffer = let s = statementOf in s ++ drop (length s) buffer

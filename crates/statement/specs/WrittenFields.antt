@@ -15,7 +15,7 @@ use Rattle.year.specs.declared.Terms.{Terms}
 use Rattle.year.specs.declared.Amounts.{Amounts}
 use Rattle.year.specs.Sound.{SoundTerms}
 use Rattle.year.specs.Limits.{lse-count-is}
-use Rattle.statement.specs.Statement.{Field, widthsOf, valuesOf, hasRegistration, hasObligation, sellerFields, lseFields, linesTo, statementFields}
+use Rattle.statement.specs.Statement.{Field, widthsOf, valuesOf, hasRegistration, hasObligation, lineFields, sellerFields, lseFields, linesTo, partyLines, statementFields}
 use Rattle.ids.specs.Sums.{count-same}
 use Rattle.statement.specs.Lines.{lines-same, bitsIn, bits-append}
 use Rattle.statement.specs.Sizes.{same-length}
@@ -24,6 +24,13 @@ use Rattle.statement.specs.Marks.{Marks}
 -- the writer p has gone on to q by these fields
 pub record WrittenFields (old new : List ℕ) (p q : Writer) (fs : List Field) : Type 0 where
   pub wrote : Wrote old new p q (bitsIn fs) (joined (widthsOf fs) (valuesOf fs))
+
+-- it has gone on by the line of party i, and by the lines of the marked ones
+abbrev pub PutLine : List ℕ → List ℕ → Writer → Writer → ℕ → List ℕ → List ℕ → ℕ → Type 0
+PutLine old new p q n now before i = WrittenFields old new p q (lineFields n now before i)
+
+abbrev pub PutLines : List ℕ → List ℕ → Writer → Writer → List Bool → ℕ → List ℕ → List ℕ → Type 0
+PutLines old new p q marks n now before = WrittenFields old new p q (linesTo parties (holds marks) (lineFields n now before))
 
 -- the writer's fields: none, one, and some after others
 pub no-fields : {xs : List ℕ} {p : Writer} → Ready p → WrittenFields xs xs p p []
@@ -53,7 +60,7 @@ module _ (p : ℕ → Bool) (l : ℕ → List Field) (i : ℕ) {old cur : List �
 pub statement-written : {T : Terms} {k : ℕ} (now before : Amounts) {ps qs : List Bool} {old cur new : List ℕ} {w x y : Writer}
     → SoundTerms T → Marks (hasRegistration T) ps → Marks (hasObligation T) qs
     → WrittenFields old cur w x ((4, k) ∷ (5, countTo parties (holds ps)) ∷ (5, countTo parties (holds qs)) ∷ [])
-    → WrittenFields cur new x y (linesTo parties (holds ps) (sellerFields now before) ++ linesTo parties (holds qs) (lseFields now before))
+    → WrittenFields cur new x y (partyLines ps qs now before)
     → WrittenFields old new w y (statementFields T k now before)
 unfolding statementFields
 statement-written now before s p q f g =

@@ -1,15 +1,13 @@
 // A close's statement written into a lent buffer: its front, then a line for each party.
 ghost use mathlib.Core.Path.{_≡_};
-ghost use mathlib.Core.List.{_++_};
 ghost use Prim.Native.Nat.{_+_, _*_, _^_, _≤_, _<_};
-ghost use lib.ListN.{length, drop};
-ghost use Rattle.ids.specs.Ids.{holds};
-ghost use Rattle.limits.specs.Limits.{parties, sellers, lses, closeLimit, statementLimit};
+ghost use lib.ListN.{length};
+ghost use Rattle.limits.specs.Limits.{parties, closeLimit, statementLimit};
 ghost use Rattle.year.specs.Sound.{SoundTerms, SoundAmounts};
 ghost use Rattle.bits_write.specs.Written.{writtenBits, Ready};
-ghost use Rattle.statement.specs.Statement.{difference, sellerColumns, lineFields, sellerFields, lseFields, linesTo, statementOf};
+ghost use Rattle.statement.specs.Statement.{difference, sellerColumns, partyLines, statementOf, issuedOver};
 ghost use Rattle.statement.specs.Columns.{Columns};
-ghost use Rattle.statement.specs.WrittenFields.{WrittenFields};
+ghost use Rattle.statement.specs.WrittenFields.{WrittenFields, PutLine, PutLines};
 use crate::count;
 use crate::obliged;
 use crate::present;
@@ -49,25 +47,18 @@ fn columns(amounts: Amounts) -> [u64; 48]
 }
 
 // A party's line: its id, and its n amounts.
-fn put_line(
-    w: Writer,
-    bytes: &mut [u8],
-    id: usize,
-    n: usize,
-    owed: &[u64],
-    billed: &[u64],
-) -> Writer
+fn put_line(w: Writer, out: &mut [u8], id: usize, n: usize, owed: &[u64], billed: &[u64]) -> Writer
     requires { ⌜ Ready w ⌝ }
     requires { ⌜ id < parties ⌝ }
     requires { ⌜ Columns n (now owed) × Columns n (now billed) ⌝ }
-    requires { ⌜ writtenBits w + (4 + 42 * n) ≤ 8 * length (now bytes) ⌝ }
-    ensures { λ r. ⌜ WrittenFields (now (bytes .entry)) (now (bytes .exit)) w r (lineFields n (now (owed .entry)) (now (billed .entry)) id) ⌝ }
+    requires { ⌜ writtenBits w + (4 + 42 * n) ≤ 8 * length (now out) ⌝ }
+    ensures { λ r. ⌜ PutLine (now (out .entry)) (now (out .exit)) w r n (now (owed .entry)) (now (billed .entry)) id ⌝ }
 {
-    let mut r = w.put(bytes, 4, id as u64);
+    let mut r = w.put(out, 4, id as u64);
     let mut k: usize = 0;
     while k < n {
         let place = PARTIES * k + id;
-        r = r.put(bytes, 42, difference(owed[place], billed[place]));
+        r = r.put(out, 42, difference(owed[place], billed[place]));
         k += 1;
     }
     r
@@ -76,7 +67,7 @@ fn put_line(
 // The lines of the marked parties.
 fn put_lines(
     w: Writer,
-    bytes: &mut [u8],
+    out: &mut [u8],
     marks: [bool; PARTIES],
     n: usize,
     owed: &[u64],
@@ -84,14 +75,14 @@ fn put_lines(
 ) -> Writer
     requires { ⌜ Ready w ⌝ }
     requires { ⌜ Columns n (now owed) × Columns n (now billed) ⌝ }
-    requires { ⌜ writtenBits w + (4 + 42 * n) * parties ≤ 8 * length (now bytes) ⌝ }
-    ensures { λ r. ⌜ WrittenFields (now (bytes .entry)) (now (bytes .exit)) w r (linesTo parties (holds marks) (lineFields n (now (owed .entry)) (now (billed .entry)))) ⌝ }
+    requires { ⌜ writtenBits w + (4 + 42 * n) * parties ≤ 8 * length (now out) ⌝ }
+    ensures { λ r. ⌜ PutLines (now (out .entry)) (now (out .exit)) w r marks n (now (owed .entry)) (now (billed .entry)) ⌝ }
 {
     let mut r = w;
     let mut id: usize = 0;
     while id < PARTIES {
         if marks[id] {
-            r = put_line(r, bytes, id, n, owed, billed);
+            r = put_line(r, out, id, n, owed, billed);
         }
         id += 1;
     }
@@ -101,7 +92,7 @@ fn put_lines(
 // The lines of the marked sellers, then those of the marked LSEs.
 fn put_parties(
     w: Writer,
-    bytes: &mut [u8],
+    out: &mut [u8],
     sellers: [bool; PARTIES],
     lses: [bool; PARTIES],
     owed: Amounts,
@@ -109,11 +100,11 @@ fn put_parties(
 ) -> Writer
     requires { ⌜ Ready w ⌝ }
     requires { ⌜ SoundAmounts owed × SoundAmounts billed ⌝ }
-    requires { ⌜ writtenBits w + 2816 ≤ 8 * length (now bytes) ⌝ }
-    ensures { λ r. ⌜ WrittenFields (now (bytes .entry)) (now (bytes .exit)) w r (linesTo parties (holds sellers) (sellerFields owed billed) ++ linesTo parties (holds lses) (lseFields owed billed)) ⌝ }
+    requires { ⌜ writtenBits w + 2816 ≤ 8 * length (now out) ⌝ }
+    ensures { λ r. ⌜ WrittenFields (now (out .entry)) (now (out .exit)) w r (partyLines sellers lses owed billed) ⌝ }
 {
-    let lines = put_lines(w, bytes, sellers, 3, &columns(owed), &columns(billed));
-    put_lines(lines, bytes, lses, 1, &owed.lse, &billed.lse)
+    let lines = put_lines(w, out, sellers, 3, &columns(owed), &columns(billed));
+    put_lines(lines, out, lses, 1, &owed.lse, &billed.lse)
 }
 
 // The statement's bits, at the start of a buffer that has room for the largest; how many bytes they take.
@@ -129,7 +120,7 @@ pub fn write_statement(
     requires { ⌜ SoundAmounts owed ⌝ }
     requires { ⌜ SoundAmounts billed ⌝ }
     requires { ⌜ statementLimit ≤ length (now bytes) ⌝ }
-    ensures leaves { λ r. ⌜ now (bytes .exit) ≡ (let s = statementOf terms month owed billed in s ++ drop (length s) (now (bytes .entry))) ⌝ }
+    ensures leaves { λ r. ⌜ now (bytes .exit) ≡ issuedOver terms month owed billed (now (bytes .entry)) ⌝ }
     ensures writes { λ r. ⌜ r ≡ length (statementOf terms month owed billed) ⌝ }
 {
     let sellers = present(terms);
