@@ -3,7 +3,8 @@ ghost use mathlib.Core.Path.{_≡_};
 ghost use Prim.Native.Nat.{_+_, _-_, _/_, _%_, _^_, _≤_};
 ghost use lib.ListN.{length};
 ghost use Rattle.bits.specs.Bits.{FieldFits, FieldRead};
-ghost use Rattle.bits.specs.Table.{total, times, fieldsAt, laid, Fit, InWord};
+ghost use Rattle.bits.specs.Table.{total, times, Fit, InWord};
+ghost use Rattle.bits_read.specs.Laid.{fieldsLaid, itemsLaid};
 
 mod words;
 
@@ -16,6 +17,12 @@ pub struct Cursor {
 pub struct Field {
     pub value: u64,
     pub next: Cursor,
+}
+
+// Items in a row: the bits that the fields of each take, and how many items there are.
+pub struct Items {
+    pub bits: usize,
+    pub count: usize,
 }
 
 impl Cursor {
@@ -56,20 +63,20 @@ impl Cursor {
         self.field(words::cut(word, self.at, width), width)
     }
 
-    // The fields of these widths from here on, so many bits, which lie in one word of eight bytes, into out from a place on; the cursor behind them. It goes through the word, whose bits it counts from the first on, up to their end.
+    // The fields of the widths ws from here on, so many bits, which lie in one word of eight bytes, into out from a place on; the cursor behind them. It goes through the word, whose bits it counts from the first on, up to their end.
     pub fn read_fields(
         self,
         bytes: &[u8],
-        widths: &[u8],
+        ws: &[u8],
         bits: usize,
         out: &mut [u64],
         to: usize,
     ) -> Cursor
-        requires { ⌜ InWord (now bytes) (self .at) (now widths) ⌝ }
-        requires { ⌜ bits ≡ total (now widths) ⌝ }
-        requires { ⌜ to + length (now widths) ≤ length (now out) ⌝ }
-        ensures { λ r. ⌜ r .at ≡ self .at + total (now (widths .entry)) ⌝ }
-        ensures { λ r. ⌜ now (out .exit) ≡ laid to (fieldsAt (now (bytes .entry)) (self .at) (now (widths .entry))) (now (out .entry)) ⌝ }
+        requires { ⌜ InWord (now bytes) (self .at) (now ws) ⌝ }
+        requires { ⌜ bits ≡ total (now ws) ⌝ }
+        requires { ⌜ to + length (now ws) ≤ length (now out) ⌝ }
+        ensures { λ r. ⌜ r .at ≡ self .at + total (now (ws .entry)) ⌝ }
+        ensures { λ r. ⌜ now (out .exit) ≡ fieldsLaid (now (bytes .entry)) self (now (ws .entry)) to (now (out .entry)) ⌝ }
     {
         let first = self.at / 8;
         let word = words::ahead(bytes, first);
@@ -77,7 +84,7 @@ impl Cursor {
         let end = c.at + bits;
         let mut i = 0;
         while c.at != end {
-            let w = widths[i] as usize;
+            let w = ws[i] as usize;
             let f = c.cut(word, w);
             out[to + i] = f.value;
             c = f.next;
@@ -88,29 +95,28 @@ impl Cursor {
         }
     }
 
-    // The fields of n items from here on, each with fields of these widths, so many bits, into out from a place on; the cursor behind them.
+    // The fields of items from here on, each with fields of the widths ws, into out from a place on; the cursor behind them.
     pub fn read_items(
         self,
         bytes: &[u8],
-        widths: &[u8],
-        bits: usize,
-        n: usize,
+        ws: &[u8],
+        items: Items,
         out: &mut [u64],
         to: usize,
     ) -> Cursor
-        requires { ⌜ Fit (now bytes) (self .at) (times n (now widths)) ⌝ }
-        requires { ⌜ bits ≡ total (now widths) ⌝ }
-        requires { ⌜ (1 ≤ bits) × (bits ≤ 57) ⌝ }
-        requires { ⌜ to + length (times n (now widths)) ≤ length (now out) ⌝ }
-        ensures { λ r. ⌜ r .at ≡ self .at + total (times n (now (widths .entry))) ⌝ }
-        ensures { λ r. ⌜ now (out .exit) ≡ laid to (fieldsAt (now (bytes .entry)) (self .at) (times n (now (widths .entry)))) (now (out .entry)) ⌝ }
+        requires { ⌜ Fit (now bytes) (self .at) (times (items .count) (now ws)) ⌝ }
+        requires { ⌜ items .bits ≡ total (now ws) ⌝ }
+        requires { ⌜ (1 ≤ items .bits) × (items .bits ≤ 57) ⌝ }
+        requires { ⌜ to + length (times (items .count) (now ws)) ≤ length (now out) ⌝ }
+        ensures { λ r. ⌜ r .at ≡ self .at + total (times (items .count) (now (ws .entry))) ⌝ }
+        ensures { λ r. ⌜ now (out .exit) ≡ itemsLaid (now (bytes .entry)) self items (now (ws .entry)) to (now (out .entry)) ⌝ }
     {
         let mut c = self;
         let mut at = to;
         let mut k = 0;
-        while k < n {
-            c = c.read_fields(bytes, widths, bits, out, at);
-            at += widths.len();
+        while k < items.count {
+            c = c.read_fields(bytes, ws, items.bits, out, at);
+            at += ws.len();
             k += 1;
         }
         c

@@ -1,6 +1,7 @@
 // The numbers of a record's head and of its lists, taken out of its bytes by one cursor.
 use bits_read::Cursor;
 use bits_read::Field;
+use bits_read::Items;
 ghost use mathlib.Core.Path.{_≡_};
 ghost use mathlib.Core.Bool.{true};
 ghost use Prim.Native.Nat.{_≤_};
@@ -64,7 +65,11 @@ pub fn read_lists(c: Cursor, kind: usize, bytes: &[u8], ws: &[u8], values: &mut 
         let list = list_at(kind, i, values);
         let start = list.start;
         let end = list.end;
-        d = d.read_items(bytes, &ws[start..end], list.bits, list.items, values, p);
+        let items = Items {
+            bits: list.bits,
+            count: list.items,
+        };
+        d = d.read_items(bytes, &ws[start..end], items, values, p);
         p += list.numbers;
         i += 1;
     }

@@ -13,11 +13,11 @@ use Rattle.bits_read.proofs.Cursor.read_fields.Statement.{statement}
 use Rattle.bits_read.proofs.Cursor.read_fields.Tie as tie
 
 abbrev Inv-loop : tie.InvT-loop
-Inv-loop bytes widths bits out₀ to first word c₀ end i₀ out c i =
-    (i ≤ length widths) × (c .at ≡ c₀ .at + total (take i widths)) × (length out ≡ length out₀) × (out ≡ laid to (fieldsAt bytes (8 * first + c₀ .at) (take i widths)) out₀)
+Inv-loop bytes ws bits out₀ to first word c₀ end i₀ out c i =
+    (i ≤ length ws) × (c .at ≡ c₀ .at + total (take i ws)) × (length out ≡ length out₀) × (out ≡ laid to (fieldsAt bytes (8 * first + c₀ .at) (take i ws)) out₀)
 
 abbrev μ-loop : tie.MeasureT-loop
-μ-loop bytes widths bits out₀ to first word c₀ end i₀ out c i = length widths - i
+μ-loop bytes ws bits out₀ to first word c₀ end i₀ out c i = length ws - i
 
 ahead-requires : tie.Need-ahead-requires Inv-loop μ-loop
 ahead-requires c κs = omega (arith, c .before .before .before .before .pre .0 .begins)
@@ -46,7 +46,7 @@ cast-w c = omega (arith, c .shared-slice-known3 .given (c .before .before .befor
 cut-requires : tie.Need-cut-requires Inv-loop μ-loop
 cut-requires c κs =
     let s = c .before .before .before .before .before .before .before .before .before .before .before in
-    let ws = s .args .widths .now in
+    let ws = s .args .ws .now in
     let l = c .before .before .before .loop in
     let h = inside ws (l .i) _ _ _ (l .inv .0) (l .inv .1) (s .pre .1 .0) (c .before .if1 .taken) in
     (width-in ws (l .i) (s .pre .0 .narrows) h, omega (arith, total-in ws (l .i) h, l .inv .1, s .pre .0 .ends))
@@ -61,7 +61,7 @@ loop-again : tie.Need-loop-again Inv-loop μ-loop
 loop-again c =
     let s = c .before .before .before .before .before .before .before .before .before .before .before .before .before in
     let xs = s .args .bytes .now in
-    let ws = s .args .widths .now in
+    let ws = s .args .ws .now in
     let l = c .before .before .before .before .before .loop in
     let h = inside ws (l .i) _ _ _ (l .inv .0) (l .inv .1) (s .pre .1 .0) (c .before .before .before .if1 .taken) in
     let w = getD ws (l .i) 0 in
@@ -80,7 +80,7 @@ loop-again c =
 returns : tie.Need-returns Inv-loop μ-loop
 returns c =
     let s = c .before .before .before .before .before .before .before .before .before .before .before in
-    let ws = s .args .widths .now in
+    let ws = s .args .ws .now in
     let l = c .before .before .before .loop in
     let here : 8 * (s .args .self .at / 8) + s .args .self .at % 8 ≡ s .args .self .at = omega arith in
     let n : l .i ≡ length ws = no-field-left ws (l .i) (s .pre .0 .narrows) (l .inv .0) (omega (arith, l .inv .1, c .before .if1 .left, s .pre .1 .0)) in
