@@ -13,6 +13,19 @@ fn wide(x: u32) -> u64
     x as u64
 }
 
+// n numbers, a stride from each other, from a place on.
+struct Column {
+    from: usize,
+    stride: usize,
+    n: usize,
+}
+
+// n items one after another, from a place on.
+pub struct Row {
+    pub from: usize,
+    pub n: usize,
+}
+
 // Is each number from a place on within its limits?
 pub fn are_within(lows: &[u32], highs: &[u32], values: &[u64], from: usize) -> bool
     requires { ⌜ length (now highs) ≡ length (now lows) ⌝ }
@@ -41,29 +54,20 @@ fn hold_all(low: u64, high: u64, width: u8) -> bool
     low == 0 && (1u64 << width) - 1 <= high
 }
 
-// Is each of n numbers, a stride from each other from a place on, within these limits? Where they were read from fields of so many bits, limits that hold all of these need no test.
-fn column_within(
-    read: bool,
-    width: u8,
-    low: u64,
-    high: u64,
-    values: &[u64],
-    from: usize,
-    stride: usize,
-    n: usize,
-) -> bool
+// Is each number of a column within these limits? Where they were read from fields of so many bits, limits that hold all of these need no test.
+fn column_within(read: bool, width: u8, low: u64, high: u64, values: &[u64], column: Column) -> bool
     requires { ⌜ width ≤ 42 ⌝ }
-    requires { ⌜ (read ≡ true → ColumnFits width (now values) from stride n) ⌝ }
-    requires { ⌜ n * stride ≤ length (now values) ⌝ }
-    requires { ⌜ from + n * stride < length (now values) + stride ⌝ }
-    ensures { λ r. ⌜ r ≡ columnWithin low high (now (values .entry)) from stride n ⌝ }
+    requires { ⌜ (read ≡ true → ColumnFits width (now values) (column .from) (column .stride) (column .n)) ⌝ }
+    requires { ⌜ column .n * column .stride ≤ length (now values) ⌝ }
+    requires { ⌜ column .from + column .n * column .stride < length (now values) + column .stride ⌝ }
+    ensures { λ r. ⌜ r ≡ columnWithin low high (now (values .entry)) (column .from) (column .stride) (column .n) ⌝ }
 {
     if read && hold_all(low, high, width) {
         return true;
     }
-    let mut p = from;
+    let mut p = column.from;
     let mut k = 0;
-    while k < n {
+    while k < column.n {
         let v = values[p];
         if v < low {
             return false;
@@ -71,41 +75,36 @@ fn column_within(
         if high < v {
             return false;
         }
-        p += stride;
+        p += column.stride;
         k += 1;
     }
     true
 }
 
-// Is each number of n items in a row within its limits? Field by field, so that the limits are looked up once.
+// Is each number of a row of items within its limits? Field by field, so that the limits are looked up once.
 pub fn items_within(
     read: bool,
     ws: &[u8],
     lows: &[u32],
     highs: &[u32],
     values: &[u64],
-    from: usize,
-    n: usize,
+    row: Row,
 ) -> bool
     requires { ⌜ length (now ws) ≡ length (now lows) ⌝ }
     requires { ⌜ length (now highs) ≡ length (now lows) ⌝ }
     requires { ⌜ T (narrow (now ws)) ⌝ }
-    requires { ⌜ (read ≡ true → ItemsFit (now ws) (now values) from n) ⌝ }
-    requires { ⌜ from + n * length (now lows) ≤ length (now values) ⌝ }
-    ensures { λ r. ⌜ r ≡ itemsWithin (now (lows .entry)) (now (highs .entry)) (now (values .entry)) from n ⌝ }
+    requires { ⌜ (read ≡ true → ItemsFit (now ws) (now values) (row .from) (row .n)) ⌝ }
+    requires { ⌜ row .from + row .n * length (now lows) ≤ length (now values) ⌝ }
+    ensures { λ r. ⌜ r ≡ itemsWithin (now (lows .entry)) (now (highs .entry)) (now (values .entry)) (row .from) (row .n) ⌝ }
 {
     let mut j = 0;
     while j < lows.len() {
-        if !column_within(
-            read,
-            ws[j],
-            wide(lows[j]),
-            wide(highs[j]),
-            values,
-            from + j,
-            lows.len(),
-            n,
-        ) {
+        let column = Column {
+            from: row.from + j,
+            stride: lows.len(),
+            n: row.n,
+        };
+        if !column_within(read, ws[j], wide(lows[j]), wide(highs[j]), values, column) {
             return false;
         }
         j += 1;

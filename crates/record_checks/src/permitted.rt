@@ -7,6 +7,7 @@ ghost use Rattle.bits.specs.Table.{Valid};
 ghost use Rattle.record_layouts.specs.Layout.{layouts, head, rulesFor, widths};
 ghost use Rattle.record_layouts.specs.Questions.{permitted};
 ghost use Rattle.record_layouts.specs.Parts.{rules, lows as lowest, highs as highest, Stated};
+use crate::limits::Row;
 use crate::limits::are_within;
 use crate::limits::items_within;
 use record_layouts::lists_of;
@@ -53,14 +54,17 @@ pub fn lists_permitted(
         let list = list_at(kind, i, values);
         let start = list.start;
         let end = list.end;
+        let row = Row {
+            from: p,
+            n: list.items,
+        };
         if !items_within(
             read,
             &ws[start..end],
             &lows[start..end],
             &highs[start..end],
             values,
-            p,
-            list.items,
+            row,
         ) {
             return false;
         }

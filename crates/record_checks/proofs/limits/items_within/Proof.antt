@@ -14,10 +14,11 @@ use Rattle.record_checks.proofs.limits.items_within.Statement.{statemen
 use Rattle.record_checks.proofs.limits.items_within.Tie as tie
 
 abbrev Inv-loop : tie.InvT-loop
-Inv-loop read ws lows highs values from n j₀ j = (j ≤ length lows) × (allTo j (λ i. columnWithin (at lows i) (at highs i) values (from + i) (length lows) n) ≡ true)
+Inv-loop read ws lows highs values row j₀ j =
+    (j ≤ length lows) × (allTo j (λ i. columnWithin (at lows i) (at highs i) values (row .from + i) (length lows) (row .n)) ≡ true)
 
 abbrev μ-loop : tie.MeasureT-loop
-μ-loop read ws lows highs values from n j₀ j = length lows - j
+μ-loop read ws lows highs values row j₀ j = length lows - j
 
 loop-holds : tie.Need-loop-holds Inv-loop μ-loop
 unfolding allTo
@@ -25,29 +26,29 @@ loop-holds c = (omega arith, refl)
 
 column-within-requires : tie.Need-column-within-requires Inv-loop μ-loop
 column-within-requires c κs =
-    let s = c .before .before .before .before .before .before .before .before .before .before .before in
+    let s = c .before .before .before .before .before .before .before .before .before .before .before .before in
     let ws = s .args .ws .now in
-    let l = c .before .before .before .before .before .before .loop in
-    let h : l .j < length ws = omega (arith, s .pre .0, c .before .before .before .before .before .loop-test .taken) in
+    let l = c .before .before .before .before .before .before .before .loop in
+    let h : l .j < length ws = omega (arith, s .pre .0, c .before .before .before .before .before .before .loop-test .taken) in
     let room = s .pre .1 .1 .1 .1 in (
       width-in ws (l .j) (s .pre .1 .1 .0) h .1,
-      ((λ e. subst (λ (w : ℕ). ColumnFits (at ws (l .j)) (s .args .values .now) (s .args .from + l .j) w (s .args .n)) (s .pre .0) (s .pre .1 .1 .1 .0 e (l .j) h)), (omega (arith, room), omega (arith, room, h, s .pre .0))),
+      ((λ e. subst (λ (w : ℕ). ColumnFits (at ws (l .j)) (s .args .values .now) (s .args .row .from + l .j) w (s .args .row .n)) (s .pre .0) (s .pre .1 .1 .1 .0 e (l .j) h)), (omega (arith, room), omega (arith, room, h, s .pre .0))),
     )
 
 returns : tie.Need-returns Inv-loop μ-loop
 unfolding itemsWithin
 returns c =
-    let a = c .before .before .before .before .before .before .before .before .before .before .before .before .before .args in
-    let l = c .before .before .before .before .before .before .before .before .loop in
+    let a = c .before .before .before .before .before .before .before .before .before .before .before .before .before .before .args in
+    let l = c .before .before .before .before .before .before .before .before .before .loop in
     let no = rw (c .before .before .before .before .wide .ensures, c .before .before .wide2 .ensures) at (sym (c .before .column-within .ensures)) ∙ not-true _ (c .if1 .taken) in
-    sym (all-fails (length (a .lows .now)) (λ i. columnWithin (at (a .lows .now) i) (at (a .highs .now) i) (a .values .now) (a .from + i) (length (a .lows .now)) (a .n)) (l .j) (c .before .before .before .before .before .before .before .loop-test .taken) no)
+    sym (all-fails (length (a .lows .now)) (λ i. columnWithin (at (a .lows .now) i) (at (a .highs .now) i) (a .values .now) (a .row .from + i) (length (a .lows .now)) (a .row .n)) (l .j) (c .before .before .before .before .before .before .before .before .loop-test .taken) no)
 
 loop-again : tie.Need-loop-again Inv-loop μ-loop
 loop-again c =
-    let a = c .before .before .before .before .before .before .before .before .before .before .before .before .before .args in
-    let l = c .before .before .before .before .before .before .before .before .loop in
+    let a = c .before .before .before .before .before .before .before .before .before .before .before .before .before .before .args in
+    let l = c .before .before .before .before .before .before .before .before .before .loop in
     let yes = rw (c .before .before .before .before .wide .ensures, c .before .before .wide2 .ensures) at (sym (c .before .column-within .ensures)) ∙ not-false _ (c .if1 .left) in
-    (omega (arith, c .before .before .before .before .before .before .before .loop-test .taken), all-more (l .j) (λ i. columnWithin (at (a .lows .now) i) (at (a .highs .now) i) (a .values .now) (a .from + i) (length (a .lows .now)) (a .n)) (l .inv .1) yes)
+    (omega (arith, c .before .before .before .before .before .before .before .before .loop-test .taken), all-more (l .j) (λ i. columnWithin (at (a .lows .now) i) (at (a .highs .now) i) (a .values .now) (a .row .from + i) (length (a .lows .now)) (a .row .n)) (l .inv .1) yes)
 
 returns-2 : tie.Need-returns-2 Inv-loop μ-loop
 unfolding itemsWithin
@@ -63,14 +64,14 @@ items-within-spec =
     Inv-loop
     μ-loop
     loop-holds
-    (λ c. omega (arith, c .before .before .before .before .before .before .before .pre .0))
+    (λ c. omega (arith, c .before .before .before .before .before .before .before .pre .1 .1 .1 .1))
+    (λ c. omega (arith, c .before .before .before .before .before .before .before .before .pre .0))
     (λ c. omega arith)
     (λ c. omega arith)
     (λ c κs. search needs)
     (λ c. omega arith)
     (λ c. omega arith)
     (λ c κs. search needs)
-    (λ c. omega (arith, c .before .before .before .before .before .before .before .before .before .before .before .pre .1 .1 .1 .1))
     column-within-requires
     returns
     (λ c. omega arith)
