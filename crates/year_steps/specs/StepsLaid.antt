@@ -22,12 +22,12 @@ use Rattle.year_cells.specs.Regions.{listing-view, event-view, registrations-ke
 use Rattle.record_heads.specs.declared.EventHead.{EventHead}
 use Rattle.record_heads.specs.Events.{eventOf}
 
--- the event of a head and of the row of its listing, and the year in the cells with it
+-- the event of a head and of the row of its listing, and the year in the cells after it
 abbrev pub eventBy : EventHead → List ℕ → Event
 eventBy e l = eventOf e (listingAt (at l))
 
-abbrev pub yearWithEvent : List ℕ → EventHead → List ℕ → Year
-yearWithEvent c e l = withEvent (yearIn c) (eventBy e l)
+abbrev pub afterEvent : List ℕ → EventHead → List ℕ → Year
+afterEvent c e l = withEvent (yearIn c) (eventBy e l)
 
 -- the row of an event's head, with a mark for its bool, and of the whole event
 abbrev pub headRow : EventHead → List ℕ
@@ -44,7 +44,7 @@ event-row e l =
 -- an event is laid by three rows: its head, its listing, and the marks
 pub call-laid : {a b c d l : List ℕ} (n : ℕ) (event : EventHead) → n ≡ at a acceptedPlace → n < eventLimit → length l ≡ listingWidth
     → Laid (eventsPlace + eventWidth * n) (headRow event) a b → Laid (eventsPlace + eventWidth * n + eventListingIn) l b c → Laid startedPlace (1 ∷ (n + 1) ∷ []) c d
-    → yearIn d ≡ yearWithEvent a event l
+    → yearIn d ≡ afterEvent a event l
 unfolding cellEvents
 call-laid {a} {b} {c} {d} {l} n event q m e g h i =
     let row : Laid (eventsPlace + eventWidth * n) (headRow event ++ l) a c = laid-on g h in

@@ -7,7 +7,7 @@ ghost use Rattle.year_cells.specs.Places.{listingWidth};
 ghost use Rattle.year.specs.Steps.{withClose};
 ghost use Rattle.year.specs.Sound.{SoundEvent, SoundAmounts};
 ghost use Rattle.year_cells.specs.Layout.{yearIn, ValidCells};
-ghost use Rattle.year_steps.specs.StepsLaid.{eventBy, yearWithEvent};
+ghost use Rattle.year_steps.specs.StepsLaid.{eventBy, afterEvent};
 use record_heads::EventHead;
 use year::Amounts;
 use year_cells::BILLED_CREDIT_PLACE;
@@ -35,7 +35,7 @@ pub fn add_event(year: &mut Cells, e: EventHead, listing: &[u64])
     requires { ⌜ yearIn (now year) .accepted < eventLimit ⌝ }
     requires { ⌜ length (now listing) ≡ listingWidth ⌝ }
     requires { ⌜ SoundEvent (eventBy e (now listing)) ⌝ }
-    ensures equals { λ r. ⌜ yearIn (now (year .exit)) ≡ yearWithEvent (now (year .entry)) e (now (listing .entry)) ⌝ }
+    ensures equals { λ r. ⌜ yearIn (now (year .exit)) ≡ afterEvent (now (year .entry)) e (now (listing .entry)) ⌝ }
     ensures valid { λ r. ⌜ ValidCells (now (year .exit)) ⌝ }
 {
     let n = year_cells::events_accepted(year);

@@ -20,7 +20,7 @@ use Rattle.year_cells.specs.Rows.{from, Laid, laid-on, Same, same-on, same-in, 
 use Rattle.year_cells.specs.Layout.{flag, listingAt, cellTerms, cellTests, retestAt, cellRetests, yearIn, ValidCells}
 use Rattle.year_cells.specs.Regions.{row-listed, row-reduction, retest-in, registrations-kept, terms-kept, events-kept, groups-kept, tests-kept, billed-kept, clearings-kept, retests-kept}
 use Rattle.year_test_steps.specs.Entered.{Entered}
-use Rattle.year_test_steps.specs.Tests.{takenTest, yearWithTest, yearWithRetest, untaken-free, Tested, tests-laid}
+use Rattle.year_test_steps.specs.Tests.{takenTest, afterTest, afterRetest, untaken-free, Tested, tests-laid}
 
 -- a test is laid by the mark, its head and its deficits, then its entries among those of all tests
 module _ {a b c d f : List ℕ} (l : List ℕ) (group : ℕ) {month : ℕ} (p : group < testGroups) (n : length l ≡ listingWidth)
@@ -58,7 +58,7 @@ module _ {a b c d f : List ℕ} (l : List ℕ) (group : ℕ) {month : ℕ} (p : 
       apart k m x (no y) = same-behind row (testsPlace + testWidth * k) testWidth (omega (arith, test-wide))
 
   pub test-laid : ValidCells a → getD (cellTests a) group noTest .taken ≡ false → SoundTest (cellTerms a) group (takenTest month (listingAt (at l)))
-      → yearIn f ≡ yearWithTest a group month l
+      → yearIn f ≡ afterTest a group month l
   test-laid k x s =
       let kept = between acceptedPlace (testsPlace - acceptedPlace) (lit≤ tt) (lit≤ tt) in
       let same = registrations-kept (same-in registrationsPlace (registrationWidth * registrations) (lit≤ tt) (lit≤ tt) kept) in
@@ -83,7 +83,7 @@ module _ {c d : List ℕ} (l : List ℕ) (entries : Entered retestEntriesPlace l
   retest i m true e = cc (entries .marks i m, entries .reductions i m, e, row-reduction l m)
   retest i m false e = rw (retest-in c noRetest m) (cc (entries .marks i m, entries .reductions i m, e))
 
-  pub retest-laid : yearIn d ≡ yearWithRetest c l
+  pub retest-laid : yearIn d ≡ afterRetest c l
   unfolding cellRetests
   retest-laid =
       let kept = entries .before 0 retestEntriesPlace (lit≤ tt) in

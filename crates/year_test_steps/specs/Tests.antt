@@ -29,12 +29,12 @@ use Rattle.year_tested.specs.Tested.{testedAt, firstAt, tested-in}
 abbrev pub takenTest : ℕ → Listing → Test
 takenTest month l = record { taken = true; month = month; listing = single l }
 
--- the year in the cells with the test of a group, and with a retest, from the row of its listing
-abbrev pub yearWithTest : List ℕ → ℕ → ℕ → List ℕ → Year
-yearWithTest c group month l = withTest (yearIn c) group (takenTest month (listingAt (at l)))
+-- the year in the cells after the test of a group, and after a retest, from the row of its listing
+abbrev pub afterTest : List ℕ → ℕ → ℕ → List ℕ → Year
+afterTest c group month l = withTest (yearIn c) group (takenTest month (listingAt (at l)))
 
-abbrev pub yearWithRetest : List ℕ → List ℕ → Year
-yearWithRetest c l = withRetest (yearIn c) (listingAt (at l))
+abbrev pub afterRetest : List ℕ → List ℕ → Year
+afterRetest c l = withRetest (yearIn c) (listingAt (at l))
 
 -- a group without a test lists nothing
 pub untaken-free : (c : List ℕ) → Sound (yearIn c) → {k : ℕ} → k < testGroups → getD (cellTests c) k noTest .taken ≡ false → (i : ℕ) → i < registrations → testedAt c k i ≡ false

@@ -9,7 +9,7 @@ ghost use Rattle.year_cells.specs.Places.{listingWidth};
 ghost use Rattle.year.specs.Year.{noTest};
 ghost use Rattle.year.specs.Sound.{SoundListing, SoundTest};
 ghost use Rattle.year_cells.specs.Layout.{listingAt, yearIn, ValidCells};
-ghost use Rattle.year_test_steps.specs.Tests.{takenTest, yearWithTest, yearWithRetest};
+ghost use Rattle.year_test_steps.specs.Tests.{takenTest, afterTest, afterRetest};
 use crate::merging::enter;
 use year_cells::Cells;
 use year_cells::DEFICITS_IN;
@@ -24,14 +24,14 @@ use year_cells::lay;
 
 mod merging;
 
-// The test of a group that has none; its listing is a row by id: 64 marks, 64 reductions, 16 deficits, then what no test has.
+// Adds the test of a group that has none; its listing is a row by id: 64 marks, 64 reductions, 16 deficits, then what no test has.
 pub fn add_test(year: &mut Cells, group: usize, month: u64, listing: &[u64])
     requires { ⌜ ValidCells (now year) ⌝ }
     requires { ⌜ group < testGroups ⌝ }
     requires { ⌜ getD (yearIn (now year) .tests) group noTest .taken ≡ false ⌝ }
     requires { ⌜ length (now listing) ≡ listingWidth ⌝ }
     requires { ⌜ SoundTest (yearIn (now year) .terms) group (takenTest month (listingAt (at (now listing)))) ⌝ }
-    ensures equals { λ r. ⌜ yearIn (now (year .exit)) ≡ yearWithTest (now (year .entry)) group month (now (listing .entry)) ⌝ }
+    ensures equals { λ r. ⌜ yearIn (now (year .exit)) ≡ afterTest (now (year .entry)) group month (now (listing .entry)) ⌝ }
     ensures valid { λ r. ⌜ ValidCells (now (year .exit)) ⌝ }
 {
     lay(year, STARTED_PLACE, &[1]);
@@ -44,13 +44,13 @@ pub fn add_test(year: &mut Cells, group: usize, month: u64, listing: &[u64])
     enter(year, TEST_ENTRIES_PLACE, listing);
 }
 
-// A retest; its listing is such a row without deficits.
+// Adds a retest; its listing is such a row without deficits.
 pub fn add_retest(year: &mut Cells, listing: &[u64])
     requires { ⌜ ValidCells (now year) ⌝ }
     requires { ⌜ yearIn (now year) .started ≡ true ⌝ }
     requires { ⌜ length (now listing) ≡ listingWidth ⌝ }
     requires { ⌜ SoundListing (listingAt (at (now listing))) ⌝ }
-    ensures equals { λ r. ⌜ yearIn (now (year .exit)) ≡ yearWithRetest (now (year .entry)) (now (listing .entry)) ⌝ }
+    ensures equals { λ r. ⌜ yearIn (now (year .exit)) ≡ afterRetest (now (year .entry)) (now (listing .entry)) ⌝ }
     ensures valid { λ r. ⌜ ValidCells (now (year .exit)) ⌝ }
 {
     enter(year, RETEST_ENTRIES_PLACE, listing);

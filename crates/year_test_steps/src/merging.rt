@@ -10,7 +10,7 @@ use year_cells::Cells;
 use year_cells::REDUCTIONS_IN;
 use year_cells::lay;
 
-// An entry of a table with a listing's: where it lists, its own.
+// The number at i of one part of a table, marks or reductions, after a listing: the listing's own where it lists i, else what stands there.
 fn merged_at(year: &Cells, place: usize, listing: &[u64], part: usize, i: usize) -> u64
     requires { ⌜ place + i < cellCount ⌝ }
     requires { ⌜ i < length (now listing) ⌝ }
@@ -23,7 +23,7 @@ fn merged_at(year: &Cells, place: usize, listing: &[u64], part: usize, i: usize)
     year[place + i]
 }
 
-// All of them.
+// Such a part after a listing, whole.
 fn merge(year: &Cells, place: usize, listing: &[u64], part: usize) -> [u64; REGISTRATIONS]
     requires { ⌜ place + registrations ≤ cellCount ⌝ }
     requires { ⌜ part + registrations ≤ length (now listing) ⌝ }
