@@ -20,10 +20,13 @@ module _ (T : Terms) where
   unfoldable pub everyListed : Listing → (ℕ → Bool) → Bool
   everyListed l p = allTo (size T) (λ i. not (listed l i) || p i)
 
+  -- is a registration of seller s listed
+  abbrev pub hasEntry : Listing → ℕ → Bool
+  hasEntry l s = anyTo (size T) (λ i. listed l i && eqb (seller T i) s)
+
   -- has every deficit's seller an entry
   unfoldable pub deficitsListed : Listing → Bool
-  deficitsListed l =
-      allTo sellers (λ s. eqb (deficit l s) 0 || anyTo (size T) (λ i. listed l i && eqb (seller T i) s))
+  deficitsListed l = allTo sellers (λ s. eqb (deficit l s) 0 || hasEntry l s)
 
   -- are exactly the registrations listed of which p holds
   unfoldable pub listsExactly : Listing → (ℕ → Bool) → Bool
