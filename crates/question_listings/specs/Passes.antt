@@ -15,7 +15,7 @@ use Rattle.limits.specs.Limits.{sellers}
 use Rattle.year.specs.declared.Listing.{Listing}
 use Rattle.year.specs.declared.Terms.{Terms}
 use Rattle.year.specs.Year.{listed, deficit, seller, size}
-use Rattle.question_conditions.specs.Entries.{deficitsListed}
+use Rattle.question_conditions.specs.Entries.{hasEntry, deficitsListed}
 
 -- each seller is marked that has an entry among the first i registrations
 pub record Marked (T : Terms) (l : Listing) (marks : List Bool) (i : ℕ) : Type 0 where
@@ -47,12 +47,12 @@ module _ (T : Terms) (l : Listing) where
             (getD-set-other marks (seller T i) s true false (λ z. eqb-false (seller T i) s q (sym z)) ∙ h .marked s m)
 
   pub marked-all : {marks : List Bool} {i : ℕ} → Marked T l marks i → i ≡ size T
-      → marks ≡ tabulate sellers (λ s. anyTo (size T) (λ j. listed l j && eqb (seller T j) s))
+      → marks ≡ tabulate sellers (hasEntry T l)
   marked-all {marks} {i} h e =
-      is-tabulate (λ s. anyTo (size T) (λ j. listed l j && eqb (seller T j) s)) sellers false marks (h .long) (λ s m. rw e at (h .marked s m))
+      is-tabulate (hasEntry T l) sellers false marks (h .long) (λ s m. rw e at (h .marked s m))
 
   -- every deficit's seller is marked
-  pub deficits-listed : {marks : List Bool} → marks ≡ tabulate sellers (λ s. anyTo (size T) (λ i. listed l i && eqb (seller T i) s))
+  pub deficits-listed : {marks : List Bool} → marks ≡ tabulate sellers (hasEntry T l)
       → allTo sellers (λ s. eqb (deficit l s) 0 || holds marks s) ≡ deficitsListed T l
   unfolding deficitsListed
-  deficits-listed e = rw e (all-same sellers (λ s m. rw (getD-tabulate (λ s. anyTo (size T) (λ i. listed l i && eqb (seller T i) s)) sellers s _ m)))
+  deficits-listed e = rw e (all-same sellers (λ s m. rw (getD-tabulate (hasEntry T l) sellers s _ m)))

@@ -1,17 +1,13 @@
 // Tests over what a record lists, its listing a row by id: 64 marks, 64 reductions, 16 deficits.
 ghost use mathlib.Core.Path.{_≡_};
-ghost use mathlib.Core.Bool.{not, _&&_, _||_};
 ghost use Prim.Native.Nat.{_<_};
-ghost use lib.Dec.{eqb};
 ghost use lib.ListN.{length};
-ghost use Rattle.ids.specs.Ids.{at, anyTo, tabulate};
-ghost use Rattle.limits.specs.Limits.{registrations, sellers};
+ghost use Rattle.ids.specs.Ids.{at};
+ghost use Rattle.limits.specs.Limits.{registrations};
 ghost use Rattle.year_cells.specs.Places.{listingWidth};
-ghost use Rattle.year.specs.Year.{listed, seller, size};
 ghost use Rattle.year_cells.specs.Layout.{listingAt, yearIn, ValidCells};
-ghost use Rattle.question_conditions.specs.Entries.{everyListed, deficitsListed, listsExactly};
-ghost use Rattle.question_conditions.specs.Meets.{fulfils};
-ghost use Rattle.question_conditions.specs.Selects.{selects};
+ghost use Rattle.question_conditions.specs.Entries.{deficitsListed};
+ghost use Rattle.question_listings.specs.Asked.{passesAt, everyEntry, sellersWithEntries, entriesPass, listsSelected};
 use limits::REGISTRATIONS;
 use limits::SELLERS;
 use question_conditions::Condition;
@@ -31,7 +27,7 @@ pub use registrations::committed_kw;
 fn passes(year: &Cells, listing: &[u64], condition: Condition, i: usize) -> bool
     requires { ⌜ length (now listing) ≡ listingWidth ⌝ }
     requires { ⌜ i < registrations ⌝ }
-    ensures { λ r. ⌜ r ≡ (not (listed (listingAt (at (now (listing .entry)))) i) || fulfils (yearIn (now (year .entry))) condition i) ⌝ }
+    ensures { λ r. ⌜ r ≡ passesAt (yearIn (now (year .entry))) (listingAt (at (now (listing .entry)))) condition i ⌝ }
 {
     if listing[i] == 0 {
         return true;
@@ -43,7 +39,7 @@ fn passes(year: &Cells, listing: &[u64], condition: Condition, i: usize) -> bool
 pub fn every_listed(year: &Cells, listing: &[u64], condition: Condition) -> bool
     requires { ⌜ ValidCells (now year) ⌝ }
     requires { ⌜ length (now listing) ≡ listingWidth ⌝ }
-    ensures { λ r. ⌜ r ≡ (let y = yearIn (now (year .entry)) in everyListed (y .terms) (listingAt (at (now (listing .entry)))) (fulfils y condition)) ⌝ }
+    ensures { λ r. ⌜ r ≡ everyEntry (yearIn (now (year .entry))) (listingAt (at (now (listing .entry)))) condition ⌝ }
 {
     let mut i: usize = 0;
     while i < REGISTRATIONS {
@@ -55,11 +51,11 @@ pub fn every_listed(year: &Cells, listing: &[u64], condition: Condition) -> bool
     true
 }
 
-// Which sellers have an entry.
+// For each seller: has it an entry?
 fn sellers_listed(year: &Cells, listing: &[u64]) -> [bool; SELLERS]
     requires { ⌜ ValidCells (now year) ⌝ }
     requires { ⌜ length (now listing) ≡ listingWidth ⌝ }
-    ensures { λ r. ⌜ r ≡ (let T = yearIn (now (year .entry)) .terms in tabulate sellers (λ s. anyTo (size T) (λ i. listed (listingAt (at (now (listing .entry)))) i && eqb (seller T i) s))) ⌝ }
+    ensures { λ r. ⌜ r ≡ sellersWithEntries (yearIn (now (year .entry))) (listingAt (at (now (listing .entry)))) ⌝ }
 {
     let mut sellers = [false; SELLERS];
     let mut i: usize = 0;
@@ -95,7 +91,7 @@ fn deficits_listed(year: &Cells, listing: &[u64]) -> bool
 pub fn entries_pass(year: &Cells, listing: &[u64], condition: Condition) -> bool
     requires { ⌜ ValidCells (now year) ⌝ }
     requires { ⌜ length (now listing) ≡ listingWidth ⌝ }
-    ensures { λ r. ⌜ r ≡ (let y = yearIn (now (year .entry)) in let l = listingAt (at (now (listing .entry))) in everyListed (y .terms) l (fulfils y condition) && deficitsListed (y .terms) l) ⌝ }
+    ensures { λ r. ⌜ r ≡ entriesPass (yearIn (now (year .entry))) (listingAt (at (now (listing .entry)))) condition ⌝ }
 {
     every_listed(year, listing, condition) && deficits_listed(year, listing)
 }
@@ -104,7 +100,7 @@ pub fn entries_pass(year: &Cells, listing: &[u64], condition: Condition) -> bool
 pub fn lists_exactly(year: &Cells, listing: &[u64], selection: Selection) -> bool
     requires { ⌜ ValidCells (now year) ⌝ }
     requires { ⌜ length (now listing) ≡ listingWidth ⌝ }
-    ensures { λ r. ⌜ r ≡ (let y = yearIn (now (year .entry)) in listsExactly (y .terms) (listingAt (at (now (listing .entry)))) (selects y selection)) ⌝ }
+    ensures { λ r. ⌜ r ≡ listsSelected (yearIn (now (year .entry))) (listingAt (at (now (listing .entry)))) selection ⌝ }
 {
     let mut i: usize = 0;
     while i < REGISTRATIONS {

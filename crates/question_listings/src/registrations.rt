@@ -2,11 +2,12 @@
 ghost use mathlib.Core.Path.{_≡_};
 ghost use lib.Dec.{ltb};
 ghost use Prim.Native.Nat.{_<_};
-ghost use Rattle.ids.specs.Ids.{sumTo, anyTo, only};
+ghost use Rattle.ids.specs.Ids.{anyTo, only};
 ghost use Rattle.limits.specs.Limits.{registrations};
 ghost use Rattle.year.specs.Year.{committed, obligation, lseCount};
 ghost use Rattle.year_cells.specs.Layout.{yearIn, ValidCells};
 ghost use Rattle.question_conditions.specs.Selects.{selects};
+ghost use Rattle.question_listings.specs.Asked.{selectedKw};
 use limits::LSES;
 use limits::REGISTRATIONS;
 use question_conditions::Selection;
@@ -29,7 +30,7 @@ pub fn any_selected(year: &Cells, selection: Selection) -> bool
     false
 }
 
-// What a registration commits, if it is selected.
+// What a registration commits, if it is selected, else 0.
 fn committed_by(year: &Cells, i: usize, selection: Selection) -> u64
     requires { ⌜ ValidCells (now year) ⌝ }
     requires { ⌜ i < registrations ⌝ }
@@ -44,10 +45,10 @@ fn committed_by(year: &Cells, i: usize, selection: Selection) -> u64
     }
 }
 
-// What the selected registrations commit.
+// What the selected registrations commit, together.
 pub fn committed_kw(year: &Cells, selection: Selection) -> Nominated
     requires { ⌜ ValidCells (now year) ⌝ }
-    ensures { λ r. ⌜ r .0 ≡ (let y = yearIn (now (year .entry)) in sumTo registrations (only (selects y selection) (committed (y .terms)))) ⌝ }
+    ensures { λ r. ⌜ r .0 ≡ selectedKw (yearIn (now (year .entry))) selection ⌝ }
 {
     let mut sum: u64 = 0;
     let mut i: usize = 0;
