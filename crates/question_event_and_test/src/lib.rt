@@ -1,17 +1,11 @@
 // The questions put to an event and to a test.
 ghost use mathlib.Core.Path.{_≡_};
-ghost use mathlib.Core.Bool.{_&&_};
-ghost use Prim.Native.Nat.{ℕ};
 ghost use lib.ListN.{length};
 ghost use Rattle.ids.specs.Ids.{at};
 ghost use Rattle.year_cells.specs.Places.{listingWidth};
-ghost use Rattle.record_layouts.specs.Questions.{firstFailed};
-ghost use Rattle.year.specs.Year.{product};
-ghost use Rattle.calendar.specs.Calendar.{callable};
 ghost use Rattle.year_cells.specs.Layout.{listingAt, yearIn, ValidCells};
 ghost use Rattle.record_heads.specs.Within.{GroupWithin};
-ghost use Rattle.question_conditions.specs.Entries.{everyListed};
-ghost use Rattle.question_list.specs.Questions.{monthBegun, questions};
+ghost use Rattle.question_list.specs.Questions.{monthBegun, mayCall, Numbered};
 use limits::EVENT_LIMIT;
 use question_conditions::Condition;
 use question_conditions::Selection;
@@ -26,21 +20,21 @@ use record_heads::Head;
 use record_heads::TestHead;
 use year_cells::Cells;
 
-// Question 11 of an event.
+// Question 11 of an event: has the month begun, and may each listed product be called in the month and period?
 fn may_call(year: &Cells, e: EventHead, listing: &[u64]) -> bool
     requires { ⌜ ValidCells (now year) ⌝ }
     requires { ⌜ length (now listing) ≡ listingWidth ⌝ }
-    ensures { λ r. ⌜ r ≡ (let y = yearIn (now (year .entry)) in monthBegun (y .closed) (e .month) && everyListed (y .terms) (listingAt (at (now (listing .entry)))) (λ i. callable (product (y .terms) i) (e .month) (e .period))) ⌝ }
+    ensures { λ r. ⌜ r ≡ mayCall (yearIn (now (year .entry))) monthBegun (listingAt (at (now (listing .entry)))) e ⌝ }
 {
     month_begun(year, e.month)
         && every_listed(year, listing, Condition::Callable(e.month, e.period))
 }
 
-// Of an event.
+// The number of the first question from 6 on that fails for an event, or 0.
 pub fn event_number(year: &Cells, e: EventHead, listing: &[u64]) -> u64
     requires { ⌜ ValidCells (now year) ⌝ }
     requires { ⌜ length (now listing) ≡ listingWidth ⌝ }
-    ensures { λ n. ⌜ ((room : ℕ) → n ≡ firstFailed (questions monthBegun (yearIn (now (year .entry))) (record { head = Head.Event e; listing = listingAt (at (now (listing .entry))) }) room)) ⌝ }
+    ensures { λ n. ⌜ Numbered (yearIn (now (year .entry))) (Head.Event e) (listingAt (at (now (listing .entry)))) n ⌝ }
 {
     let first = open_number(year);
     if first != 0 {
@@ -59,12 +53,12 @@ pub fn event_number(year: &Cells, e: EventHead, listing: &[u64]) -> u64
     }
 }
 
-// Of a test.
+// The number of the first question from 6 on that fails for a test, or 0.
 pub fn test_number(year: &Cells, t: TestHead, listing: &[u64]) -> u64
     requires { ⌜ ValidCells (now year) ⌝ }
     requires { ⌜ GroupWithin (t .zone) (t .product) ⌝ }
     requires { ⌜ length (now listing) ≡ listingWidth ⌝ }
-    ensures { λ n. ⌜ ((room : ℕ) → n ≡ firstFailed (questions monthBegun (yearIn (now (year .entry))) (record { head = Head.Test t; listing = listingAt (at (now (listing .entry))) }) room)) ⌝ }
+    ensures { λ n. ⌜ Numbered (yearIn (now (year .entry))) (Head.Test t) (listingAt (at (now (listing .entry)))) n ⌝ }
 {
     let first = open_number(year);
     if first != 0 {
