@@ -1,17 +1,11 @@
 // The questions put to a retest.
 ghost use mathlib.Core.Path.{_≡_};
-ghost use mathlib.Core.Bool.{not, _&&_, _||_};
-ghost use Prim.Native.Nat.{ℕ};
-ghost use lib.Dec.{leb, eqb};
-ghost use lib.ListN.{length, getD};
+ghost use lib.ListN.{length};
 ghost use Rattle.ids.specs.Ids.{at};
 ghost use Rattle.year_cells.specs.Places.{listingWidth};
-ghost use Rattle.record_layouts.specs.Questions.{firstFailed};
-ghost use Rattle.year.specs.Year.{seller, noTest, testGroup};
 ghost use Rattle.year_cells.specs.Layout.{listingAt, yearIn, ValidCells};
 ghost use Rattle.record_heads.specs.Within.{GroupWithin};
-ghost use Rattle.question_conditions.specs.Entries.{inGroup, everyListed};
-ghost use Rattle.question_list.specs.Questions.{monthBegun, mayTest, questions};
+ghost use Rattle.question_list.specs.Questions.{listsOwn, retestInTime, Numbered};
 use crate::retestable::may_retest;
 use question_conditions::Condition;
 use question_conditions::Selection;
@@ -29,17 +23,17 @@ mod retestable;
 fn lists_own(year: &Cells, t: RetestHead, listing: &[u64]) -> bool
     requires { ⌜ ValidCells (now year) ⌝ }
     requires { ⌜ length (now listing) ≡ listingWidth ⌝ }
-    ensures { λ r. ⌜ r ≡ (let T = yearIn (now (year .entry)) .terms in let l = listingAt (at (now (listing .entry))) in everyListed T l (inGroup T (t .zone) (t .product)) && everyListed T l (λ i. eqb (seller T i) (t .seller))) ⌝ }
+    ensures { λ r. ⌜ r ≡ listsOwn (yearIn (now (year .entry))) (listingAt (at (now (listing .entry)))) t ⌝ }
 {
     every_listed(year, listing, Condition::InGroup(t.zone, t.product))
         && every_listed(year, listing, Condition::OfSeller(t.seller))
 }
 
-// Question 11: a test's, and not before the month of the test, where there was one.
+// Question 11: may the product be tested in the month, and is that, where there was a test, not before the test's?
 fn in_time(year: &Cells, t: RetestHead) -> bool
     requires { ⌜ ValidCells (now year) ⌝ }
     requires { ⌜ GroupWithin (t .zone) (t .product) ⌝ }
-    ensures { λ r. ⌜ r ≡ (let y = yearIn (now (year .entry)) in let test = getD (y .tests) (testGroup (t .zone) (t .product)) noTest in mayTest (y .closed) (t .product) (t .month) && (not (test .taken) || leb (test .month) (t .month))) ⌝ }
+    ensures { λ r. ⌜ r ≡ retestInTime (yearIn (now (year .entry))) t ⌝ }
 {
     if !may_test(year, t.product, t.month) {
         return false;
@@ -51,12 +45,12 @@ fn in_time(year: &Cells, t: RetestHead) -> bool
     year_tested::test_month(year, group) <= t.month
 }
 
-// Of a retest.
+// The number of the first question from 6 on that fails for a retest, or 0.
 pub fn retest_number(year: &Cells, t: RetestHead, listing: &[u64]) -> u64
     requires { ⌜ ValidCells (now year) ⌝ }
     requires { ⌜ GroupWithin (t .zone) (t .product) ⌝ }
     requires { ⌜ length (now listing) ≡ listingWidth ⌝ }
-    ensures { λ n. ⌜ ((room : ℕ) → n ≡ firstFailed (questions monthBegun (yearIn (now (year .entry))) (record { head = Head.Retest t; listing = listingAt (at (now (listing .entry))) }) room)) ⌝ }
+    ensures { λ n. ⌜ Numbered (yearIn (now (year .entry))) (Head.Retest t) (listingAt (at (now (listing .entry)))) n ⌝ }
 {
     let first = open_number(year);
     if first != 0 {

@@ -1,14 +1,11 @@
 // May a seller retest: question 20.
 ghost use mathlib.Core.Path.{_≡_};
-ghost use mathlib.Core.Bool.{not, _&&_};
 ghost use Prim.Native.Nat.{_≤_};
-ghost use lib.ListN.{getD};
 ghost use Rattle.limits.specs.Limits.{nominatedSum};
-ghost use Rattle.year.specs.Year.{noTest, testGroup};
-ghost use Rattle.owed.specs.Facts.{factsOf};
-ghost use Rattle.owed.specs.Retests.{belowQuarter, testedKw, failedKw, hadRetest};
+ghost use Rattle.owed.specs.Retests.{belowQuarter};
 ghost use Rattle.year_cells.specs.Layout.{yearIn, ValidCells};
 ghost use Rattle.record_heads.specs.Within.{GroupWithin};
+ghost use Rattle.question_list.specs.Questions.{mayRetest};
 use question_conditions::Selection;
 use question_listings::any_selected;
 use question_listings::committed_kw;
@@ -29,7 +26,7 @@ fn below_quarter(failed: Nominated, tested: Nominated) -> bool
 pub fn may_retest(year: &Cells, t: RetestHead) -> bool
     requires { ⌜ ValidCells (now year) ⌝ }
     requires { ⌜ GroupWithin (t .zone) (t .product) ⌝ }
-    ensures { λ r. ⌜ r ≡ (let y = yearIn (now (year .entry)) in let p = testGroup (t .zone) (t .product) in getD (y .tests) p noTest .taken && (not (hadRetest (factsOf y) p (t .seller)) && belowQuarter (failedKw (factsOf y) p (t .seller)) (testedKw (factsOf y) p (t .seller)))) ⌝ }
+    ensures { λ r. ⌜ r ≡ mayRetest (yearIn (now (year .entry))) t ⌝ }
 {
     let group = year::group_of(t.zone, t.product);
     if !year_tested::test_taken(year, group as usize) {
