@@ -3,11 +3,10 @@ ghost use mathlib.Core.Path.{_≡_};
 ghost use lib.ListN.{length};
 ghost use Rattle.ids.specs.Ids.{at};
 ghost use Rattle.year_cells.specs.Places.{listingWidth};
-ghost use Rattle.record_layouts.specs.Questions.{firstFailed};
 ghost use Rattle.year.specs.declared.Listing.{Listing};
 ghost use Rattle.year_cells.specs.Layout.{listingAt, yearIn, ValidCells};
 ghost use Rattle.record_heads.specs.Within.{Within};
-ghost use Rattle.question_list.specs.Questions.{monthBegun, questions};
+ghost use Rattle.question_list.specs.Questions.{numberIn};
 use limits::STATEMENT_BYTES;
 use question_event_and_test::event_number;
 use question_event_and_test::test_number;
@@ -20,10 +19,10 @@ use record_heads::CloseHead;
 use record_heads::Head;
 use year_cells::Cells;
 
-// Of a close.
+// The number of the first question from 6 on that fails for a close, or 0.
 fn close_number(year: &Cells, c: CloseHead, room: usize) -> u64
     requires { ⌜ ValidCells (now year) ⌝ }
-    ensures { λ n. ⌜ ((l : Listing) → n ≡ firstFailed (questions monthBegun (yearIn (now (year .entry))) (record { head = Head.Close c; listing = l }) room)) ⌝ }
+    ensures { λ n. ⌜ ((l : Listing) → n ≡ numberIn (yearIn (now (year .entry))) (Head.Close c) l room) ⌝ }
 {
     let first = open_number(year);
     if first != 0 {
@@ -35,12 +34,12 @@ fn close_number(year: &Cells, c: CloseHead, room: usize) -> u64
     if room < STATEMENT_BYTES { 16 } else { 0 }
 }
 
-// The number of the first question from 6 on that fails, or 0. The listing is a row by id.
+// The number of the first question from 6 on that fails for a record of any kind, or 0. The listing is a row by id.
 pub fn number_of(year: &Cells, head: Head, listing: &[u64], room: usize) -> u64
     requires { ⌜ ValidCells (now year) ⌝ }
     requires { ⌜ Within head ⌝ }
     requires { ⌜ length (now listing) ≡ listingWidth ⌝ }
-    ensures { λ n. ⌜ n ≡ firstFailed (questions monthBegun (yearIn (now (year .entry))) (record { head = head; listing = listingAt (at (now (listing .entry))) }) room) ⌝ }
+    ensures { λ n. ⌜ n ≡ numberIn (yearIn (now (year .entry))) head (listingAt (at (now (listing .entry)))) room ⌝ }
 {
     match head {
         Head::Opening(_) => { if year_cells::opened(year) { 6 } else { 0 } }

@@ -10,7 +10,7 @@ use Rattle.year.specs.declared.Year.{Year}
 use Rattle.record_heads.specs.declared.OpeningHead.{OpeningHead}
 use Rattle.record_heads.specs.declared.Head.the-variants.{Opening}
 use Rattle.record_heads.specs.Within.{Within}
-use Rattle.question_list.specs.Questions.{monthBegun, q6, q7, q8, q9, q10, q17, q11, q20, q21, q12, q13, q14, q15, q16, questions}
+use Rattle.question_list.specs.Questions.{numberIn, q6, q7, q8, q9, q10, q17, q11, q20, q21, q12, q13, q14, q15, q16, questions}
 use Rattle.question_number.proofs.number_of.Statement.{statement}
 use Rattle.question_number.proofs.number_of.Tie as tie
 use Rattle.year_cells.proofs.opened.Reads as opened-reads
@@ -47,7 +47,7 @@ retest-number-requires c κs =
     (start .pre .0, (rw (c .before .head7 .given .1) at (start .pre .1 .0), start .pre .1 .1))
 
 -- an opening is asked 6 alone
-opening-number : (y : Year) (o : OpeningHead) (l : Listing) (room : ℕ) → cond (y .opened) 6 0 ≡ firstFailed (questions monthBegun y (record { head = Opening o; listing = l }) room)
+opening-number : (y : Year) (o : OpeningHead) (l : Listing) (room : ℕ) → cond (y .opened) 6 0 ≡ numberIn y (Opening o) l room
 unfolding firstFailed questions q6 q7 q8 q9 q10 q17 q11 q20 q21 q12 q13 q14 q15 q16
 opening-number y o l room = go (y .opened)
   where
