@@ -9,6 +9,7 @@ use Rattle.ids.specs.Tests.{cond-true, cond-false}
 use Rattle.record_layouts.specs.Layout.{sizeOf, mostNumbers}
 use Rattle.record_layouts.specs.Questions.{firstFailed, rulesOf, numbersOf, recordNumber, row}
 use Rattle.record_numbers.specs.Accepted.{number-first, number-later}
+use Rattle.record_parse.specs.declared.ReadAnswer.{ReadAnswer}
 use Rattle.record_numbers.specs.Calls.{readNumber, over, readBuffer, Reads}
 
 -- reading puts question 16 behind the others
@@ -24,6 +25,10 @@ module _ (bytes : List ℕ) (room : ℕ) where
   pub read-full : recordNumber bytes ≡ 0 → mostNumbers ≤ room → 0 ≡ readNumber bytes room
   unfolding readNumber firstFailed
   read-full e l = sym (number-later bytes _ e ∙ rw (le-leb mostNumbers room l))
+
+-- the answer, and the lent buffer before and after
+abbrev pub Answers : List ℕ → List ℕ → ReadAnswer → List ℕ → Type 0
+Answers bytes before r after = Reads bytes before (r .number) (r .count) (r .used) after
 
 -- an answer with the number of a question that failed, and one with none
 pub rejects : {bytes before after : List ℕ} {number count used : ℕ} (n : ℕ) → number ≡ n → count ≡ 0 → used ≡ 0 → after ≡ before → (n ≡ 0 → ⊥) → n ≡ readNumber bytes (length before)

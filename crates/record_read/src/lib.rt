@@ -3,7 +3,7 @@ ghost use mathlib.Core.Path.{_≡_};
 ghost use mathlib.Core.List.{_++_};
 ghost use Prim.Native.Nat.{_≤_};
 ghost use lib.ListN.{length, take, drop};
-ghost use Rattle.record_numbers.specs.Calls.{Reads};
+ghost use Rattle.record_read.specs.Answers.{Answers};
 use record_numbers::NUMBERS;
 use record_parse::ReadAnswer;
 use record_parse::parse;
@@ -24,7 +24,7 @@ fn copy_front(from: &[u64], n: usize, to: &mut [u64])
 
 // A record's numbers into the front of a lent buffer: questions 1 to 5, then 16.
 pub fn read(bytes: &[u8], numbers: &mut [u64]) -> ReadAnswer
-    ensures { λ r. ⌜ Reads (now (bytes .entry)) (now (numbers .entry)) (r .number) (r .count) (r .used) (now (numbers .exit)) ⌝ }
+    ensures { λ r. ⌜ Answers (now (bytes .entry)) (now (numbers .entry)) r (now (numbers .exit)) ⌝ }
 {
     let mut values = [0u64; NUMBERS];
     let a = parse(bytes, &mut values);
