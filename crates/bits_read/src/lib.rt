@@ -26,7 +26,7 @@ pub struct Items {
 }
 
 impl Cursor {
-    // At the first bit.
+    // The cursor at the first bit.
     pub fn first() -> Cursor
         ensures { λ r. ⌜ r .at ≡ 0 ⌝ }
     {

@@ -11,7 +11,7 @@ use year::Amounts;
 use year_cells::Cells;
 use year_copies::numbers_at;
 
-// The rates in force, the passes over events' entries, those over tests' entries, and the LSEs.
+// All amounts to date at month k: the rates in force first, then the passes over events' entries, those over tests' entries, and the LSEs.
 pub fn amounts_to_date(year: &Cells, work: &mut Work, k: u64) -> Amounts
     requires { ⌜ ValidCells (now year) × Begun (now year) registrations (now work) × (1 ≤ k) × (k ≤ closeLimit) ⌝ }
     ensures { λ r. ⌜ r ≡ amounts (facts (now (year .entry))) k ⌝ }

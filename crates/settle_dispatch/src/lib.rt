@@ -18,7 +18,7 @@ fn as_mark(b: bool) -> u64
     if b { 1 } else { 0 }
 }
 
-// One event's entries, after those of the events before it.
+// Counts one event's entries, after those of the events before it.
 fn count_event(year: &Cells, work: &mut Work, ev: usize)
     requires { ⌜ ev < eventLimit ⌝ }
     requires { ⌜ Counting (facts (now year)) ev (now work) ⌝ }
@@ -37,7 +37,7 @@ fn count_event(year: &Cells, work: &mut Work, ev: usize)
     }
 }
 
-// All events, later ones too: n and whether a registration is dispatched do not depend on which event asks.
+// Counts the entries of all events, later ones too: n and whether a registration is dispatched do not depend on which event asks.
 pub fn count(year: &Cells, work: &mut Work)
     requires { ⌜ ValidCells (now year) ⌝ }
     requires { ⌜ length (now work) ≡ size ⌝ }

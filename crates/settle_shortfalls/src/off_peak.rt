@@ -1,6 +1,6 @@
 // What is measured off-peak in a dual event, from what pass 3 left of its entries in the working table: no look at one.
 ghost use mathlib.Core.Path.{_≡_};
-ghost use Prim.Native.Nat.{_+_, _<_};
+ghost use Prim.Native.Nat.{_<_};
 ghost use Rattle.limits.specs.Limits.{registrations, sellers, eventLimit};
 ghost use Rattle.year_cells.specs.Layout.{ValidCells};
 ghost use Rattle.settle_facts.specs.CellFacts.{facts};

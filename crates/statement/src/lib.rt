@@ -45,7 +45,7 @@ pub fn obliged(terms: Terms) -> [bool; PARTIES]
     marks
 }
 
-// How many are marked.
+// How many parties are marked.
 pub fn count(marks: [bool; PARTIES]) -> u64
     ensures { λ r. ⌜ r ≡ countTo parties (holds marks) ⌝ }
 {
