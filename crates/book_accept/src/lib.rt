@@ -8,8 +8,8 @@ ghost use Rattle.limits.specs.Limits.{nominatedLimit};
 ghost use Rattle.year_cells.specs.Places.{listingWidth};
 ghost use Rattle.question_list.specs.Questions.{q16};
 ghost use Rattle.year_cells.specs.Layout.{listingAt, yearIn, ValidCells};
-ghost use Rattle.book_recorded.specs.After.{registrationOf, yearBy};
-ghost use Rattle.book_accept.specs.Leaves.{bufferWith, writtenWith};
+ghost use Rattle.book_recorded.specs.After.{registrationOf};
+ghost use Rattle.book_accept.specs.Leaves.{yearByRow, bufferBy, writtenBy};
 ghost use Rattle.book_accept.specs.Suits.{Suits};
 use crate::month_end::close_month;
 use record_heads::Head;
@@ -20,7 +20,7 @@ use year_cells::Cells;
 
 mod month_end;
 
-// What a registration registers.
+// The registration that a registration record makes.
 fn registration_of(r: RegistrationHead) -> Registration
     requires { ⌜ r .committed ≤ nominatedLimit ⌝ }
     ensures { λ s. ⌜ s ≡ registrationOf r ⌝ }
@@ -43,10 +43,10 @@ pub fn accept(year: &mut Cells, head: Head, listing: &[u64], buffer: &mut [u8]) 
     requires { ⌜ length (now listing) ≡ listingWidth ⌝ }
     requires { ⌜ Suits (yearIn (now year)) (listingAt (at (now listing))) head ⌝ }
     requires { ⌜ q16 (length (now buffer)) head ≡ true ⌝ }
-    ensures equals { λ r. ⌜ yearIn (now (year .exit)) ≡ yearBy (yearIn (now (year .entry))) (listingAt (at (now (listing .entry)))) head ⌝ }
+    ensures equals { λ r. ⌜ yearIn (now (year .exit)) ≡ yearByRow (now (year .entry)) (now (listing .entry)) head ⌝ }
     ensures valid { λ r. ⌜ ValidCells (now (year .exit)) ⌝ }
-    ensures leaves { λ r. ⌜ now (buffer .exit) ≡ bufferWith (yearIn (now (year .entry))) (record { head = head; listing = listingAt (at (now (listing .entry))) }) (now (buffer .entry)) ⌝ }
-    ensures writes { λ r. ⌜ r ≡ writtenWith (yearIn (now (year .entry))) (record { head = head; listing = listingAt (at (now (listing .entry))) }) ⌝ }
+    ensures leaves { λ r. ⌜ now (buffer .exit) ≡ bufferBy (yearIn (now (year .entry))) head (now (buffer .entry)) ⌝ }
+    ensures writes { λ r. ⌜ r ≡ writtenBy (yearIn (now (year .entry))) head ⌝ }
 {
     match head {
         Head::Opening(o) => {

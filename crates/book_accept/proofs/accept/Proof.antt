@@ -5,7 +5,6 @@ use borrow.Author.Tests.{leb-true}
 use Rattle.limits.specs.Limits.{statementLimit}
 use Rattle.question_list.specs.Questions.{q16}
 use Rattle.book_recorded.specs.After.{yearBy}
-use Rattle.book_accept.specs.Leaves.{bufferWith, writtenWith}
 use Rattle.book_accept.specs.Suits.{Suits}
 use Rattle.book_accept.proofs.accept.Statement.{statement}
 use Rattle.book_accept.proofs.accept.Tie as tie
@@ -92,50 +91,50 @@ add-retest-requires c κs =
     (start .pre .0, (t .0, (start .pre .1 .0, t .1)))
 
 returns : tie.Need-returns
-unfolding yearBy bufferWith writtenWith
+unfolding yearBy
 returns c =
     let is = c .before .before .before .head .given .1 in
     (rw is (c .add-opening .ensures .0), (c .add-opening .ensures .1, (rw is, rw is)))
 
 returns-2 : tie.Need-returns-2
-unfolding yearBy bufferWith writtenWith
+unfolding yearBy
 returns-2 c =
     let is = c .before .before .before .before .head2 .given .1 in
     (rw is (rw (c .before .before .registration-of .ensures) at (c .add-registration .ensures .0)), (c .add-registration .ensures .1, (rw is, rw is)))
 
 returns-3 : tie.Need-returns-3
-unfolding yearBy bufferWith writtenWith
+unfolding yearBy
 returns-3 c =
     let is = c .before .before .before .head3 .given .1 in
     (rw is (c .add-lse .ensures .0), (c .add-lse .ensures .1, (rw is, rw is)))
 
 returns-4 : tie.Need-returns-4
-unfolding yearBy bufferWith writtenWith
+unfolding yearBy
 returns-4 c =
     let is = c .before .before .before .head4 .given .1 in
     (rw is (c .add-event .ensures .0), (c .add-event .ensures .1, (rw is, rw is)))
 
 returns-5 : tie.Need-returns-5
-unfolding yearBy bufferWith writtenWith
+unfolding yearBy
 returns-5 c =
     let is = c .before .before .before .before .head5 .given .1 in
     (rw is (rw (c .before .before .group-of .ensures) at (c .add-test .ensures .0)), (c .add-test .ensures .1, (rw is, rw is)))
 
 returns-6 : tie.Need-returns-6
-unfolding yearBy bufferWith writtenWith
+unfolding yearBy
 returns-6 c =
     let is = c .before .before .before .before .before .before .head6 .given .1 in
     let closed = c .before .before .close-month .ensures in
     (rw is (closed .0), (closed .1 .0, (rw is (closed .1 .1 .0), rw is (closed .1 .1 .1))))
 
 returns-7 : tie.Need-returns-7
-unfolding yearBy bufferWith writtenWith
+unfolding yearBy
 returns-7 c =
     let is = c .before .before .before .head7 .given .1 in
     (rw is (c .add-clearing .ensures .0), (c .add-clearing .ensures .1, (rw is, rw is)))
 
 returns-8 : tie.Need-returns-8
-unfolding yearBy bufferWith writtenWith
+unfolding yearBy
 returns-8 c =
     let is = c .before .before .enum-told .given .1 in
     (rw is (c .add-retest .ensures .0), (c .add-retest .ensures .1, (rw is, rw is)))
