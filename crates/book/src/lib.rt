@@ -2,7 +2,7 @@
 ghost use mathlib.Core.Path.{_≡_};
 ghost use Rattle.year.specs.Year.{newYear};
 ghost use Rattle.year_cells.specs.Layout.{yearIn, ValidCells};
-ghost use Rattle.book_outcome.specs.Outcome.{Posts};
+ghost use Rattle.book.specs.Takes.{Takes};
 use book_accept::accept;
 use question_number::number_of;
 use year_cells::Cells;
@@ -16,7 +16,7 @@ pub struct Posted {
     pub written: usize,
 }
 
-// A new book has no year.
+// A new book, which has no year.
 pub fn new_book() -> Cells
     ensures equals { λ r. ⌜ yearIn r ≡ newYear ⌝ }
     ensures valid { λ r. ⌜ ValidCells r ⌝ }
@@ -27,7 +27,7 @@ pub fn new_book() -> Cells
 // Takes a record. The buffer is for a close's statement: 354 bytes are enough.
 pub fn post(year: &mut Cells, bytes: &[u8], buffer: &mut [u8]) -> Posted
     requires { ⌜ ValidCells (now year) ⌝ }
-    ensures posts { λ r. ⌜ Posts (yearIn (now (year .entry))) (now (bytes .entry)) (now (buffer .entry)) (r .number) (r .used) (r .written) (yearIn (now (year .exit))) (now (buffer .exit)) ⌝ }
+    ensures posts { λ r. ⌜ Takes year bytes buffer r ⌝ }
     ensures refused { λ r. ⌜ ((r .number ≡ 0 → ⊥) → now (year .exit) ≡ now (year .entry)) ⌝ }
     ensures valid { λ r. ⌜ ValidCells (now (year .exit)) ⌝ }
 {

@@ -94,6 +94,7 @@ accept-requires c κs =
     (start .pre, (spread .long, (suits (start .pre .sound) listing (named .result) limits passes, passes .sixteen)))
 
 returns-3 : tie.Need-returns-3
+unfolding bufferWith writtenWith
 returns-3 c =
     let taken = c .before .before .accept .ensures in
     let spread = c .before .before .before .before .before .before .before .before .before .before .spread .ensures .lists in
@@ -104,9 +105,9 @@ returns-3 c =
     let same = record-row (numbersOf (a .bytes .now)) in
     let posts =
     accepts y (a .bytes .now) (a .buffer .now) (sym (c .before .before .before .before .before .before .if2 .left) ∙ answered (c .before .before .before .before .before .before .before)) (one .before .before .before .parse .ensures .uses)
-    ((rw (named, spread, rows one) at (taken .1 .1 .1)) ∙ ap (λ (r : Record). writtenWith y r) same)
+    ((rw (named, rows one) at (taken .1 .1 .1)) ∙ ap (λ (r : Record). writtenWith y r) same)
     ((rw (named, spread, rows one) at (taken .0)) ∙ ap (λ (r : Record). yearWith y r) same)
-    ((rw (named, spread, rows one) at (taken .1 .1 .0)) ∙ ap (λ (r : Record). bufferWith y r (a .buffer .now)) same) in
+    ((rw (named, rows one) at (taken .1 .1 .0)) ∙ ap (λ (r : Record). bufferWith y r (a .buffer .now)) same) in
     (posts, ((λ n. absurd (n refl)), taken .1 .0))
 
 pub post-spec : {M : Type 1} → statement M

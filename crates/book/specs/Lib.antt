@@ -1,0 +1,2 @@
+-- What a call does, by what it is lent.
+pub mod Takes
