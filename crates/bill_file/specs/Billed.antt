@@ -4,8 +4,7 @@ use mathlib.Core.Bool.{cond}
 use mathlib.Core.List.{List, [], _∷_}
 use mathlib.Core.Path.{_≡_}
 use lib.ListN.{length, drop}
-use denote.Ref.{RefT, now}
-use denote.Triple.Both.{Both}
+use denote.Ref.{now}
 use Rattle.record_layouts.specs.Questions.{consumed}
 use Rattle.record_numbers.specs.Calls.{over}
 use Rattle.year.specs.declared.Year.{Year}
@@ -16,6 +15,7 @@ use Rattle.claim_history.specs.Taking.{closes, buffered, answers}
 use Rattle.claim_history.specs.Claim.{Demand3}
 use Rattle.claim_history.specs.Files.{callsOf, numbers, statementIn, joined}
 use Rattle.claim_history.specs.Proof.{demand3}
+use Rattle.book.specs.Takes.{Lent}
 use Rattle.bill_file.specs.declared.Totals.{Totals}
 
 -- a call's statement; nothing for any record but an accepted close
@@ -55,10 +55,6 @@ pub record Leaves (b : Bill) (numbers statements : List ℕ) (answered used writ
 -- a file billed from a new book
 abbrev pub Bills : List ℕ → List ℕ → List ℕ → ℕ → ℕ → ℕ → List ℕ → List ℕ → Type 0
 Bills file numbers statements = Leaves (billed newYear (calls (length numbers) file statements)) numbers statements
-
--- a reference that a call is lent, with what it holds as the call begins and as it ends
-abbrev pub Lent : Type 0 → Type 0
-Lent X = Both (RefT X) (RefT X)
 
 -- a file billed, by what is lent: its totals, and the two buffers
 abbrev pub FileLeaves : Lent (List ℕ) → Lent (List ℕ) → Lent (List ℕ) → Totals → Type 0

@@ -4,8 +4,9 @@ use year_cells::Cells;
 ghost use mathlib.Core.Path.{_≡_};
 ghost use Prim.Native.Nat.{_+_};
 ghost use Rattle.year_cells.specs.Layout.{ValidCells};
+ghost use Rattle.book.specs.Takes.{Takes};
 ghost use Rattle.bill_step.specs.Answer.{Ready};
-ghost use Rattle.bill_step.specs.Step.{PostLeaves, Prints};
+ghost use Rattle.bill_step.specs.Step.{Prints};
 
 // What goes from record to record beside the year: the next record's position, and the place behind what is printed.
 pub struct Course {
@@ -29,7 +30,7 @@ pub fn step(
 ) -> Answered
     requires { ⌜ ValidCells (now year) ⌝ }
     requires { ⌜ Ready course (now bytes) (now statement) (now out) ⌝ }
-    ensures posts { λ r. ⌜ PostLeaves year bytes statement (r .posted) ⌝ }
+    ensures posts { λ r. ⌜ Takes year bytes statement (r .posted) ⌝ }
     ensures prints { λ r. ⌜ Prints year bytes statement out course (r .next) ⌝ }
     ensures counts { λ r. ⌜ r .next .position ≡ course .position + 1 ⌝ }
     ensures valid { λ r. ⌜ ValidCells (now (year .exit)) ⌝ }

@@ -7,11 +7,11 @@ use Rattle.year_cells.specs.Layout.{yearIn}
 use Rattle.book_outcome.specs.Outcome.{Posts}
 use Rattle.book.specs.declared.Posted.{Posted}
 
--- numbers that are lent, as the call finds them and as it leaves them
-abbrev Lent : Type 0
-Lent = Both (RefT (List ℕ)) (RefT (List ℕ))
+-- a reference that a call is lent, with what it holds as the call begins and as it ends
+abbrev pub Lent : Type 0 → Type 0
+Lent X = Both (RefT X) (RefT X)
 
 -- the answer, and what is left of the cells and the buffer, are the outcome of taking the record that the bytes hold
-abbrev pub Takes : Lent → Lent → Lent → Posted → Type 0
+abbrev pub Takes : Lent (List ℕ) → Lent (List ℕ) → Lent (List ℕ) → Posted → Type 0
 Takes cells bytes buffer r =
     Posts (yearIn (cells .entry .now)) (bytes .entry .now) (buffer .entry .now) (r .number) (r .used) (r .written) (yearIn (cells .exit .now)) (buffer .exit .now)

@@ -124,7 +124,7 @@ fn read_case(line: &[u8]) {
     read(&bytes[0..count], &mut row[0..end]);
 }
 
-// Reads a record, and prints what the call leaves: the answer goes before the numbers, in one row.
+// Reads a record, and prints what the call leaves: the answer, a `record_parse::ReadAnswer`, goes before the numbers, in one row.
 fn read(bytes: &[u8], row: &mut [u64])
     requires { ⌜ 3 ≤ length (now row) ⌝ }
     requires { ⌜ length (now row) ≤ 515 ⌝ }

@@ -6,7 +6,8 @@ use denote.Ref.{now}
 use Rattle.record_numbers.specs.Calls.{Reads, Writes}
 use Rattle.year_cells.specs.Layout.{yearIn}
 use Rattle.book_outcome.specs.Outcome.{Posts}
-use Rattle.bill_file.specs.Billed.{Lent, Bills}
+use Rattle.book.specs.Takes.{Lent}
+use Rattle.bill_file.specs.Billed.{Bills}
 
 -- a record read: its number, how many numbers it has, how many bytes, and the buffer with the numbers in front
 abbrev pub ReadLeaves : Lent (List ℕ) → Lent (List ℕ) → ℕ → Lent ℕ → Lent ℕ → Type 0

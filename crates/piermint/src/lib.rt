@@ -10,7 +10,7 @@ use telemetry::Sample;
 use year_cells::Cells;
 
 // Reads a record: its numbers go into the front of a lent buffer, and how many they are and the bytes of the record go out.
-// Answers 0, or the number of the question that failed.
+// Answers 0, or the number of the question that failed, as `record_parse::ReadAnswer` has it.
 #[no_mangle]
 pub extern "C" fn piermint_read(
     bytes: &[u8],

@@ -17,7 +17,7 @@ pub fn in_group(r: Registration, zone: u64, product: u64) -> bool
     r.known && (r.zone == zone && r.product == product)
 }
 
-// Does a registration meet the condition?
+// Does a registration meet the condition? (It holds `units::Nominated` kilowatts, which none asks for.)
 pub fn meets(year: &Cells, i: usize, condition: Condition) -> bool
     requires { ⌜ i < registrations ⌝ }
     ensures { λ b. ⌜ b ≡ fulfils (yearIn (now (year .entry))) condition i ⌝ }

@@ -79,7 +79,7 @@ module _ (y : Year) where
       forEvent (λ e. everyListed T l (inArea T (e .area)) && deficitsListed T l)
       (forTest (λ t. everyListed T l (inGroup T (t .zone) (t .product)) && deficitsListed T l)
       (forClearing (λ c. known T (c .registration))
-      (forRetest (listsOwn l) passed)))
+      (forRetest (λ t. listsOwn l t) passed)))
 
   -- has a clearing's registration fewer than four?
   unfoldable pub q17 : Head → Bool
@@ -98,9 +98,9 @@ module _ (y : Year) where
   -- does an event's month pass the time rule, has a test's and a retest's begun, and may each product be called or tested then? Where there was a test, is a retest's month not before its?
   unfoldable pub q11 : (ℕ → ℕ → Bool) → Listing → Head → Bool
   q11 rule l =
-      forEvent (mayCall rule l)
+      forEvent (λ e. mayCall rule l e)
       (forTest (λ t. mayTest (y .closed) (t .product) (t .month))
-      (forRetest retestInTime passed))
+      (forRetest (λ t. retestInTime t) passed))
 
   -- was there a test of a retest's zone and product, has the seller had no retest of it, and are its failed kW below a quarter of its tested kW, and some
   abbrev pub mayRetest : RetestHead → Bool
@@ -110,7 +110,7 @@ module _ (y : Year) where
 
   -- for a retest: may the seller retest?
   unfoldable pub q20 : Head → Bool
-  q20 = forRetest mayRetest passed
+  q20 = forRetest (λ t. mayRetest t) passed
 
   -- does a retest list exactly the seller's entries that failed?
   unfoldable pub q21 : Listing → Head → Bool

@@ -14,7 +14,7 @@ mod issue;
 
 pub use issue::write_statement;
 
-// Which sellers have a registration.
+// Which sellers have a registration. (The registrations of the terms hold `units::Nominated` kilowatts.)
 pub fn present(terms: Terms) -> [bool; PARTIES]
     requires { ⌜ SoundTerms terms ⌝ }
     ensures { λ r. ⌜ Marks (hasRegistration terms) r ⌝ }

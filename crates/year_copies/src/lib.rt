@@ -32,7 +32,7 @@ pub fn numbers_at(cells: &[u64], p: usize) -> [u64; PARTIES]
     numbers
 }
 
-// The year's registrations.
+// The year's registrations, which hold `units::Nominated` kilowatts.
 pub fn registrations_of(year: &Cells) -> [Registration; REGISTRATIONS]
     ensures { λ r. ⌜ r ≡ yearIn (now (year .entry)) .terms .registrations ⌝ }
 {

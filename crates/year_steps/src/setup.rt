@@ -27,7 +27,7 @@ pub fn add_opening(year: &mut Cells, leap: u64, factor: u64, requirement: u64)
     lay(year, OPENED_PLACE, &[1, leap, factor, requirement]);
 }
 
-// One more registration, before any event, test or close.
+// One more registration, before any event, test or close. Its kilowatts are `units::Nominated`; the cells hold their number.
 pub fn add_registration(year: &mut Cells, id: usize, r: Registration)
     requires { ⌜ ValidCells (now year) ⌝ }
     requires { ⌜ yearIn (now year) .started ≡ false ⌝ }
