@@ -1,2 +1,2 @@
 -- What the cursor's fields leave in the list that takes them.
-pub mod Laid
+pub mod Fields

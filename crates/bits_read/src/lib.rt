@@ -4,7 +4,7 @@ ghost use Prim.Native.Nat.{_+_, _-_, _/_, _%_, _^_, _≤_};
 ghost use lib.ListN.{length};
 ghost use Rattle.bits.specs.Bits.{FieldFits, FieldRead};
 ghost use Rattle.bits.specs.Table.{total, times, Fit, InWord};
-ghost use Rattle.bits_read.specs.Laid.{fieldsLaid, itemsLaid};
+ghost use Rattle.bits_read.specs.Fields.{fieldsLaid, itemsLaid};
 
 mod words;
 
