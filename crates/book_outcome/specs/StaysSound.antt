@@ -34,7 +34,7 @@ use Rattle.book_outcome.specs.Outcome.{recordIn, postNumber, yearAfter}
 use Rattle.book_outcome.specs.Numbers.{all-passed}
 use Rattle.book_outcome.specs.Made.{within, permits}
 
--- the listed registrations of a test are of its place
+-- the listed registrations of a test are of its group
 own-group : {T : Terms} → SoundTerms T → (l : Listing) (z p : ℕ) → everyListed T l (inGroup T z p) ≡ true
     → (i : ℕ) → i < registrations → listed l i ≡ true → testGroup (zone T i) (product T i) ≡ testGroup z p
 unfolding everyListed inGroup

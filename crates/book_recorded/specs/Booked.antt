@@ -40,7 +40,7 @@ billed-more before (x ∷ rs) r =
     rw (billed-more (before ++ x ∷ []) rs r, append-assoc before (x ∷ []) rs)
     (sym (append-assoc (billedAt before x) (billedIn (before ++ x ∷ []) rs) (billedAt (before ++ x ∷ rs) r)))
 
--- the year as the book keeps it after these records: with sixteen places for events, and with what was billed last
+-- the year as the book keeps it after these records: with sixteen rows for events, and with what was billed last
 unfoldable pub booked : List Record → Year
 booked rs =
     let y = recorded rs in
@@ -57,7 +57,7 @@ booked rs =
       billed = lastOr noAmounts (billedIn [] rs);
     }
 
--- the places behind the events say nothing
+-- the rows behind the events say nothing
 padded : (es : List Event) (n ev : ℕ) → getD (es ++ replicate n noEvent) ev noEvent ≡ getD es ev noEvent
 padded [] n ev = getD-replicate-same n ev noEvent
 padded (x ∷ es) n zero = refl

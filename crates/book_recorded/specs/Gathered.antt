@@ -60,7 +60,7 @@ module _ {A : Type 0} where
       → tabulate n (λ i. cond (picked i) (g i) (getD (tabulate n f) i d)) ≡ tabulate n (λ i. cond (picked i) (g i) (f i))
   over-table n f d picked g = tabulate-same n (λ i l. rw (getD-tabulate f n i d l))
 
--- places behind a list, the first of them taken
+-- rows behind a list, the first of them taken
 set-next : {A : Type 0} (xs : List A) (n : ℕ) (d v : A) → set (xs ++ replicate (suc n) d) (length xs) v ≡ (xs ++ v ∷ []) ++ replicate n d
 set-next [] n d v = refl
 set-next (x ∷ xs) n d v = ap (λ l. x ∷ l) (set-next xs n d v)

@@ -49,7 +49,7 @@ none h = []
 unfoldable pub summed : List ClearingHead → Clearings
 summed cs = record { count = length cs; value = sumOver (λ c. c .price * c .kw) cs; kw = sumOver (λ c. c .kw) cs }
 
--- of one record: an opening, the registration of id i, LSE j's obligation, a clearing of registration i, an event, the test at a place, registration i's retest, a close
+-- of one record: an opening, the registration of id i, LSE j's obligation, a clearing of registration i, an event, the test of a group, registration i's retest, a close
 abbrev pub opening : Record → List OpeningHead
 opening r = forOpening (λ o. o ∷ []) none (r .head)
 
@@ -99,7 +99,7 @@ module _ (rs : List Record) where
   unfoldable pub eventsIn : List Event
   eventsIn = gather event rs
 
-  -- by place
+  -- by group
   unfoldable pub testsIn : List Test
   testsIn = tabulate testGroups (λ p. lastOr noTest (gather (testFor p) rs))
 

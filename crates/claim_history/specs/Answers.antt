@@ -39,7 +39,7 @@ split y (c ∷ cs) (b ∷ bs) x after e =
     let s = split (step y c) cs bs x after rest in
     record { earlier = c ∷ s .earlier; own = s .own; before-is = cc (s .before-is); own-is = s .own-is }
 
--- no question reads what is billed, or the places behind the events
+-- no question reads what is billed, or the rows behind the events
 same-questions : (rs : List Record) (r : Record) (room : ℕ) → questions monthBegun (booked rs) r room ≡ questions monthBegun (recorded rs) r room
 unfolding questions q6 q7 q8 q9 q10 q17 q11 q20 q21 q12 q13 q14 q15 booked
 same-questions rs r room = rw (facts-booked rs)

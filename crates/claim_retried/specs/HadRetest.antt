@@ -23,7 +23,7 @@ use Rattle.claim_history.specs.StepCases.{does}
 use Rattle.claim_history.specs.StepInvariants.{StepInvariants, never, kept-new, accepted-sound, kept-step}
 use Rattle.claim_retried.specs.Retried.{isRetestAt, InTest, none-had, blank, had-by}
 
--- is a retest of seller s's in the zone and product of place p among these
+-- is a retest of seller s's in the zone and product of group p among these
 abbrev pub anyRetest : ℕ → ℕ → List Record → Bool
 anyRetest p s rs = ltb 0 (length (gather (λ r. alone (isRetestAt p s (r .head)) r) rs))
 

@@ -39,7 +39,7 @@ use Rattle.question_list.specs.Admitted.{Admitted, test-free, retest-started}
 use Rattle.claim_history.specs.StepInvariants.{StepInvariants, never}
 use Rattle.claim_history.specs.StepCases.{StepCases, terms, event, test, close, retest}
 
--- is a retest seller s's in the zone and product of place p, and is a record such a retest
+-- is a retest seller s's in the zone and product of group p, and is a record such a retest
 abbrev isAt : ℕ → ℕ → RetestHead → Bool
 isAt p s t = eqb (testGroup (t .zone) (t .product)) p && eqb (t .seller) s
 
@@ -61,14 +61,14 @@ beq-true false false e = refl
 beq-true true false e = never refl e
 beq-true false true e = never refl e
 
--- a registration's place; each retested one is in the test of its place
+-- a registration's group; each retested one is in the test of its group
 abbrev placed : Year → ℕ → ℕ
 placed y i = testGroup (zone (y .terms) i) (product (y .terms) i)
 
 abbrev pub InTest : Year → Type 0
 InTest y = (i : ℕ) → i < registrations → retestOf y i .taken ≡ true → year.listed (factsOf y .test (placed y i) .listing) i ≡ true
 
--- a test lists registrations of its place alone
+-- a test lists registrations of its group alone
 own-group : {y : Year} → Sound y → (p i : ℕ) → i < registrations → year.listed (factsOf y .test p .listing) i ≡ true → placed y i ≡ p
 unfolding listed
 own-group {y} S p i l e = elim (decLt p testGroups) [

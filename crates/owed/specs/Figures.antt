@@ -35,7 +35,7 @@ factsBy registrations obligations clearings events tests retests =
       retest = λ i. getD retests i noRetest;
     }
 
--- a registration by seller, area, product, committed kW and rate, in its place known or not
+-- a registration by seller, area, product, committed kW and rate, known or not
 abbrev entered : Bool → ℕ → ℕ → ℕ → ℕ → ℕ → Registration
 entered known seller area product committed rate =
     record { known = known; seller = seller; area = area; zone = 0; product = product; committed = record { 0 = committed }; rate = rate }
@@ -165,7 +165,7 @@ quarter-figures : (belowQuarter 1000 4001 ≡ true) × (belowQuarter 1000 4000 �
 unfolding belowQuarter
 quarter-figures = (refl, refl, refl, refl, refl, refl)
 
--- The test at place 0 lists seller 0's registrations of 1,000, 2,000 and 1,001 kW, with reductions of v, 2,100 and 1,001, and seller 1's of 500 kW with 100, all at 10,000.
+-- The test of group 0 lists seller 0's registrations of 1,000, 2,000 and 1,001 kW, with reductions of v, 2,100 and 1,001, and seller 1's of 500 kW with 100, all at 10,000.
 -- Registration 0 is retested or not, with w. An event lists these registrations.
 abbrev retried : ℕ → Bool → ℕ → List Bool → Facts
 retried v again w listed =
@@ -178,7 +178,7 @@ retried v again w listed =
     (record { taken = again; reduction = w } ∷ [])
 
 -- Of seller 0's 4,001 kW the 1,000 of registration 0 failed: 1,001 given of 1,001 is no failure. So it stays when the retest gives 1,000, and when an event lists
--- registration 0. Seller 1 failed with all of its 500 kW, seller 2 tested nothing, nor did anybody at place 1.
+-- registration 0. Seller 1 failed with all of its 500 kW, seller 2 tested nothing, nor did anybody in group 1.
 failed-figures : (testedKw (retried 400 false 0 []) 0 0 ≡ 4001) × (failedKw (retried 400 false 0 []) 0 0 ≡ 1000)
     × (failedKw (retried 400 true 1000 []) 0 0 ≡ 1000) × (failedKw (retried 1000 true 400 []) 0 0 ≡ 0) × (failedKw (retried 400 false 0 (true ∷ [])) 0 0 ≡ 1000)
     × (testedKw (retried 400 false 0 []) 0 1 ≡ 500) × (failedKw (retried 400 false 0 []) 0 1 ≡ 500)

@@ -17,7 +17,7 @@ pub enum Condition {
 }
 
 // Which registrations of a year are meant (specs/Selects.antt): those that are known; those of a zone and product that
-// no accepted event lists; and, of the test of a place, a seller's entries, those of them that failed, those that are
+// no accepted event lists; and, of the test of a group, a seller's entries, those of them that failed, those that are
 // retested.
 pub enum Selection {
     Known,

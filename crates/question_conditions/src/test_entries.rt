@@ -1,4 +1,4 @@
-// A registration's entry in the test of a place: is it a seller's, did it fail, is it retested?
+// A registration's entry in the test of a group: is it a seller's, did it fail, is it retested?
 ghost use mathlib.Core.Path.{_≡_};
 ghost use Prim.Native.Nat.{_<_};
 ghost use Rattle.limits.specs.Limits.{registrations};

@@ -1,4 +1,4 @@
-// Tests over what a record lists, its listing a row by id: 64 marks, 64 reductions, 16 deficits.
+// Tests over what a record lists, its listing a row by id (year_cells.Places).
 ghost use mathlib.Core.Path.{_≡_};
 ghost use Prim.Native.Nat.{_<_};
 ghost use lib.ListN.{length};

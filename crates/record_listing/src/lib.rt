@@ -1,4 +1,4 @@
-// What a record lists, as a row by id: 64 marks and 64 reductions by registration, 16 deficits by seller, then 64 second reductions.
+// What a record lists, as a row by id: marks and reductions by registration, deficits by seller, then second reductions.
 ghost use mathlib.Core.Path.{_≡_};
 ghost use Prim.Native.Nat.{_+_, _<_};
 ghost use lib.ListN.{length, replicate};

@@ -1,3 +1,3 @@
--- The entries of all tests, which of them stand, and their sums by place and seller.
+-- The entries of all tests, which of them stand, and their sums by group and seller.
 pub mod Entries
 pub mod Sums

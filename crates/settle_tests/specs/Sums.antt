@@ -1,4 +1,4 @@
--- The sums of the tests' entries that stand, by place and seller: how they grow, and that they are each test's sums.
+-- The sums of the tests' entries that stand, by group and seller: how they grow, and that they are each test's sums.
 use Prim.Native.Nat.{ℕ, _+_, _*_, _-_, _/_, _≤_, _<_}
 use mathlib.Core.Path.{_≡_, refl, _∙_}
 use mathlib.Core.Bool.{Bool, true, false, not, _&&_, cond}
@@ -42,7 +42,7 @@ worthSum = reductionSum + keys
 abbrev pub sumsWidth : ℕ
 sumsWidth = worthSum + keys
 
--- keys of a place and a seller are equal where both are
+-- keys of a group and a seller are equal where both are
 key-eqb : (p q : ℕ) {s t : ℕ} → s < sellers → t < sellers → eqb (sellers * p + s) (sellers * q + t) ≡ (eqb s t && eqb p q)
 key-eqb p q {s} {t} l m = go (eqb s t) (eqb p q) refl refl
   where
@@ -52,7 +52,7 @@ key-eqb p q {s} {t} l m = go (eqb s t) (eqb p q) refl refl
     go false b e f = ne-eqb (sellers * p + s) (sellers * q + t) (λ z. eqb-false s t e (omega arith))
 
 module _ (c : List ℕ) where
-  -- an entry's place and seller, and what it adds: committed kilowatts, its reduction, and committed kilowatts times their rate
+  -- an entry's group and seller, and what it adds: committed kilowatts, its reduction, and committed kilowatts times their rate
   abbrev pub keyAt : ℕ → ℕ
   keyAt i = sellers * groupIn c i + facts c .seller i
 

@@ -76,7 +76,7 @@ cellBilled c =
 unfoldable pub cellClearings : List ℕ → List Clearings
 cellClearings c = rows clearingsAt clearingWidth registrations clearingsPlace c
 
--- the entries of all retests: 64 marks, then 64 reductions
+-- the entries of all retests: marks, then reductions
 abbrev pub retestAt : (ℕ → ℕ) → ℕ → Retest
 retestAt g i = record { taken = flag (g i); reduction = g (reductionsIn + i) }
 

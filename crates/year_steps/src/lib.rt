@@ -29,7 +29,7 @@ pub use setup::add_lse;
 pub use setup::add_opening;
 pub use setup::add_registration;
 
-// One more event; its listing is a row by id: 64 marks, 64 reductions, 16 deficits, 64 second reductions.
+// One more event; its listing is a row by id: marks, reductions, deficits, second reductions.
 pub fn add_event(year: &mut Cells, e: EventHead, listing: &[u64])
     requires { ⌜ ValidCells (now year) ⌝ }
     requires { ⌜ yearIn (now year) .accepted < eventLimit ⌝ }

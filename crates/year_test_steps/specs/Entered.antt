@@ -1,4 +1,4 @@
--- A table of entries in the cells, 64 marks and then 64 reductions, into which a listing's are entered.
+-- A table of entries in the cells, marks and then reductions, into which a listing's are entered.
 use Prim.Native.Nat.{ℕ, _+_, _≤_, _<_}
 use mathlib.Core.Path.{_≡_, _∙_}
 use mathlib.Core.Bool.{cond}

@@ -24,7 +24,7 @@ use year_cells::lay;
 
 mod merging;
 
-// Adds the test of a group that has none; its listing is a row by id: 64 marks, 64 reductions, 16 deficits, then what no test has.
+// Adds the test of a group that has none; its listing is a row by id: marks, reductions, deficits, then what no test has.
 pub fn add_test(year: &mut Cells, group: usize, month: u64, listing: &[u64])
     requires { ⌜ ValidCells (now year) ⌝ }
     requires { ⌜ group < testGroups ⌝ }

@@ -38,7 +38,7 @@ fn merge(year: &Cells, place: usize, listing: &[u64], part: usize) -> [u64; REGI
     entries
 }
 
-// A listing's entries go into a table: 64 marks, then 64 reductions.
+// A listing's entries go into a table: marks, then reductions.
 pub fn enter(year: &mut Cells, table: usize, listing: &[u64])
     requires { ⌜ length (now year) ≡ cellCount ⌝ }
     requires { ⌜ table + entriesWidth ≤ cellCount ⌝ }

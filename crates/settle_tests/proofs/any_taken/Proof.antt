@@ -1,4 +1,4 @@
--- `settle_tests::any_taken` meets its contract: no place so far has a test.
+-- `settle_tests::any_taken` meets its contract: no group so far has a test.
 use Prim.Native.Nat.{_-_, _≤_}
 use mathlib.Core.Path.{_≡_, refl, sym, _∙_}
 use mathlib.Core.Bool.{false}

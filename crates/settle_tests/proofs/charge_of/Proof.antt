@@ -1,4 +1,4 @@
--- `settle_tests::charge_of` meets its contract: the sums at the place and seller are the test's, and within their limits.
+-- `settle_tests::charge_of` meets its contract: the sums of the group and seller are the test's, and within their limits.
 use Prim.Native.Nat.{_*_, _≤_}
 use mathlib.Core.Path.{_≡_, ap, _∙_}
 use native.Mathlib.Omega.{arith}

@@ -1,4 +1,4 @@
--- `settle_tests::test_of` meets its contract: place by place.
+-- `settle_tests::test_of` meets its contract: group by group.
 use Prim.Native.Nat.{_-_, _≤_}
 use mathlib.Core.Path.{_≡_, refl, sym, _∙_}
 use mathlib.Core.Logic.{⊎-elim}

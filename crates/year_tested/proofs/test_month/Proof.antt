@@ -1,4 +1,4 @@
--- `year_tested::test_month` meets its contract: the month in the place's row. Assumes nothing.
+-- `year_tested::test_month` meets its contract: the month in the group's row. Assumes nothing.
 use borrow.Author.Needs.{needs}
 use mathlib.Core.Path.{ap, sym}
 use Rattle.year.specs.Year.{noTest}

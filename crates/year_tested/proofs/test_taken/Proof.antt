@@ -1,4 +1,4 @@
--- `year_tested::test_taken` meets its contract: the mark in the place's row. Assumes nothing.
+-- `year_tested::test_taken` meets its contract: the mark in the group's row. Assumes nothing.
 use borrow.Author.Needs.{needs}
 use mathlib.Core.Path.{ap, sym}
 use Rattle.year.specs.Year.{noTest}

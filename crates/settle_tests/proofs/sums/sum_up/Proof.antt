@@ -1,4 +1,4 @@
--- `settle_tests::sums::sum_up` meets its contract: entry by entry, three stores at the place and seller of each that stands.
+-- `settle_tests::sums::sum_up` meets its contract: entry by entry, three stores at the group and seller of each that stands.
 use Prim.Native.Nat.{_+_, _-_, _≤_}
 use mathlib.Core.Path.{_≡_, sym, _∙_}
 use mathlib.Core.Bool.{Bool, false}
