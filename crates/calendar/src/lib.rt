@@ -1,7 +1,9 @@
 // Days to date, due months, and when a product may be called or tested.
 ghost use mathlib.Core.Path.{_≡_};
 ghost use Prim.Native.Nat.{_≤_, max};
+ghost use Rattle.limits.specs.Limits.{closeLimit};
 ghost use Rattle.calendar.specs.Calendar.{days, due, between, summer, callable, testable};
+use limits::CLOSES;
 
 // The products that have months of their own; an Annual one may always be called.
 pub const LIMITED: u64 = 0;
@@ -12,7 +14,7 @@ pub const EXTENDED_SUMMER: u64 = 1;
 pub const OFF_PEAK: u64 = 2;
 
 // The last day of each month that can be closed, counted from 1 June, in a year of 365 days.
-const MONTH_ENDS: [u64; 15] = [
+const MONTH_ENDS: [u64; CLOSES] = [
     30,
     61,
     92,
@@ -32,7 +34,7 @@ const MONTH_ENDS: [u64; 15] = [
 
 // Days from 1 June to the end of a month. The leap day is February's, month 9.
 pub fn days(leap: u64, month: u64) -> u64
-    requires { ⌜ (leap ≤ 1) × (1 ≤ month) × (month ≤ 15) ⌝ }
+    requires { ⌜ (leap ≤ 1) × (1 ≤ month) × (month ≤ closeLimit) ⌝ }
     ensures { λ r. ⌜ r ≡ days leap month ⌝ }
 {
     let row = (month - 1) as usize;

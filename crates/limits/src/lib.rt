@@ -20,7 +20,9 @@ pub const TEST_GROUPS: usize = PRODUCTS * ZONES;
 // The events that a year takes, and the months that are closed.
 pub const EVENT_LIMIT: usize = 16;
 
-pub const CLOSE_LIMIT: u64 = 15;
+pub const CLOSES: usize = 15;
+
+pub const CLOSE_LIMIT: u64 = CLOSES as u64;
 
 // Kilowatts of one registration, nominated and unforced.
 pub const NOMINATED_KW: u64 = 100_000;

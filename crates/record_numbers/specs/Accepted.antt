@@ -9,6 +9,7 @@ use lib.Dec.{leb, eqb}
 use lib.ListN.{length, getD}
 use Rattle.ids.specs.Ids.{at}
 use Rattle.ids.specs.Tests.{and-parts}
+use Rattle.limits.specs.Limits.{registrations, sellers, lses, areas, zones, closeLimit, nominatedLimit, obligationLimit, rateLimit, factorLimit}
 use Rattle.bits.specs.TableLaws.{length-fields}
 use Rattle.record_layouts.specs.Layout.{noRule, head, rulesFor, widths, sizeOf, mostNumbers}
 use Rattle.record_layouts.specs.LayoutLaws.{every, length-widths, rules-long, rule-head}
@@ -93,42 +94,42 @@ numbers-count bytes = length-fields bytes 0 (widths (rulesOf bytes)) ∙ length-
 -- the bounds of each kind's numbers
 pub record Opening (vs : List ℕ) : Type 0 where
   pub leap : at vs 1 ≤ 1
-  pub factor : (1 ≤ at vs 2) × (at vs 2 ≤ 12000)
-  pub requirement : (1 ≤ at vs 3) × (at vs 3 ≤ 12000)
+  pub factor : (1 ≤ at vs 2) × (at vs 2 ≤ factorLimit)
+  pub requirement : (1 ≤ at vs 3) × (at vs 3 ≤ factorLimit)
 
 pub record Registration (vs : List ℕ) : Type 0 where
-  pub id : at vs 1 < 64
-  pub seller : at vs 2 < 16
-  pub area : at vs 3 < 8
-  pub zone : at vs 4 < 8
+  pub id : at vs 1 < registrations
+  pub seller : at vs 2 < sellers
+  pub area : at vs 3 < areas
+  pub zone : at vs 4 < zones
   pub product : at vs 5 ≤ 2
-  pub committed : (1 ≤ at vs 6) × (at vs 6 ≤ 100000)
-  pub rate : at vs 7 ≤ 100000
+  pub committed : (1 ≤ at vs 6) × (at vs 6 ≤ nominatedLimit)
+  pub rate : at vs 7 ≤ rateLimit
 
 pub record Lse (vs : List ℕ) : Type 0 where
-  pub id : at vs 1 < 16
-  pub obligation : (1 ≤ at vs 2) × (at vs 2 ≤ 1000000)
+  pub id : at vs 1 < lses
+  pub obligation : (1 ≤ at vs 2) × (at vs 2 ≤ obligationLimit)
 
 pub record Event (vs : List ℕ) : Type 0 where
-  pub area : at vs 1 < 8
+  pub area : at vs 1 < areas
   pub month : (1 ≤ at vs 2) × (at vs 2 ≤ 12)
   pub period : (1 ≤ at vs 3) × (at vs 3 ≤ 3)
 
 pub record Test (vs : List ℕ) : Type 0 where
-  pub zone : at vs 1 < 8
+  pub zone : at vs 1 < zones
   pub product : at vs 2 ≤ 2
   pub month : (1 ≤ at vs 3) × (at vs 3 ≤ 12)
 
 pub record Close (vs : List ℕ) : Type 0 where
-  pub month : (1 ≤ at vs 1) × (at vs 1 ≤ 15)
+  pub month : (1 ≤ at vs 1) × (at vs 1 ≤ closeLimit)
 
 pub record Clearing (vs : List ℕ) : Type 0 where
-  pub registration : at vs 1 < 64
-  pub price : at vs 2 ≤ 100000
-  pub kw : (1 ≤ at vs 3) × (at vs 3 ≤ 100000)
+  pub registration : at vs 1 < registrations
+  pub price : at vs 2 ≤ rateLimit
+  pub kw : (1 ≤ at vs 3) × (at vs 3 ≤ nominatedLimit)
 
 pub record Retest (vs : List ℕ) : Type 0 where
-  pub zone : at vs 2 < 8
+  pub zone : at vs 2 < zones
   pub product : at vs 3 ≤ 2
 
 module _ (bytes : List ℕ) (a : Accepted bytes) where

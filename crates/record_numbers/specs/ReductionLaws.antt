@@ -12,6 +12,7 @@ use lib.Dec.{leb, ltb, eqb}
 use lib.ListN.{length, getD}
 use Rattle.ids.specs.Ids.{at, anyTo}
 use Rattle.ids.specs.Tests.{and-parts, any-some}
+use Rattle.limits.specs.Limits.{nominatedLimit}
 use Rattle.record_layouts.specs.Layout.{noRule, Items, noItems, bare, layouts, head, lists, listAt, itemsIn, rulesTo, rulesFor, placeOf, itemAt}
 use Rattle.record_layouts.specs.LayoutLaws.{every, every-at, every-in}
 use Rattle.record_layouts.specs.ListLaws.{length-list, rule-item}
@@ -67,13 +68,13 @@ module _ (k : ℕ) (vs : List ℕ) where
 
 -- a reduction is a field behind the id, of any whole kW from 0 to 100,000
 abbrev reduces : Items → ℕ → Bool
-reduces x f = (leb 1 f && ltb f (length (x .fields))) && (eqb ((getD (x .fields) f noRule) .low) 0 && eqb ((getD (x .fields) f noRule) .high) 100000)
+reduces x f = (leb 1 f && ltb f (length (x .fields))) && (eqb ((getD (x .fields) f noRule) .low) 0 && eqb ((getD (x .fields) f noRule) .high) nominatedLimit)
 
 pub record Reduces (x : Items) (f : ℕ) : Type 0 where
   pub behind : 1 ≤ f
   pub inside : f < length (x .fields)
   pub low : (getD (x .fields) f noRule) .low ≡ 0
-  pub high : (getD (x .fields) f noRule) .high ≡ 100000
+  pub high : (getD (x .fields) f noRule) .high ≡ nominatedLimit
 
 pub reduction-rule : (k i r : ℕ) → i < length (lists k) → r < length (listAt k i .reductions) → Reduces (listAt k i) (at (listAt k i .reductions) r)
 unfolding every
@@ -82,14 +83,14 @@ reduction-rule k i r l h =
     let f = at (x .reductions) r in
     let table = every-at (λ l. every (λ x. every (reduces x) (x .reductions)) (l .lists)) layouts (bare []) k refl refl in
     let row = every-in (λ x. every (reduces x) (x .reductions)) (lists k) noItems i table l in
-    let a = and-parts (leb 1 f && ltb f (length (x .fields))) (eqb ((getD (x .fields) f noRule) .low) 0 && eqb ((getD (x .fields) f noRule) .high) 100000) (every-in (reduces x) (x .reductions) 0 r row h) in
+    let a = and-parts (leb 1 f && ltb f (length (x .fields))) (eqb ((getD (x .fields) f noRule) .low) 0 && eqb ((getD (x .fields) f noRule) .high) nominatedLimit) (every-in (reduces x) (x .reductions) 0 r row h) in
     let b = and-parts (leb 1 f) (ltb f (length (x .fields))) (a .0) in
-    let c = and-parts (eqb ((getD (x .fields) f noRule) .low) 0) (eqb ((getD (x .fields) f noRule) .high) 100000) (a .1) in
+    let c = and-parts (eqb ((getD (x .fields) f noRule) .low) 0) (eqb ((getD (x .fields) f noRule) .high) nominatedLimit) (a .1) in
     record {
       behind = leb-true 1 f (b .0);
       inside = ltb-true f (length (x .fields)) (b .1);
       low = eqb-true ((getD (x .fields) f noRule) .low) 0 (c .0);
-      high = eqb-true ((getD (x .fields) f noRule) .high) 100000 (c .1);
+      high = eqb-true ((getD (x .fields) f noRule) .high) nominatedLimit (c .1);
     }
 
 -- number j is reduction `which` of item `item` of list `list`, whose id is picked
@@ -130,7 +131,7 @@ module _ {picked : ℕ → Bool} {vs : List ℕ} where
   behind-head r = omega (arith, r .place, rw zero-add at (places-rise (at vs 0) vs 0 (r .list)))
 
   -- the rule of a reduction
-  pub rule-reduction : {j : ℕ} → Reduction picked vs j → ((getD (rulesFor (at vs 0) vs) j noRule) .low ≡ 0) × ((getD (rulesFor (at vs 0) vs) j noRule) .high ≡ 100000)
+  pub rule-reduction : {j : ℕ} → Reduction picked vs j → ((getD (rulesFor (at vs 0) vs) j noRule) .low ≡ 0) × ((getD (rulesFor (at vs 0) vs) j noRule) .high ≡ nominatedLimit)
   rule-reduction r =
       let k = at vs 0 in
       let f = at (listAt k (r .list) .reductions) (r .which) in

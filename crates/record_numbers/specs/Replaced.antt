@@ -10,6 +10,7 @@ use lib.ListN.{length, getD, List·getD-eq-default}
 use Rattle.ids.specs.Ids.{at}
 use Rattle.ids.specs.Tables.{length-tabulate, getD-tabulate}
 use Rattle.ids.specs.Tests.{all-same, all-at}
+use Rattle.limits.specs.Limits.{nominatedLimit}
 use Rattle.record_layouts.specs.Layout.{noRule, head, lists, listAt, itemsIn, rulesFor, placeOf, itemAt}
 use Rattle.record_layouts.specs.Questions.{rulesBy, permits, permitted, idsRise}
 use Rattle.record_layouts.specs.QuestionLaws.{permits-yes, rises-same, counts-same, fields-same, rules-same, head-kind}
@@ -43,7 +44,7 @@ module _ (picked : ℕ → Bool) (f : ℕ → ℕ) (vs : List ℕ) where
       go true q = absurd (h (reduction-at q))
       go false q = kept-not j q
 
-  new-at : ((j : ℕ) → f j ≤ 100000) → (j : ℕ) → isReduction picked vs j ≡ true → at new j ≤ 100000
+  new-at : ((j : ℕ) → f j ≤ nominatedLimit) → (j : ℕ) → isReduction picked vs j ≡ true → at new j ≤ nominatedLimit
   unfolding withReductions
   new-at h j q = elim (decLt j (length vs)) [
     | yes l ↦ rw (getD-tabulate (λ j. cond (isReduction picked vs j) (f j) (at vs j)) (length vs) j 0 l, q) (h j)
@@ -77,7 +78,7 @@ module _ (picked : ℕ → Bool) (f : ℕ → ℕ) (vs : List ℕ) where
   counts-kept = counts-same (at vs 0) new vs kept-head
 
   -- a record that writing accepts, it accepts with new reductions of 0 to 100,000
-  module _ (small : (j : ℕ) → f j ≤ 100000) {room : ℕ} (w : Writable vs room) where
+  module _ (small : (j : ℕ) → f j ≤ nominatedLimit) {room : ℕ} (w : Writable vs room) where
     kept-kind : at new 0 ≡ at vs 0
     kept-kind = kept-head 0 (head-kind (at vs 0) (w .kind) .0)
 
@@ -124,5 +125,5 @@ module _ (picked : ℕ → Bool) (f : ℕ → ℕ) (vs : List ℕ) where
       fits = rw rules-kept (w .fits);
     }
 
-  pub writes : ((j : ℕ) → f j ≤ 100000) → (room : ℕ) → writeNumber vs room ≡ 0 → writeNumber new room ≡ 0
+  pub writes : ((j : ℕ) → f j ≤ nominatedLimit) → (room : ℕ) → writeNumber vs room ≡ 0 → writeNumber new room ≡ 0
   writes small room e = not-refused new room (kept-writable small (writable vs room e))

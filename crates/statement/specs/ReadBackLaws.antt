@@ -6,7 +6,7 @@ use mathlib.Core.Path.{_≡_, ap, _∙_}
 use lib.Dec.{eqb}
 use lib.IntN.{ℤ, pos, _+ℤ_}
 use Rattle.ids.specs.Ids.{countTo}
-use Rattle.limits.specs.Limits.{parties, sellers, lses}
+use Rattle.limits.specs.Limits.{parties}
 use Rattle.year.specs.declared.Terms.{Terms}
 use Rattle.year.specs.declared.Amounts.{Amounts}
 use Rattle.year.specs.Sound.{SoundAmounts}

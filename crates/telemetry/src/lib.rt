@@ -2,6 +2,7 @@
 ghost use mathlib.Core.Path.{_≡_};
 ghost use Rattle.telemetry.specs.Reduction.{withinLimit, reductionOf};
 ghost use Rattle.telemetry.specs.declared.Sample.the-variants.{Pair};
+use limits::NOMINATED_KW;
 use telemetry_eighths::Loads;
 use telemetry_eighths::counts;
 use telemetry_eighths::less;
@@ -53,7 +54,7 @@ fn of_loads(l: Loads) -> Reduced
 fn within_limit(kw: u64) -> Reduced
     ensures { λ r. ⌜ r ≡ withinLimit kw ⌝ }
 {
-    if kw > 100000 {
+    if kw > NOMINATED_KW {
         return Reduced::TooMuch;
     }
     Reduced::Kw(kw)

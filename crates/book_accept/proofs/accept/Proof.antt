@@ -1,6 +1,5 @@
 -- `book_accept::accept` meets its contract, by kind. Assumes nothing.
 use borrow.Author.Needs.{needs}
-use native.Mathlib.Omega.{arith}
 use borrow.Author.Tests.{leb-true}
 use Rattle.limits.specs.Limits.{statementLimit}
 use Rattle.question_list.specs.Questions.{q16}

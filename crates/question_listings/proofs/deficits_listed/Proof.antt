@@ -19,10 +19,10 @@ use Rattle.question_listings.proofs.deficits_listed.Tie as tie
 use Rattle.question_listings.proofs.sellers_listed.Reads as sellers-listed-reads
 
 abbrev Inv-loop : tie.InvT-loop
-Inv-loop year listing sellers s₀ s = (s ≤ 16) × (allTo s (λ k. eqb (deficit (listingAt (at listing)) k) 0 || holds sellers k) ≡ true)
+Inv-loop year listing marked s₀ s = (s ≤ sellers) × (allTo s (λ k. eqb (deficit (listingAt (at listing)) k) 0 || holds marked k) ≡ true)
 
 abbrev μ-loop : tie.MeasureT-loop
-μ-loop year listing sellers s₀ s = 16 - s
+μ-loop year listing marked s₀ s = sellers - s
 
 loop-holds : tie.Need-loop-holds Inv-loop μ-loop
 unfolding allTo
@@ -34,7 +34,7 @@ returns c =
     let row = a .listing .now in
     let marks = c .before .before .before .before .before .sellers-listed in
     let s = c .before .before .before .before .loop .s in
-    sym (all-fails 16 (λ k. eqb (deficit (listingAt (at row)) k) 0 || holds (marks .result) k) s (omega arith)
+    sym (all-fails sellers (λ k. eqb (deficit (listingAt (at row)) k) 0 || holds (marks .result) k) s (omega arith)
     (rw (row-deficit row {s = s} (omega arith), ne-eqb (at row (deficitsIn + s)) 0 (c .before .if1 .taken), not-true (holds (marks .result) s) (c .if2 .taken))))
     ∙ deficits-listed (cellTerms (a .year .now)) (listingAt (at row)) (marks .ensures)
 
@@ -53,7 +53,7 @@ loop-again c =
 returns-2 : tie.Need-returns-2 Inv-loop μ-loop
 returns-2 c =
     let a = c .before .before .before .before .args in
-    let all : c .before .loop .s ≡ 16 = omega arith in
+    let all : c .before .loop .s ≡ sellers = omega arith in
     sym (rw all at (c .before .loop .inv .1)) ∙ deficits-listed (cellTerms (a .year .now)) (listingAt (at (a .listing .now))) (c .before .before .sellers-listed .ensures)
 
 pub deficits-listed-spec : {M : Type 1} → statement M

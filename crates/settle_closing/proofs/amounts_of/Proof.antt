@@ -42,6 +42,7 @@ use denote.Triple.Table.{entered, cited}
 use denote.Triple.Walked.{says, needs, Stays, stay-dropped, walkOf, goes-dropped, Walks, ends-at, walked, walk-meets}
 use denote.Exit.{yes}
 use denote.Triple.Clauses.{ensured, lasts}
+use Rattle.limits.specs.Limits.{registrations, closeLimit}
 use Rattle.year_cells.specs.Places.{cellCount}
 use Rattle.year.specs.declared.Registration.{Registration}
 use Rattle.year.specs.declared.Amounts.{Amounts}
@@ -63,7 +64,7 @@ use Rattle.settle_closing.proofs.amounts_of.Statement as stated
 use Rattle.settle_closing.proofs.amounts_of.Code as code
 
 abbrev runSlot : Slot 1
-runSlot = ArrayOf (plain (λ _. T.the-row)) (λ _. tt) 64
+runSlot = ArrayOf (plain (λ _. T.the-row)) (λ _. tt) registrations
 
 abbrev yearSlot : Slot 1
 yearSlot = shrRefTo (0 ∷ []) tt (ArrayOf (plain (λ _. u64)) (λ _. tt) cellCount)
@@ -79,7 +80,7 @@ abbrev Y : RattleType
 Y = Array u64 cellCount
 
 abbrev R : RattleType
-R = Array T.the-row 64
+R = Array T.the-row registrations
 
 module _ {M : Type 1} (𝓤 : URA M) (H : Heap 𝓤) (A : Atoms 𝓤) (mem : Memory → SProp 𝓤) (run : Routine → Fun 𝓤) where
   -- the contract that the proof cites
@@ -130,7 +131,7 @@ module _ {M : Type 1} (𝓤 : URA M) (H : Heap 𝓤) (A : Atoms 𝓤) (W : Given
     abbrev Handed : List (Item 𝓤)
     Handed = ‵ (flft (α ∷ []) fullShare) ∷ ‵ (flft κ q) ∷ ‵ Slice ∷ ‵ Year ∷ []
 
-    goes : Is u64 k (vint w64 k ∷ []) → ValidCells c × (rs ≡ yearIn c .terms .registrations) × (1 ≤ k) × (k ≤ 15) → ent 𝓤 (⋆ 𝓤 H A Handed) (Settle 𝓤 H A mem run .pre to)
+    goes : Is u64 k (vint w64 k ∷ []) → ValidCells c × (rs ≡ yearIn c .terms .registrations) × (1 ≤ k) × (k ≤ closeLimit) → ent 𝓤 (⋆ 𝓤 H A Handed) (Settle 𝓤 H A mem run .pre to)
     goes pk asked =
         qed W Handed ∵ says ! asked $ nothing ! $ move ! (1 ∷ 2 ∷ 0 ∷ []) $ group ! 3 $ frame ! $
         nothing ! $ owned ! u64 (Is u64) (uint-makes 𝓤 H A W w64) k _ pk $ fjoin ! $ move ! (2 ∷ 0 ∷ []) $ fjoin ! $ move ! (1 ∷ 0 ∷ []) $ fjoin ! $ done !
@@ -138,10 +139,10 @@ module _ {M : Type 1} (𝓤 : URA M) (H : Heap 𝓤) (A : Atoms 𝓤) (W : Given
     said : (r : Amounts) → ent 𝓤 (ensured 𝓤 H A settle.ended (settle.clauses 𝓤 H A mem run) (α ∷ [], (κ, tt)) (s, (y, (k, tt))) tt r) (fact 𝓤 (Said r))
     said r = exE 𝓤 _ (λ ws. snd∗ 𝓤 (sem 𝓤 H A (lasts settle.ended (α ∷ [], (κ, tt)) (s, (y, (k, tt))) ws)) (fact 𝓤 (Said r)))
 
-  walk : (𝓣 : Tables 𝓤 H) → Triple 𝓤 (𝓣 .C #settle_closing·settle) (Settle 𝓤 H A mem run) → Is R rs (av ∷ []) → Is u64 k (vint w64 k ∷ []) → ValidCells c × (rs ≡ yearIn c .terms .registrations) × (1 ≤ k) × (k ≤ 15)
+  walk : (𝓣 : Tables 𝓤 H) → Triple 𝓤 (𝓣 .C #settle_closing·settle) (Settle 𝓤 H A mem run) → Is R rs (av ∷ []) → Is u64 k (vint w64 k ∷ []) → ValidCells c × (rs ≡ yearIn c .terms .registrations) × (1 ≤ k) × (k ≤ closeLimit)
       → ent 𝓤 (onEntry 𝓤 H A f.signature (κ, tt) (q, tt) (rs, (y, (k, tt))) at) (WpFn 𝓤 H (𝓣 .C) (𝓣 .Λ) code.function (av ∷ vptr b o ∷ vint w64 k ∷ []) Post)
   walk 𝓣 known p pk asked =
-      let typed = array-lawful 𝓤 H A W T.the-row (LL.lawful T.the-type T′.the-laws 𝓤 H A W) 64 .typed rs _ p .0 in
+      let typed = array-lawful 𝓤 H A W T.the-row (LL.lawful T.the-type T′.the-laws 𝓤 H A W) registrations .typed rs _ p .0 in
       qed W ((‵ (flft κ q) ⊛ ‵ ftrue) ∷ ‵ (owns (R ∷ ShrRef (named 0) κ Y ∷ u64 ∷ []) (rs, (y, (k, tt))) at) ∷ []) ∵ enter ! (𝓣 .C) (𝓣 .Λ) code.function (av ∷ vptr b o ∷ vint w64 k ∷ []) _ $
       alloc1 ! (λ l₀. alloc1 ! (λ l₁. alloc1 ! (λ l₂. alloc1 ! (λ l₃. alloc1 ! (λ l₄. alloc1 ! (λ l₅. alloc1 ! (λ l₆. alloc0 ! $ params1 ! $
       pass1 ! (init ! 10 refl typed) $ pass1 ! (init ! 8 refl (tt, tt)) $ pass1 ! (init ! 6 refl (uint-lawful 𝓤 H A W w64 .typed k _ pk .0)) $ pass0 ! $
@@ -153,8 +154,8 @@ module _ {M : Type 1} (𝓤 : URA M) (H : Heap 𝓤) (A : Atoms 𝓤) (W : Given
       rewrite ! 1 (λ (m : ℕ). ‵ (fat fullShare (sliceTy (tyRef erased imm (pointee (T.the-row .written)))) l₆ 0 (sliceVal (l₄, 0) m))) (sym (p .1 .0 .1)) refl $
       -- the run is lent for a lifetime that is made here
       move ! (5 ∷ []) $ lft-new ! tt (λ α. move ! (1 ∷ []) $
-      use1 W (later (some (λ (δ : GName). ‵ (Slice α l₄ δ) ⊛ ‵ (flent (α ∷ []) (Loan 𝓤 H A W T.the-row 64 rs l₄ 0 av p)))))
-      (lends-array 𝓤 H A W T.the-row 64 rs l₄ 0 av p tt (LL.makes T.the-type T′.the-plain 𝓤 H A) (lit< tt, lit< tt) (α ∷ [])) $ await ! tt $ pick ! (λ δ. split ! $ move ! (17 ∷ []) $ split ! $
+      use1 W (later (some (λ (δ : GName). ‵ (Slice α l₄ δ) ⊛ ‵ (flent (α ∷ []) (Loan 𝓤 H A W T.the-row registrations rs l₄ 0 av p)))))
+      (lends-array 𝓤 H A W T.the-row registrations rs l₄ 0 av p tt (LL.makes T.the-type T′.the-plain 𝓤 H A) (lit< tt, lit< tt) (α ∷ [])) $ await ! tt $ pick ! (λ δ. split ! $ move ! (17 ∷ []) $ split ! $
       -- [the token; true; the slice; the loan; its token; what the year owns; _6; …; _5; …; _4's end; _3; …; _2; …; _1; …; _0; …]
       move ! (4 ∷ 0 ∷ 2 ∷ 5 ∷ []) $ group ! 4 $ use1 W (raw (Settle 𝓤 H A mem run .pre (to α l₄ δ))) (goes α l₄ δ pk asked) $
       calls-at ! (fmOf 𝓤 H (W .laws) 𝓣) (Settle 𝓤 H A mem run) known (to α l₄ δ) (and-then ! (load ! (from ! (stop !)) (look ! 3 refl)) (and-then ! (load ! (from ! (stop !)) (look ! 10 refl)) (and-then ! (load ! (from ! (stop !)) (look ! 8 refl)) (no-more !)))) (λ u.
@@ -165,7 +166,7 @@ module _ {M : Type 1} (𝓤 : URA M) (H : Heap 𝓤) (A : Atoms 𝓤) (W : Given
       land ! (from ! (stop !)) (init ! 15 refl (LL.lawful S.the-type S′.the-laws 𝓤 H A W .typed r _ is-r .0)) $
       -- the lifetime is ended, and the local is whole again
       move ! (1 ∷ []) $ split ! $ lft-end ! tt $ move ! (0 ∷ 4 ∷ []) $ lent-back ! tt $
-      use1 W (‵ (cell 𝓤 H A W T.the-row 64 rs l₄ 0 av p)) (array-back 𝓤 H A W T.the-row 64 rs l₄ 0 av p vals (LL.tells T.the-type T′.the-laws)) $
+      use1 W (‵ (cell 𝓤 H A W T.the-row registrations rs l₄ 0 av p)) (array-back 𝓤 H A W T.the-row registrations rs l₄ 0 av p vals (LL.tells T.the-type T′.the-laws)) $
       returns ! (look ! 15 refl) $ forget ! 0 refl $ forget ! 4 refl $ forget ! 6 refl $ forget ! 9 refl $ forget ! 11 refl $ forget ! 13 refl $ forget ! 15 refl $
       move ! (15 ∷ 16 ∷ []) $ free1 ! $ move ! (13 ∷ 14 ∷ []) $ free1 ! $ move ! (11 ∷ 12 ∷ []) $ free1 ! $ move ! (9 ∷ 10 ∷ []) $ free1 ! $ move ! (0 ∷ 8 ∷ []) $ free1 ! $ move ! (5 ∷ 6 ∷ []) $ free1 ! $ move ! (3 ∷ 4 ∷ []) $ free1 ! $ free0 ! $
       split ! $ keep ! (0 ∷ 2 ∷ []) $ by ! (exits r u e))))))))))))))
@@ -173,7 +174,7 @@ module _ {M : Type 1} (𝓤 : URA M) (H : Heap 𝓤) (A : Atoms 𝓤) (W : Given
 module _ {M : Type 1} (𝓤 : URA M) (H : Heap 𝓤) (A : Atoms 𝓤) (W : Given 𝓤 H A) (mem : Memory → SProp 𝓤) (run : Routine → Fun 𝓤) (𝓣 : Tables 𝓤 H) (known : Triple 𝓤 (𝓣 .C #settle_closing·settle) (Settle 𝓤 H A mem run)) where
   walks : Walks 𝓤 H A f.ended stayed (WpFn 𝓤 H (𝓣 .C) (𝓣 .Λ) code.function) (f.clauses 𝓤 H A mem run)
   walks = walked 𝓤 H A f.ended stayed (f.clauses 𝓤 H A mem run) (WpFn 𝓤 H (𝓣 .C) (𝓣 .Λ) code.function) (λ κs. (array-vals vals, (ptr-vals, (uint-vals w64, tt))))
-      (λ κs. (array-tells T.the-row vals (LL.tells T.the-type T′.the-laws) 64, (shr-tells (named 0) (κs .0) Y, (uint-tells w64, tt))))
+      (λ κs. (array-tells T.the-row vals (LL.tells T.the-type T′.the-laws) registrations, (shr-tells (named 0) (κs .0) Y, (uint-tells w64, tt))))
       (λ κs qs bounds a _ are. needs 𝓤 _ _ (walk 𝓤 H A W mem run (κs .0) (qs .0) (a .0) (a .1 .0 .ptr .0) (a .1 .0 .ptr .1) (a .1 .0 .name) (a .1 .0 .now) (a .1 .1 .0) 𝓣 known (are .0) (are .1 .1 .0)))
 
   meets : Meets 𝓤 H A f.signature (WpFn 𝓤 H (𝓣 .C) (𝓣 .Λ) code.function) (f.spec 𝓤 H A mem run)

@@ -51,6 +51,7 @@ use denote.Triple.Table.{entered, cited}
 use denote.Triple.Walked.{says, needs, Stays, stay-dropped, walkOf, goes-dropped, Walks, ends-at, walked, walk-meets}
 use denote.Exit.{yes}
 use denote.Triple.Clauses.{ensured, lasts}
+use Rattle.limits.specs.Limits.{registrations, closeLimit}
 use Rattle.year_cells.specs.Places.{cellCount}
 use Rattle.year.specs.Year.{noRegistration, registration}
 use Rattle.year.specs.declared.Registration.{Registration}
@@ -112,7 +113,7 @@ on-test false k l = l refl
 
 -- what is asked of the lent run, the year and the month
 abbrev Asked : List Registration → List ℕ → ℕ → Type 0
-Asked ys c k = ValidCells c × (ys ≡ yearIn c .terms .registrations) × (1 ≤ k) × (k ≤ 15)
+Asked ys c k = ValidCells c × (ys ≡ yearIn c .terms .registrations) × (1 ≤ k) × (k ≤ closeLimit)
 
 module _ {M : Type 1} (𝓤 : URA M) (H : Heap 𝓤) (A : Atoms 𝓤) (mem : Memory → SProp 𝓤) (run : Routine → Fun 𝓤) where
   -- the contracts that the proof cites
@@ -172,7 +173,7 @@ module _ {M : Type 1} (𝓤 : URA M) (H : Heap 𝓤) (A : Atoms 𝓤) (W : Given
       abbrev to-enter : Enter 𝓤 H A at-mem run .Ghost
       to-enter = (((κ′, (α ∷ [], tt)), (q′, (fullShare, tt)), tt, (y, (lent, (i, (r, tt)))), (vptr b′ o′ ∷ [], (vptr l 0 ∷ [], (vint w64 i ∷ [], (rv r ∷ [], tt))))), tt)
 
-      goes-enter : i < 2 ^ 64 → Is T.the-row r (rv r ∷ []) → ValidCells c × (i < 64) × (r ≡ registration (yearIn c .terms) i) × Begun c i w → ent 𝓤 (⋆ 𝓤 H A Handed) (Enter 𝓤 H A at-mem run .pre to-enter)
+      goes-enter : i < 2 ^ 64 → Is T.the-row r (rv r ∷ []) → ValidCells c × (i < registrations) × (r ≡ registration (yearIn c .terms) i) × Begun c i w → ent 𝓤 (⋆ 𝓤 H A Handed) (Enter 𝓤 H A at-mem run .pre to-enter)
       goes-enter fits is asked =
           qed W Handed ∵ says ! asked $ nothing ! $ move ! (1 ∷ 2 ∷ 0 ∷ []) $ group ! 3 $ frame ! $
           nothing ! $ owned ! T.the-row (Is T.the-row) (LL.makes T.the-type T′.the-plain 𝓤 H A) r _ is $ fjoin ! $
@@ -182,14 +183,14 @@ module _ {M : Type 1} (𝓤 : URA M) (H : Heap 𝓤) (A : Atoms 𝓤) (W : Given
     abbrev to-close : Close 𝓤 H A at-mem run .Ghost
     to-close = (((κ′, (α ∷ [], tt)), (q′, (fullShare, tt)), tt, (y, (lent, (k, tt))), (vptr b′ o′ ∷ [], (vptr l 0 ∷ [], (vint w64 k ∷ [], tt)))), tt)
 
-    goes-close : Is u64 k (vint w64 k ∷ []) → ValidCells c × Begun c 64 w × (1 ≤ k) × (k ≤ 15) → ent 𝓤 (⋆ 𝓤 H A Handed) (Close 𝓤 H A at-mem run .pre to-close)
+    goes-close : Is u64 k (vint w64 k ∷ []) → ValidCells c × Begun c registrations w × (1 ≤ k) × (k ≤ closeLimit) → ent 𝓤 (⋆ 𝓤 H A Handed) (Close 𝓤 H A at-mem run .pre to-close)
     goes-close pk asked =
         qed W Handed ∵ says ! asked $ nothing ! $ move ! (1 ∷ 2 ∷ 0 ∷ []) $ group ! 3 $ frame ! $
         nothing ! $ owned ! u64 (Is u64) (uint-makes 𝓤 H A W w64) k _ pk $ fjoin ! $ move ! (2 ∷ 0 ∷ []) $ fjoin ! $ move ! (1 ∷ 0 ∷ []) $ fjoin ! $ done !
 
   module _ (g : Room T.the-row n) (pk : Is u64 k (vint w64 k ∷ [])) (asked : Asked ys c k) where
-    -- registration i of the run is the year's, and there are 64
-    full : n ≡ 64
+    -- registration i of the run is the year's, and there are as many
+    full : n ≡ registrations
     full = ap length (asked .1) ∙ asked .0 .sound .terms .registrations .long
 
     own : (i : ℕ) → getD ys i noRegistration ≡ registration (yearIn c .terms) i
@@ -225,7 +226,7 @@ module _ {M : Type 1} (𝓤 : URA M) (H : Heap 𝓤) (A : Atoms 𝓤) (W : Given
       State = ℕ × List ℕ
 
       abbrev Known : State → Type 0
-      Known t = (t .0 ≤ 64) × Is R (t .1) (wv (t .1) ∷ []) × Begun c (t .0) (t .1)
+      Known t = (t .0 ≤ registrations) × Is R (t .1) (wv (t .1) ∷ []) × Begun c (t .0) (t .1)
 
       -- the token; i; the table; the year's token and what it owns; room for the turn's own locals; the slice; room for the last `&mut`; the year; k; room for the result; and that each local dies
       abbrev Rest : State → List (Item 𝓤)
@@ -239,7 +240,7 @@ module _ {M : Type 1} (𝓤 : URA M) (H : Heap 𝓤) (A : Atoms 𝓤) (W : Given
       Inv t = given (Known t) (‵ Shared) ∷ Rest t
 
       abbrev Past : State → State → Type 0
-      Past s t = 64 - s .0 < 64 - t .0
+      Past s t = registrations - s .0 < registrations - t .0
 
       -- when the loop is left, the rest of the body runs
       abbrev Left : Kit.Post 𝓤 H
@@ -249,7 +250,7 @@ module _ {M : Type 1} (𝓤 : URA M) (H : Heap 𝓤) (A : Atoms 𝓤) (W : Given
       Turn t = anyQ (afterTurn 𝓤 H (Below 𝓤 H A Past Inv t) (Kit.post 𝓤 H Left))
 
       -- after the loop
-      left : (w : List ℕ) → Known (64, w) → Sq W (‵ Shared ∷ Rest (64, w)) (runs (𝓣 .C) (𝓣 .Λ) E pieces.t-4 (atRet E Post))
+      left : (w : List ℕ) → Known (registrations, w) → Sq W (‵ Shared ∷ Rest (registrations, w)) (runs (𝓣 .C) (𝓣 .Λ) E pieces.t-4 (atRet E Post))
       left w kn =
           assigns ! (addr ! (from ! (stop !))) (from ! (stop !)) (init ! 13 refl (tt, tt)) $
           move ! (3 ∷ []) $ lft-new ! tt (λ α. move ! (1 ∷ []) $
@@ -279,8 +280,8 @@ module _ {M : Type 1} (𝓤 : URA M) (H : Heap 𝓤) (A : Atoms 𝓤) (W : Given
       unfolding afterTurn
       turn (i, w) = learn ! (λ kn.
           assigns ! (bin ! (load ! (from ! (stop !)) (look ! 2 refl)) (lit ! tt) tt) (from ! (stop !)) (init ! 6 refl (tt, tt)) $
-          on-test (ltb i 64) (λ e.
-          let below : i < 64 = ltb→lt i 64 (subst Holds (sym e) tt) in
+          on-test (ltb i registrations) (λ e.
+          let below : i < registrations = ltb→lt i registrations (subst Holds (sym e) tt) in
           let in-slice : i < n = omega (arith, full) in
           let fits : i * 56 < 2 ^ 64 = omega arith in
           let next : i + 1 < 2 ^ 64 = omega arith in
@@ -316,13 +317,13 @@ module _ {M : Type 1} (𝓤 : URA M) (H : Heap 𝓤) (A : Atoms 𝓤) (W : Given
           assigns-last ! (bin ! (load ! (from ! (stop !)) (look ! 7 refl)) (lit ! tt) (record { fits = next })) (from ! (stop !)) (store ! 7 refl (tt, record { fits = next })) $
           forget ! 8 refl $ forget ! 9 refl $ forget ! 10 refl $ forget ! 11 refl $ forget ! 12 refl $ forget ! 13 refl $ move ! (1 ∷ 3 ∷ []) $ drop ! $ drop ! $ move ! (4 ∷ 3 ∷ 5 ∷ 0 ∷ []) $
           use1 W (given (Known (i + 1, zs .1 .0)) (‵ Shared)) (guardI 𝓤 (Known (i + 1, zs .1 .0)) (sem 𝓤 H A Shared) (omega arith, is-w, more)) $ again ! Past Inv (i, w) (i + 1, zs .1 .0) (omega arith)))))))))))) (λ e.
-          let past : i ≡ 64 = le-antisymm (kn .0) (nltb→le i 64 (subst (λ (t : Bool). Holds (not t)) (sym e) tt)) in
+          let past : i ≡ registrations = le-antisymm (kn .0) (nltb→le i registrations (subst (λ (t : Bool). Holds (not t)) (sym e) tt)) in
           rewrite ! 6 (λ (t : Bool). ‵ (fat fullShare tyBool l₆ 0 (vbool t))) e refl $ leaves-loop ! (load ! (from ! (stop !)) (look ! 6 refl)) $ exec ! (𝓣 .C) (𝓣 .Λ) E pieces.t-4 (atRet E Post) $
           forget ! 6 refl $ rewrite ! 2 (λ (m : ℕ). ‵ (fat fullShare word l₅ 0 (vint w64 m))) past refl $ left w (subst (λ (m : ℕ). Known (m, w)) past kn)))
 
       looped : (w : List ℕ) → Is R w (wv w ∷ []) → Begun c 0 w → Sq W (‵ Shared ∷ Rest (0, w)) (runs (𝓣 .C) (𝓣 .Λ) E pieces.t-3 (atRet E Post))
       looped w is begun = use1 W (given (Known (0, w)) (‵ Shared)) (guardI 𝓤 (Known (0, w)) (sem 𝓤 H A Shared) (omega arith, is, begun)) $ first ! $ blocks ! $
-          loops ! 𝓣 Past (InvImage·wf (λ (t : State). 64 - t .0) (Nat·lt-wfRel .wf)) Inv turn (0, w)
+          loops ! 𝓣 Past (InvImage·wf (λ (t : State). registrations - t .0) (Nat·lt-wfRel .wf)) Inv turn (0, w)
 
     walk : (𝓣 : Tables 𝓤 H) → Triple 𝓤 (𝓣 .C #settle_rates·enter) (Enter 𝓤 H A at-mem run) → Triple 𝓤 (𝓣 .C #settle_closing·amounts·close) (Close 𝓤 H A at-mem run)
         → ent 𝓤 (onEntry 𝓤 H A f.signature (κ, (κ′, tt)) (q, (q′, tt)) (x, (y, (k, tt))) at) (WpFn 𝓤 H (𝓣 .C) (𝓣 .Λ) code.function (sliceVal (b, o) n ∷ vptr b′ o′ ∷ vint w64 k ∷ []) Post)

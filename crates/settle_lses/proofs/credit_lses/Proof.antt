@@ -22,11 +22,11 @@ use Rattle.settle_lses.proofs.credit_lses.Tie as tie
 
 abbrev Inv-loop : tie.InvT-loop
 Inv-loop year work₀ net₀ a₀ j₀ work a j =
-    (j ≤ 16) × (length work ≡ size) × Aside lseRow lses work₀ work × Before 16 (knownLse (facts year)) (obligation (facts year .terms)) (net work₀) j a
-    × Renewed work lseRow lses (share 16 (obligation (facts year .terms)) (net work₀)) none j
+    (j ≤ lses) × (length work ≡ size) × Aside lseRow lses work₀ work × Before lses (knownLse (facts year)) (obligation (facts year .terms)) (net work₀) j a
+    × Renewed work lseRow lses (share lses (obligation (facts year .terms)) (net work₀)) none j
 
 abbrev μ-loop : tie.MeasureT-loop
-μ-loop year work₀ net₀ a₀ j₀ work a j = 16 - j
+μ-loop year work₀ net₀ a₀ j₀ work a j = lses - j
 
 sum-requires : tie.Need-sum-requires Inv-loop μ-loop
 sum-requires c κs = let s = c .before .before .before in (omega arith, omega (arith, obligations (s .args .year .now), obligations-le (limits (s .pre .0 .sound))))
@@ -44,12 +44,12 @@ loop-again c =
     ⊎-elim
     (λ a. rw (a .5, a .6) (omega arith, a .3 .ensures .long ∙ l .inv .1, aside-more (l .inv .2) (a .3 .ensures) (omega arith) (omega arith), share-next (l .inv .3) w (lt-ltb 0 (obligation (F .terms) (l .j)) (omega (arith, w, a .0 .taken))) (a .1 .ensures), renewed-more (l .inv .4) (a .3 .ensures) (share-value (l .inv .3) w (a .1 .ensures))))
     (λ a. let z : obligation (F .terms) (l .j) ≡ 0 = sym w ∙ a .0 .left in
-    rw (a .1, a .2) (omega arith, l .inv .1, l .inv .2, share-skip (l .inv .3) (rw z) z, renewed-none (l .inv .4) (omega arith) (sym (share-zero 16 (obligation (F .terms)) _ (l .j) z))))
+    rw (a .1, a .2) (omega arith, l .inv .1, l .inv .2, share-skip (l .inv .3) (rw z) z, renewed-none (l .inv .4) (omega arith) (sym (share-zero lses (obligation (F .terms)) _ (l .j) z))))
     (c .if1 .came)
 
 returns : tie.Need-returns Inv-loop μ-loop
 unfolding lseDivisions
-returns c = let l = c .before .loop in let z : l .j ≡ 16 = omega arith in (rw z at (l .inv .4 .done), (divisions-made (l .inv .3) z, l .inv .2))
+returns c = let l = c .before .loop in let z : l .j ≡ lses = omega arith in (rw z at (l .inv .4 .done), (divisions-made (l .inv .3) z, l .inv .2))
 
 pub credit-lses-spec : {M : Type 1} → statement M
 credit-lses-spec =

@@ -15,10 +15,10 @@ use Rattle.settle_tests.proofs.charge_tests.Statement.{statement}
 use Rattle.settle_tests.proofs.charge_tests.Tie as tie
 
 abbrev Inv-loop : tie.InvT-loop
-Inv-loop year work₀ k sums s₀ work s = (s ≤ 16) × (length work ≡ size) × Aside testRow sellers work₀ work × Row work testRow s (test (facts year) k) × Summed year sums
+Inv-loop year work₀ k sums s₀ work s = (s ≤ sellers) × (length work ≡ size) × Aside testRow sellers work₀ work × Row work testRow s (test (facts year) k) × Summed year sums
 
 abbrev μ-loop : tie.MeasureT-loop
-μ-loop year work₀ k sums s₀ work s = 16 - s
+μ-loop year work₀ k sums s₀ work s = sellers - s
 
 returns : tie.Need-returns Inv-loop μ-loop
 returns c =
@@ -35,7 +35,7 @@ loop-again c =
     (omega arith, t .long ∙ v .1, aside-more (v .2) t (omega arith) (omega arith), row-more (v .3) t (c .before .before .test-of .ensures), v .4)
 
 returns-2 : tie.Need-returns-2 Inv-loop μ-loop
-returns-2 c = let l = c .before .loop in let z : l .s ≡ 16 = omega arith in (rw z at (l .inv .3), l .inv .2)
+returns-2 c = let l = c .before .loop in let z : l .s ≡ sellers = omega arith in (rw z at (l .inv .3), l .inv .2)
 
 pub charge-tests-spec : {M : Type 1} → statement M
 charge-tests-spec =

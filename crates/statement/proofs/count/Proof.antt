@@ -6,14 +6,15 @@ use mathlib.Core.Logic.{⊎-elim}
 use native.Mathlib.Omega.{arith}
 use Rattle.ids.specs.Ids.{holds, countTo, sumTo}
 use Rattle.ids.specs.Sums.{sum-step, count-most}
+use Rattle.limits.specs.Limits.{parties}
 use Rattle.statement.proofs.count.Statement.{statement}
 use Rattle.statement.proofs.count.Tie as tie
 
 abbrev Inv-loop : tie.InvT-loop
-Inv-loop marks n₀ i₀ n i = (i ≤ 16) × (n ≡ countTo i (holds marks))
+Inv-loop marks n₀ i₀ n i = (i ≤ parties) × (n ≡ countTo i (holds marks))
 
 abbrev μ-loop : tie.MeasureT-loop
-μ-loop marks n₀ i₀ n i = 16 - i
+μ-loop marks n₀ i₀ n i = parties - i
 
 loop-holds : tie.Need-loop-holds Inv-loop μ-loop
 unfolding sumTo
@@ -32,7 +33,7 @@ loop-again c =
     (c .if1 .came)
 
 returns : tie.Need-returns Inv-loop μ-loop
-returns c = let all : c .before .loop .i ≡ 16 = omega arith in rw all at (c .before .loop .inv .1)
+returns c = let all : c .before .loop .i ≡ parties = omega arith in rw all at (c .before .loop .inv .1)
 
 pub count-spec : {M : Type 1} → statement M
 count-spec =

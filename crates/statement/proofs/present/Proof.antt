@@ -3,7 +3,7 @@ use Prim.Native.Nat.{_≤_, _-_}
 use mathlib.Core.Logic.{⊎-elim}
 use mathlib.Core.Path.{_≡_}
 use native.Mathlib.Omega.{arith}
-use Rattle.limits.specs.Limits.{sellers}
+use Rattle.limits.specs.Limits.{registrations}
 use Rattle.year.specs.Year.{known, seller, size}
 use Rattle.year.specs.Limits.{seller-below, size-is}
 use Rattle.statement.specs.Statement.{hasRegistration}
@@ -12,10 +12,10 @@ use Rattle.statement.proofs.present.Statement.{statement}
 use Rattle.statement.proofs.present.Tie as tie
 
 abbrev Inv-loop : tie.InvT-loop
-Inv-loop terms sellers₀ i₀ sellers i = (i ≤ 64) × Marks (amongFirst terms i) sellers
+Inv-loop terms present₀ i₀ present i = (i ≤ registrations) × Marks (amongFirst terms i) present
 
 abbrev μ-loop : tie.MeasureT-loop
-μ-loop terms sellers₀ i₀ sellers i = 64 - i
+μ-loop terms present₀ i₀ present i = registrations - i
 
 loop-holds : tie.Need-loop-holds Inv-loop μ-loop
 loop-holds c = (omega arith, marks-none _)

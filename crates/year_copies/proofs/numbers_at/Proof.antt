@@ -4,18 +4,19 @@ use mathlib.Core.Path.{refl}
 use native.Mathlib.Omega.{arith}
 use lib.ListN.{length-replicate}
 use Rattle.ids.specs.Fill.{Filled, filled-none, filled-more, filled-all}
+use Rattle.limits.specs.Limits.{parties}
 use Rattle.year_cells.specs.Rows.{from}
 use Rattle.year_copies.proofs.numbers_at.Statement.{statement}
 use Rattle.year_copies.proofs.numbers_at.Tie as tie
 
 abbrev Inv-loop : tie.InvT-loop
-Inv-loop cells p numbers₀ i₀ numbers i = Filled 0 16 (from p cells) numbers i
+Inv-loop cells p numbers₀ i₀ numbers i = Filled 0 parties (from p cells) numbers i
 
 abbrev μ-loop : tie.MeasureT-loop
-μ-loop cells p numbers₀ i₀ numbers i = 16 - i
+μ-loop cells p numbers₀ i₀ numbers i = parties - i
 
 loop-holds : tie.Need-loop-holds Inv-loop μ-loop
-loop-holds c = filled-none (length-replicate {A = ℕ} 16 0)
+loop-holds c = filled-none (length-replicate {A = ℕ} parties 0)
 
 loop-again : tie.Need-loop-again Inv-loop μ-loop
 loop-again c = filled-more (c .before .before .loop .inv) (omega arith) refl

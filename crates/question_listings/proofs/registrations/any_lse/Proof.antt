@@ -7,6 +7,7 @@ use borrow.Author.Tests.{lt-ltb, le-ltb}
 use lib.Dec.{ltb}
 use Rattle.ids.specs.Ids.{anyTo}
 use Rattle.ids.specs.Tests.{any-at, any-none}
+use Rattle.limits.specs.Limits.{lses}
 use Rattle.year.specs.Year.{obligation, lseCount}
 use Rattle.year.specs.Limits.{lse-count-is}
 use Rattle.year_cells.specs.Layout.{cellTerms}
@@ -15,10 +16,10 @@ use Rattle.question_listings.proofs.registrations.any_lse.Tie as tie
 use Rattle.year_cells.proofs.obligation_of.Reads as obligation-of-reads
 
 abbrev Inv-loop : tie.InvT-loop
-Inv-loop year j₀ j = (j ≤ 16) × (anyTo j (λ k. ltb 0 (obligation (cellTerms year) k)) ≡ false)
+Inv-loop year j₀ j = (j ≤ lses) × (anyTo j (λ k. ltb 0 (obligation (cellTerms year) k)) ≡ false)
 
 abbrev μ-loop : tie.MeasureT-loop
-μ-loop year j₀ j = 16 - j
+μ-loop year j₀ j = lses - j
 
 loop-holds : tie.Need-loop-holds Inv-loop μ-loop
 unfolding anyTo

@@ -7,6 +7,7 @@ use lib.ListN.{length-replicate}
 use Rattle.ids.specs.Ids.{at}
 use Rattle.ids.specs.Tables.{is-tabulate}
 use Rattle.ids.specs.Fill.{Filled, filled-none, filled-more, filled-all}
+use Rattle.limits.specs.Limits.{parties}
 use Rattle.statement.specs.Statement.{sellerColumns}
 use Rattle.statement.specs.Columns.{columns-sound, compliance-at, test-at, credit-at}
 use Rattle.statement.proofs.issue.columns.Statement.{statement}
@@ -31,7 +32,7 @@ loop-again c =
     (⊎-elim
     (λ w. w .2 ∙ sym (compliance-at a (l .i) (l .i) (omega arith) refl))
     (⊎-elim
-    (λ w. w .3 ∙ sym (test-at a (l .i) (l .i - 16) (omega arith) (omega arith)))
+    (λ w. w .3 ∙ sym (test-at a (l .i) (l .i - parties) (omega arith) (omega arith)))
     (λ w. w .3 ∙ sym (credit-at a (l .i) (l .i - 32) (omega arith) (omega arith))))
     (c .if1 .came))
 

@@ -5,6 +5,7 @@ use mathlib.Core.Path.{_≡_}
 use native.Mathlib.Numerals.{add-one}
 use native.Mathlib.Omega.{arith}
 use Rattle.ids.specs.Ids.{tabulate}
+use Rattle.limits.specs.Limits.{parties}
 use Rattle.statement.specs.Statement.{amountField, lineFields}
 use Rattle.statement.specs.Lines.{amounts-bits}
 use Rattle.statement.specs.Sizes.{difference-below}
@@ -26,7 +27,7 @@ difference-requires : tie.Need-difference-requires Inv-loop μ-loop
 difference-requires c κs =
     let h = c .before .before .before .before in
     let s = h .before .before .before .before .before .before .before .before in
-    let place = 16 * h .loop .k + s .args .id in
+    let place = parties * h .loop .k + s .args .id in
     (s .pre .1 .1 .0 .0 .at place (omega arith), s .pre .1 .1 .0 .1 .at place (omega arith))
 
 put-requires-2 : tie.Need-put-requires-2 Inv-loop μ-loop

@@ -4,6 +4,7 @@ use mathlib.Core.Logic.{⊎-elim}
 use mathlib.Core.Path.{_≡_}
 use native.Mathlib.Omega.{arith}
 use Rattle.ids.specs.Ids.{holds}
+use Rattle.limits.specs.Limits.{parties}
 use Rattle.statement.specs.Statement.{lineFields, linesTo}
 use Rattle.statement.specs.Lines.{lines-room}
 use Rattle.statement.specs.WrittenFields.{WrittenFields, no-fields, line-more, line-skip}
@@ -12,10 +13,10 @@ use Rattle.statement.proofs.issue.put_lines.Tie as tie
 
 abbrev Inv-loop : tie.InvT-loop
 Inv-loop bytes₀ n owed billed marks r₀ id₀ bytes r id =
-    (id ≤ 16) × WrittenFields bytes₀ bytes r₀ r (linesTo id (holds marks) (lineFields n owed billed))
+    (id ≤ parties) × WrittenFields bytes₀ bytes r₀ r (linesTo id (holds marks) (lineFields n owed billed))
 
 abbrev μ-loop : tie.MeasureT-loop
-μ-loop bytes₀ n owed billed marks r₀ id₀ bytes r id = 16 - id
+μ-loop bytes₀ n owed billed marks r₀ id₀ bytes r id = parties - id
 
 loop-holds : tie.Need-loop-holds Inv-loop μ-loop
 unfolding linesTo
@@ -26,7 +27,7 @@ put-line-requires c κs =
     let h = c .before .before .before in
     let s = h .before .before .before .before in
     let w = h .loop .inv .1 .wrote in
-    let room = lines-room (s .args .n) (s .args .owed .now) (s .args .billed .now) (holds (s .args .t3)) (h .loop .id) 16 (omega arith) in
+    let room = lines-room (s .args .n) (s .args .owed .now) (s .args .billed .now) (holds (s .args .t3)) (h .loop .id) parties (omega arith) in
     (w .ready, (omega arith, (s .pre .1 .0, omega (arith, w .ends, w .long))))
 
 loop-again : tie.Need-loop-again Inv-loop μ-loop
@@ -44,7 +45,7 @@ same-length : tie.Need-same-length Inv-loop μ-loop
 same-length c = omega (arith, c .before .loop .inv .1 .wrote .long)
 
 returns : tie.Need-returns Inv-loop μ-loop
-returns c = let all : c .before .loop .id ≡ 16 = omega arith in rw all at (c .before .loop .inv .1)
+returns c = let all : c .before .loop .id ≡ parties = omega arith in rw all at (c .before .loop .inv .1)
 
 pub put-lines-spec : {M : Type 1} → statement M
 put-lines-spec =

@@ -2,6 +2,7 @@
 use borrow.Author.Needs.{needs}
 use native.Mathlib.Omega.{arith}
 use Rattle.ids.specs.Ids.{holds}
+use Rattle.limits.specs.Limits.{parties}
 use Rattle.statement.specs.Lines.{lines-room}
 use Rattle.statement.specs.Columns.{columns-sound}
 use Rattle.statement.specs.WrittenFields.{more-fields}
@@ -20,7 +21,7 @@ put-lines-requires-2 c κs =
     let t = l .before .before .before .before in
     let s = t .before .before .before in
     let w = l .put-lines .ensures .wrote in
-    let room = lines-room 3 (t .columns .result) (l .before .before .columns2 .result) (holds (s .args .sellers)) 16 17 (omega arith) in
+    let room = lines-room 3 (t .columns .result) (l .before .before .columns2 .result) (holds (s .args .sellers)) parties 17 (omega arith) in
     (w .ready, ((s .pre .1 .0 .0 .lse, s .pre .1 .0 .1 .lse), omega (arith, w .ends, w .long, s .pre)))
 
 returns : tie.Need-returns

@@ -3,6 +3,7 @@ use borrow.Author.Needs.{needs}
 use mathlib.Core.Path.{refl}
 use native.Mathlib.Omega.{arith}
 use Rattle.ids.specs.Ids.{holds}
+use Rattle.limits.specs.Limits.{parties}
 use Rattle.bits_write.specs.Written.{Ready}
 use Rattle.bits_write.specs.WrittenLaws.{written-encodes}
 use Rattle.statement.specs.Statement.{widthsOf, valuesOf, statementFields, statementOf}
@@ -17,8 +18,8 @@ put-all-requires c κs =
     let n = c .before .before .before in
     let e = n .new .ensures in
     let s = n .before .before .before .before .before .before in
-    let sellers = count-most 16 (holds (n .before .before .before .before .present .result)) in
-    let lses = count-most 16 (holds (n .before .before .before .obliged .result)) in
+    let sellers = count-most parties (holds (n .before .before .before .before .present .result)) in
+    let lses = count-most parties (holds (n .before .before .before .obliged .result)) in
     let ready : Ready (n .new .result) = record { part = omega (arith, e); small = rw (e .1, e .2) (omega arith) } in
     (ready, (tt, (refl, ((omega (arith, s .pre), (omega (arith, n .before .before .count .ensures), (omega (arith, n .before .count2 .ensures), tt))), omega (arith, e, s .pre)))))
 
