@@ -77,7 +77,7 @@ pub struct Amounts {
     pub lse: [u64; LSES],
 }
 
-// `started`: an event, test or close is accepted. `closed` counts the closes. What clearings come to and retests stand
+// `started`: an event, test or close is accepted. `closed` counts the closes, `accepted` the events. What clearings come to and retests stand
 // by registration, events in order of acceptance, and the test of zone z and product p at 3 z + p, as it was recorded.
 // `billed` holds the amounts to date at the last close.
 pub struct Year {
