@@ -1,4 +1,6 @@
 // The allotment of an amount by weights, share by share in the order of the weights.
+#![tactic(auto)]
+
 ghost use Rattle.allotment.specs.Stepper.{Carried, Asks, Gives};
 
 #[derive(Drop)]

@@ -1,4 +1,6 @@
 // Bills record files, each from a new book: standard input, or the files that the arguments name, where `-` is standard input.
+#![tactic(auto)]
+
 ghost use Rattle.std.specs.Prelude.{◌≤◌, length};
 ghost use Rattle.text_bill.specs.Text.{room};
 ghost use Rattle.record_layouts.specs.Layout.{longest_record};

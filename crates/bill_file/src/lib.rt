@@ -1,4 +1,6 @@
 // A whole record file billed: each record's number, and the statements one after another.
+#![tactic(auto)]
+
 ghost use Rattle.bill_file.specs.Billed.{FileLeaves};
 
 // How many records are answered, the bytes consumed, and the bytes of statements.

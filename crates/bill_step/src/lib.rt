@@ -1,4 +1,6 @@
 // One record of the bill program: taken, and its answer printed.
+#![tactic(auto)]
+
 ghost use Rattle.std.specs.Prelude.{◌≡◌, ◌+◌};
 ghost use Rattle.year_cells.specs.Layout.{ValidCells};
 ghost use Rattle.book.specs.Takes.{Takes};

@@ -1,1 +1,2 @@
 // Fields of bits in bytes: definitions and laws, no code.
+#![tactic(auto)]

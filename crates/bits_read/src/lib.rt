@@ -1,4 +1,6 @@
 // Fields of bits in a byte slice, the most significant bit of each byte first, read at a cursor by value: one field, a table of them, and items.
+#![tactic(auto)]
+
 ghost use Rattle.std.specs.Prelude.{◌≡◌, ◌+◌, ◌-◌, ◌/◌, ◌%◌, ◌^◌, ◌≤◌, length};
 ghost use Rattle.bits.specs.Bits.{FieldFits, FieldRead};
 ghost use Rattle.bits.specs.Table.{total, times, Fit, InWord};

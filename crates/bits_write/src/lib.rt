@@ -1,4 +1,6 @@
 // A writer by value: it writes fields one right after another from the first bit on, and holds back the bits of a word that is not whole yet.
+#![tactic(auto)]
+
 ghost use Rattle.std.specs.Prelude.{◌≡◌, ◌+◌, ◌*◌, ◌^◌, ◌≤◌, ◌<◌, T, length};
 ghost use Rattle.bits.specs.Table.{total, times, narrow, Valid};
 ghost use Rattle.bits_write.specs.Written.{written_bits, Out, Ready, Wrote, PutAll, PutItems, Finished};

@@ -1,4 +1,6 @@
 // Taking a record: the questions, then what an accepted one does.
+#![tactic(auto)]
+
 ghost use Rattle.std.specs.Prelude.{◌≡◌};
 ghost use Rattle.year.specs.Year.{new_year};
 ghost use Rattle.year_cells.specs.Layout.{year_in, ValidCells};

@@ -1,4 +1,6 @@
 // What an accepted record does: it changes the year, and a close leaves its statement.
+#![tactic(auto)]
+
 ghost use Rattle.std.specs.Prelude.{◌≡◌, true, ◌≤◌, length};
 ghost use Rattle.ids.specs.Ids.{at};
 ghost use Rattle.limits.specs.Limits.{nominated_limit};

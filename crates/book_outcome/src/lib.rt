@@ -1,1 +1,2 @@
 // The outcome of a call: definitions and laws, no code.
+#![tactic(auto)]

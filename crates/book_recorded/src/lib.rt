@@ -1,1 +1,2 @@
 // What accepted records say: definitions and laws, in specs/.
+#![tactic(auto)]

@@ -1,4 +1,6 @@
 // Days to date, due months, and when a product may be called or tested.
+#![tactic(auto)]
+
 ghost use Rattle.std.specs.Prelude.{◌≡◌, ◌≤◌, max};
 ghost use Rattle.limits.specs.Limits.{close_limit};
 ghost use Rattle.calendar.specs.Calendar.{days, due, between, summer, callable, testable};

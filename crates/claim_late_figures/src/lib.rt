@@ -1,1 +1,2 @@
 // Figures of late events, computed over the definitions: no code.
+#![tactic(auto)]

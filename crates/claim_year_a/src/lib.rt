@@ -1,1 +1,2 @@
 // Year A as bytes, and what computes its bill: no code.
+#![tactic(auto)]

@@ -1,1 +1,2 @@
 // Figures of Year A, computed over the definitions: no code.
+#![tactic(auto)]

@@ -1,5 +1,7 @@
 // Prints record files as text, a line for each record: its numbers in layout order, or `N position number` where it is refused.
 // They come from standard input, or from the files that the arguments name, where `-` is standard input.
+#![tactic(auto)]
+
 ghost use Rattle.std.specs.Prelude.{◌≤◌, length};
 ghost use Rattle.record_layouts.specs.Layout.{longest_record};
 ghost use Rattle.text_record.specs.Line.{line_room};

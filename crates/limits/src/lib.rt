@@ -1,5 +1,7 @@
 // The limits of document 01, for the code: how many there may be of each, and the most of a figure (specs/Limits.antt).
 // Ids of registrations, of sellers and LSEs (the parties of a statement), of areas and zones are below these; there are three products.
+#![tactic(auto)]
+
 pub const REGISTRATIONS: usize = 64;
 
 pub const PARTIES: usize = 16;

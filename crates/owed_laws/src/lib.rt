@@ -1,1 +1,2 @@
 // The laws of what is owed: limits, allotments, the yearly limit, the balance, independence. This crate has no code.
+#![tactic(auto)]

@@ -1,5 +1,7 @@
 // Packs lines of numbers, as the dump program prints them, into records on standard output.
 // A refused line gives `N line number` on standard error, and nothing of it is written.
+#![tactic(auto)]
+
 ghost use Rattle.std.specs.Prelude.{◌≤◌, length};
 ghost use Rattle.record_layouts.specs.Layout.{longest_permitted};
 

@@ -1,4 +1,6 @@
 // The engine for C: a record read, a record written, a record taken by a book, a whole record file billed, and a reduction made from a sample. Every input is answered.
+#![tactic(auto)]
+
 ghost use Rattle.std.specs.Prelude.{◌≡◌};
 ghost use Rattle.year.specs.Year.{new_year};
 ghost use Rattle.year_cells.specs.Layout.{year_in, ValidCells};

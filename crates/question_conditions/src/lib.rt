@@ -1,4 +1,6 @@
 // What is asked of one registration by its terms, and is it among those of the year that are meant?
+#![tactic(auto)]
+
 mod conditions;
 mod selections;
 

@@ -1,4 +1,6 @@
 // The questions that records of several kinds are asked: 6 and 8, and of 11 whether the month has begun, and a test's.
+#![tactic(auto)]
+
 ghost use Rattle.std.specs.Prelude.{◌≡◌};
 ghost use Rattle.year_cells.specs.Layout.{year_in, ValidCells};
 ghost use Rattle.question_list.specs.Questions.{is_open, month_begun, may_test, has_parties, open_number};

@@ -1,4 +1,6 @@
 // Tests over what a record lists, its listing a row by id (year_cells.Places).
+#![tactic(auto)]
+
 ghost use Rattle.std.specs.Prelude.{◌≡◌, ◌<◌, length};
 ghost use Rattle.ids.specs.Ids.{at};
 ghost use Rattle.limits.specs.Limits.{registrations};

@@ -1,4 +1,6 @@
 // The number of the first question from 6 on that fails, of a record of any kind.
+#![tactic(auto)]
+
 ghost use Rattle.std.specs.Prelude.{◌≡◌, length};
 ghost use Rattle.ids.specs.Ids.{at};
 ghost use Rattle.year_cells.specs.Places.{listing_width};

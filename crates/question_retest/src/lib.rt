@@ -1,4 +1,6 @@
 // The questions put to a retest.
+#![tactic(auto)]
+
 ghost use Rattle.std.specs.Prelude.{◌≡◌, length};
 ghost use Rattle.ids.specs.Ids.{at};
 ghost use Rattle.year_cells.specs.Places.{listing_width};

@@ -1,4 +1,6 @@
 // The questions put to what joins a pool before its first event: a registration, an LSE, a clearing.
+#![tactic(auto)]
+
 ghost use Rattle.std.specs.Prelude.{◌≡◌, not, cond, [], ◌∷◌};
 ghost use Rattle.record_layouts.specs.Questions.{first_failed};
 ghost use Rattle.year.specs.declared.Listing.{Listing};

@@ -1,4 +1,6 @@
 // Questions 1, 4 and 5, asked of a record's numbers and bytes.
+#![tactic(auto)]
+
 ghost use Rattle.std.specs.Prelude.{◌≡◌, ◌+◌, ◌-◌, ◌*◌, ◌^◌, ◌≤◌, ◌<◌, eqb, length};
 ghost use Rattle.ids.specs.Ids.{at};
 ghost use Rattle.bits.specs.Bits.{field_at};

@@ -1,4 +1,6 @@
 // The walk of a record file: record after record, up to an answer that ends it, or to the end of the bytes.
+#![tactic(auto)]
+
 ghost use Rattle.std.specs.Prelude.{◌≡◌};
 ghost use Rattle.record_layouts.specs.Layout.{longest_record};
 ghost use Rattle.record_file.specs.Walk.{ends};

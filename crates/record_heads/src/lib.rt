@@ -1,4 +1,6 @@
 // A record's head with names, a case for each kind, from its numbers.
+#![tactic(auto)]
+
 ghost use Rattle.std.specs.Prelude.{◌≡◌, ◌≤◌, length};
 ghost use Rattle.record_heads.specs.Record.{head_of};
 

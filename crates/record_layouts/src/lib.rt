@@ -1,4 +1,6 @@
 // The record layouts as tables, a row a kind, and what the code looks up in them.
+#![tactic(auto)]
+
 ghost use Rattle.std.specs.Prelude.{◌≡◌, ◌≤◌, ◌<◌, length};
 ghost use Rattle.record_layouts.specs.Layout.{layouts, lists, widths};
 ghost use Rattle.record_layouts.specs.Parts.{start_of, kinds, parts, rules, lows, highs, row_of, row_at, Placed};

@@ -1,4 +1,6 @@
 // What a record lists, as a row by id: marks and reductions by registration, deficits by seller, then second reductions.
+#![tactic(auto)]
+
 ghost use Rattle.std.specs.Prelude.{◌≡◌, ◌+◌, ◌<◌, length, replicate};
 ghost use Rattle.ids.specs.Ids.{at};
 ghost use Rattle.year_cells.specs.Places.{listing_width};

@@ -1,4 +1,5 @@
 // The definitions of reading and writing records; the code is in crates of its own.
+#![tactic(auto)]
 
 // The bytes of the longest record that is permitted, and so written.
 pub const PERMITTED: usize = 371;

@@ -1,4 +1,6 @@
 // A record taken apart by its layout: questions 1 to 5.
+#![tactic(auto)]
+
 ghost use Rattle.std.specs.Prelude.{◌≡◌, true, replicate};
 ghost use Rattle.bits.specs.Table.{total};
 ghost use Rattle.record_layouts.specs.Layout.{head, widths, most_numbers};

@@ -1,4 +1,6 @@
 // A record read: its numbers into a lent buffer.
+#![tactic(auto)]
+
 ghost use Rattle.std.specs.Prelude.{◌≡◌, ◌++◌, ◌≤◌, length, take, drop};
 ghost use Rattle.record_read.specs.Answers.{Answers};
 

@@ -1,4 +1,6 @@
 // How many fields and bits a record has, by the counts among its numbers.
+#![tactic(auto)]
+
 ghost use Rattle.std.specs.Prelude.{◌≡◌, ◌*◌, ◌≤◌, ◌<◌, length};
 ghost use Rattle.bits.specs.Pack.{bytes_for};
 ghost use Rattle.record_layouts.specs.Layout.{layouts, head, lists, rules_for, longest_record};

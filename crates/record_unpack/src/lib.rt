@@ -1,4 +1,6 @@
 // The numbers of a record's head and of its lists, taken out of its bytes by one cursor.
+#![tactic(auto)]
+
 ghost use Rattle.std.specs.Prelude.{◌≡◌, true, ◌≤◌, length, replicate};
 ghost use Rattle.bits.specs.Table.{total, fields_at};
 ghost use Rattle.record_layouts.specs.Layout.{head, widths, most_numbers};

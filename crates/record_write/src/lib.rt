@@ -1,4 +1,6 @@
 // Records written by their layouts.
+#![tactic(auto)]
+
 ghost use Rattle.std.specs.Prelude.{◌≡◌};
 ghost use Rattle.ids.specs.Ids.{at};
 ghost use Rattle.record_numbers.specs.Calls.{Writes};

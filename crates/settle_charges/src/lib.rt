@@ -1,4 +1,6 @@
 // An event's charges, from what the working table has of its entries: no look at one.
+#![tactic(auto)]
+
 ghost use Rattle.std.specs.Prelude.{◌≡◌, ◌+◌, ◌-◌, ◌≤◌, ◌<◌};
 ghost use Rattle.limits.specs.Limits.{registrations, event_limit, close_limit};
 ghost use Rattle.year_cells.specs.Layout.{ValidCells};

@@ -1,4 +1,6 @@
 // What is owed at a month, of a year whose registrations are lent: their terms go into the working table, then the closing goes over the year's cells.
+#![tactic(auto)]
+
 ghost use Rattle.std.specs.Prelude.{◌≡◌, ◌≤◌};
 ghost use Rattle.limits.specs.Limits.{registrations, close_limit};
 ghost use Rattle.year_cells.specs.Layout.{cell_registrations, ValidCells};

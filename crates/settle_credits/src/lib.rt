@@ -1,4 +1,6 @@
 // An event's excess credits, from the shares e that the working table keeps of its entries: no look at one.
+#![tactic(auto)]
+
 ghost use Rattle.std.specs.Prelude.{◌≡◌, ◌+◌, ◌*◌, ◌/◌, ◌≤◌, ◌<◌};
 ghost use Rattle.limits.specs.Limits.{registrations, sellers, event_limit, close_limit, nominated_limit, rate_limit};
 ghost use Rattle.year_cells.specs.Layout.{ValidCells};

@@ -1,4 +1,6 @@
 // Pass 1 over the events' entries: how often events list each registration, and whether any does.
+#![tactic(auto)]
+
 ghost use Rattle.std.specs.Prelude.{◌≡◌, ◌+◌, ◌-◌, ◌<◌, length};
 ghost use Rattle.limits.specs.Limits.{event_limit};
 ghost use Rattle.year_cells.specs.Layout.{ValidCells};

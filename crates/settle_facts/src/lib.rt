@@ -1,4 +1,6 @@
 // What the closing reads of the year: of an event its entries, one look at a time, month, period, whether it is dual, and deficits; the factors.
+#![tactic(auto)]
+
 ghost use Rattle.std.specs.Prelude.{◌≡◌, ◌-◌, ◌≤◌, ◌<◌};
 ghost use Rattle.limits.specs.Limits.{registrations, sellers, event_limit, close_limit, nominated_sum};
 ghost use Rattle.year_cells.specs.Layout.{ValidCells};

@@ -1,4 +1,6 @@
 // What the LSEs are credited: all charges to date less all credits, allotted by obligation.
+#![tactic(auto)]
+
 ghost use Rattle.std.specs.Prelude.{◌≡◌, ◌*◌, ◌<◌, ◌^◌, length};
 ghost use Rattle.ids.specs.Ids.{sum_to};
 ghost use Rattle.limits.specs.Limits.{lses};

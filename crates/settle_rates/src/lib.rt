@@ -1,4 +1,6 @@
 // The rates in force and the caps, once all registrations are entered into the working table: one without a rate of its own borrows its area's.
+#![tactic(auto)]
+
 ghost use Rattle.std.specs.Prelude.{◌≡◌, ◌+◌, ◌<◌, length};
 ghost use Rattle.limits.specs.Limits.{registrations, areas};
 ghost use Rattle.year_cells.specs.Layout.{ValidCells};

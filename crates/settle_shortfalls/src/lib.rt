@@ -1,4 +1,6 @@
 // Pass 2 over an event's entries: what each seller's entries are short and over, and its shortfall and excess from these.
+#![tactic(auto)]
+
 ghost use Rattle.std.specs.Prelude.{◌≡◌, ◌+◌, ◌≤◌, ◌<◌};
 ghost use Rattle.limits.specs.Limits.{registrations, sellers, event_limit, nominated_sum};
 ghost use Rattle.year_cells.specs.Layout.{ValidCells};

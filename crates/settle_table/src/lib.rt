@@ -1,4 +1,6 @@
 // The closing's working table: one lent array of numbers with named rows, and the stores into it.
+#![tactic(auto)]
+
 ghost use Rattle.std.specs.Prelude.{◌≡◌, ◌+◌, ◌≤◌, ◌<◌, ◌^◌, length};
 ghost use Rattle.ids.specs.Ids.{at, sum_to};
 ghost use Rattle.settle_table.specs.Rows.{Stored, Aside, Row, none};

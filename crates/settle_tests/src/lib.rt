@@ -1,4 +1,6 @@
 // What the tests of a year charge each seller, from the sums of their entries that stand.
+#![tactic(auto)]
+
 ghost use Rattle.std.specs.Prelude.{◌≡◌, ◌*◌, ◌/◌, ◌≤◌, ◌<◌};
 ghost use Rattle.ids.specs.Ids.{any_to};
 ghost use Rattle.limits.specs.Limits.{sellers, test_groups, close_limit, rate_limit};

@@ -1,4 +1,6 @@
 // The parties of a statement: which they are, and how many.
+#![tactic(auto)]
+
 ghost use Rattle.std.specs.Prelude.{◌≡◌};
 ghost use Rattle.ids.specs.Ids.{holds, count_to};
 ghost use Rattle.limits.specs.Limits.{parties};

@@ -1,4 +1,6 @@
 // Reductions from telemetry: a sample of binary32 kilowatts becomes the kW of an entry, exactly, or a number.
+#![tactic(auto)]
+
 ghost use Rattle.std.specs.Prelude.{◌≡◌};
 ghost use Rattle.telemetry.specs.Reduction.{within_limit, reduction_of};
 ghost use Rattle.telemetry.specs.declared.Sample.TheVariants.{Pair};

@@ -1,4 +1,6 @@
 // Values of binary32 in eighths of a kW: which count, their exact difference, and whole kW.
+#![tactic(auto)]
+
 ghost use Rattle.std.specs.Prelude.{◌≡◌, ◌/◌, true, from_bits};
 ghost use Rattle.std.specs.Float.{binary32};
 ghost use Rattle.telemetry_eighths.specs.Eighths.{counts, eighths_of, Less};

@@ -1,4 +1,6 @@
 // Text put into a lent buffer from a place on, each function answering the next place, so that output can be gathered.
+#![tactic(auto)]
+
 ghost use Rattle.std.specs.Prelude.{◌≡◌, [], ◌∷◌, ◌+◌, ◌*◌, ◌≤◌, ◌<◌, length};
 ghost use Rattle.text.specs.Pasted.{Pasted};
 ghost use Rattle.text.specs.Lines.{call_line, character, decimal, hex_of, hexadecimal, numbers_line, word};

@@ -1,5 +1,7 @@
 // The bill's lines, as bytes: those of a statement and of a refusal.
 // Each function puts its text into a lent buffer from a place on and answers the next place, so that output can be gathered.
+#![tactic(auto)]
+
 ghost use Rattle.std.specs.Prelude.{◌+◌, ◌*◌, ◌^◌, ◌≤◌, ◌<◌, length};
 ghost use Rattle.statement.specs.Value42.{value42};
 ghost use Rattle.text.specs.Pasted.{Pasted};

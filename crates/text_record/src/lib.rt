@@ -1,4 +1,6 @@
 // A record as a line of text.
+#![tactic(auto)]
+
 ghost use Rattle.std.specs.Prelude.{◌≡◌, ◌+◌, ◌≤◌, length};
 ghost use Rattle.record_layouts.specs.Questions.{record_number, consumed};
 ghost use Rattle.text.specs.Pasted.{Pasted};

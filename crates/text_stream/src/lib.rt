@@ -1,4 +1,6 @@
 // Input in pieces through a lent buffer. What is still to be taken of it is moved to the front, so that a record or a line across two pieces is read as one.
+#![tactic(auto)]
+
 ghost use Rattle.std.specs.Prelude.{false, ◌≡◌, ◌+◌, ◌-◌, ◌≤◌, ◌<◌, min, length, take, drop};
 ghost use Rattle.std.proofs.Math.Seq.{paste};
 ghost use Rattle.text.specs.Find.{Ends};

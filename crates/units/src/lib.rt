@@ -1,4 +1,6 @@
 // Nominated and unforced kilowatts: two units, with conversion the only way across.
+#![tactic(auto)]
+
 ghost use Rattle.std.specs.Prelude.{◌≡◌, ◌*◌, ◌-◌, ◌/◌, ◌≤◌};
 ghost use Rattle.units.specs.Units.{convert};
 ghost use Rattle.limits.specs.Limits.{registrations, nominated_limit, unforced_limit, factor_limit};

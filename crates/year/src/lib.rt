@@ -1,4 +1,6 @@
 // The delivery year: what the accepted records have made so far.
+#![tactic(auto)]
+
 ghost use Rattle.std.specs.Prelude.{◌≡◌, ◌<◌};
 ghost use Rattle.limits.specs.Limits.{test_groups};
 ghost use Rattle.year.specs.Year.{test_group};

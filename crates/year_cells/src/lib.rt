@@ -1,4 +1,6 @@
 // The delivery year in one lent array of numbers: where its parts stand, how they are read, and how a row is laid.
+#![tactic(auto)]
+
 ghost use Rattle.std.specs.Prelude.{◌≡◌, ◌+◌, ◌≤◌, ◌<◌, length, get_or};
 ghost use Rattle.limits.specs.Limits.{registrations, lses, event_limit};
 ghost use Rattle.year_cells.specs.Places.{cell_count};

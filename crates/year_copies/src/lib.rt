@@ -1,4 +1,6 @@
 // Parts of the year by value, read out of its cells: its registrations, its terms, and what is billed.
+#![tactic(auto)]
+
 ghost use Rattle.std.specs.Prelude.{◌≡◌, ◌+◌, ◌≤◌, length};
 ghost use Rattle.ids.specs.Ids.{tabulate};
 ghost use Rattle.limits.specs.Limits.{parties};

@@ -1,4 +1,6 @@
 // The year after an event or a close, made where it lies: a step lays a few rows. What comes before the first of them is in `setup`, tests and retests are in `year_test_steps`.
+#![tactic(auto)]
+
 ghost use Rattle.std.specs.Prelude.{◌≡◌, ◌<◌, length};
 ghost use Rattle.limits.specs.Limits.{event_limit, close_limit};
 ghost use Rattle.year_cells.specs.Places.{listing_width};

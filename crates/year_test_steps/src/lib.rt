@@ -1,4 +1,6 @@
 // The year after a test or a retest, made where it lies: their entries are tables by registration, one of all tests and one of all retests.
+#![tactic(auto)]
+
 ghost use Rattle.std.specs.Prelude.{◌≡◌, true, false, ◌<◌, length, get_or};
 ghost use Rattle.ids.specs.Ids.{at};
 ghost use Rattle.limits.specs.Limits.{test_groups};

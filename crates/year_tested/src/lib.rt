@@ -1,4 +1,6 @@
 // What the year's cells hold of the tests and retests: whether and when a group was tested, and each registration's entry.
+#![tactic(auto)]
+
 ghost use Rattle.std.specs.Prelude.{◌≡◌, ◌<◌, get_or};
 ghost use Rattle.limits.specs.Limits.{registrations, test_groups};
 ghost use Rattle.year.specs.Year.{no_test, retest_of, listed, reduction};
