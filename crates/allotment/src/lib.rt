@@ -3,7 +3,7 @@
 
 ghost use Rattle.allotment.specs.Stepper.{Carried, Asks, Gives};
 
-#[derive(Drop)]
+#[derive(Clone, Copy)]
 pub struct Allotment {
     // What is allotted.
     pub amount: u64,
@@ -17,7 +17,7 @@ pub struct Allotment {
     pub divisions: u64,
 }
 
-#[derive(Drop)]
+#[derive(Clone, Copy)]
 pub struct Share {
     pub value: u64,
     pub next: Allotment,

@@ -4,7 +4,7 @@
 ghost use Rattle.bill_file.specs.Billed.{FileLeaves};
 
 // How many records are answered, the bytes consumed, and the bytes of statements.
-#[derive(Drop)]
+#[derive(Clone, Copy)]
 pub struct Totals {
     pub answered: usize,
     pub used: usize,

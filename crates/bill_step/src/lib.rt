@@ -11,14 +11,14 @@ use book::Posted;
 use year_cells::Cells;
 
 // What goes from record to record beside the year: the next record's position, and the place behind what is printed.
-#[derive(Drop)]
+#[derive(Clone, Copy)]
 pub struct Course {
     pub position: u64,
     pub at: usize,
 }
 
 // The call's answer, and how it goes on.
-#[derive(Drop)]
+#[derive(Clone, Copy)]
 pub struct Answered {
     pub posted: Posted,
     pub next: Course,

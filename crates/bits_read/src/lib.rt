@@ -9,20 +9,20 @@ ghost use Rattle.bits_read.specs.Fields.{fields_laid, items_laid};
 mod words;
 
 // The position of a bit.
-#[derive(Drop)]
+#[derive(Clone, Copy)]
 pub struct Cursor {
     pub at: usize,
 }
 
 // A field that was read, and where the next one is.
-#[derive(Drop)]
+#[derive(Clone, Copy)]
 pub struct Field {
     pub value: u64,
     pub next: Cursor,
 }
 
 // Items in a row: the bits that the fields of each take, and how many items there are.
-#[derive(Drop)]
+#[derive(Clone, Copy)]
 pub struct Items {
     pub bits: usize,
     pub count: usize,

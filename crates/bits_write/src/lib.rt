@@ -6,7 +6,7 @@ ghost use Rattle.bits.specs.Table.{total, times, narrow, Valid};
 ghost use Rattle.bits_write.specs.Written.{written_bits, Out, Ready, Wrote, PutAll, PutItems, Finished};
 
 // The next byte, and the bits held back from it on: how many, and the number that they spell.
-#[derive(Drop)]
+#[derive(Clone, Copy)]
 pub struct Writer {
     pub at: usize,
     pub waiting: usize,

@@ -12,7 +12,7 @@ use year_cells::{Cells, LISTING_WIDTH};
 
 // A call's answer: 0 or the number of the question that failed, the bytes consumed, and the bytes of the statement that
 // it left in the buffer, 0 where it left none.
-#[derive(Drop)]
+#[derive(Clone, Copy)]
 pub struct Posted {
     pub number: u64,
     pub used: usize,

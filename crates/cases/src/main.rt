@@ -72,7 +72,7 @@ fn print_call(number: u64, used: usize, bytes: &[u8])
 }
 
 // How many bytes a line holds, and the room that it lends.
-#[derive(Drop)]
+#[derive(Clone, Copy)]
 struct Lent {
     count: usize,
     room: usize,

@@ -11,7 +11,7 @@ mod test_entries;
 
 // What may be asked of a registration's terms (specs/Meets.antt): is it known and in an area; known and of a zone and
 // product; a seller's; may its product be called in a month and period?
-#[derive(Drop)]
+#[derive(Clone, Copy)]
 pub enum Condition {
     InArea(u64),
     InGroup(u64, u64),
@@ -22,7 +22,7 @@ pub enum Condition {
 // Which registrations of a year are meant (specs/Selects.antt): those that are known; those of a zone and product that
 // no accepted event lists; and, of the test of a group, a seller's entries, those of them that failed, those that are
 // retested.
-#[derive(Drop)]
+#[derive(Clone, Copy)]
 pub enum Selection {
     Known,
     Undispatched(u64, u64),

@@ -10,7 +10,7 @@ fn wide(x: u32) -> u64
 }
 
 // n numbers, a stride from each other, from a place on.
-#[derive(Drop)]
+#[derive(Clone, Copy)]
 struct Column {
     from: usize,
     stride: usize,
@@ -18,7 +18,7 @@ struct Column {
 }
 
 // n items one after another, from a place on.
-#[derive(Drop)]
+#[derive(Clone, Copy)]
 pub struct Row {
     pub from: usize,
     pub n: usize,

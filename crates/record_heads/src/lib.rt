@@ -4,14 +4,14 @@
 ghost use Rattle.std.specs.Prelude.{◌≡◌, ◌≤◌, length};
 ghost use Rattle.record_heads.specs.Record.{head_of};
 
-#[derive(Drop)]
+#[derive(Clone, Copy)]
 pub struct OpeningHead {
     pub leap: u64,
     pub factor: u64,
     pub requirement: u64,
 }
 
-#[derive(Drop)]
+#[derive(Clone, Copy)]
 pub struct RegistrationHead {
     pub id: u64,
     pub seller: u64,
@@ -22,14 +22,14 @@ pub struct RegistrationHead {
     pub rate: u64,
 }
 
-#[derive(Drop)]
+#[derive(Clone, Copy)]
 pub struct LseHead {
     pub id: u64,
     pub obligation: u64,
 }
 
 // An event of kind 4, or of kind 8, which is one of period 3 with two reductions an entry, on-peak and off-peak: it is dual.
-#[derive(Drop)]
+#[derive(Clone, Copy)]
 pub struct EventHead {
     pub area: u64,
     pub month: u64,
@@ -37,26 +37,26 @@ pub struct EventHead {
     pub dual: bool,
 }
 
-#[derive(Drop)]
+#[derive(Clone, Copy)]
 pub struct TestHead {
     pub zone: u64,
     pub product: u64,
     pub month: u64,
 }
 
-#[derive(Drop)]
+#[derive(Clone, Copy)]
 pub struct CloseHead {
     pub month: u64,
 }
 
-#[derive(Drop)]
+#[derive(Clone, Copy)]
 pub struct ClearingHead {
     pub registration: u64,
     pub price: u64,
     pub kw: u64,
 }
 
-#[derive(Drop)]
+#[derive(Clone, Copy)]
 pub struct RetestHead {
     pub seller: u64,
     pub zone: u64,
@@ -64,7 +64,7 @@ pub struct RetestHead {
     pub month: u64,
 }
 
-#[derive(Drop)]
+#[derive(Clone, Copy)]
 pub enum Head {
     Opening(OpeningHead),
     Registration(RegistrationHead),

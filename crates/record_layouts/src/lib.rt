@@ -198,7 +198,7 @@ const HIGHS: [u32; 59] = [
 ];
 
 // Where the fields of a part stand in the tables, from start up to end; the bits that they take; the place of the part's count among the numbers of its head, 0 for a head; and which of its fields are its first and its second reduction, 0 where it has none.
-#[derive(Drop)]
+#[derive(Clone, Copy)]
 pub struct Part {
     pub start: usize,
     pub end: usize,

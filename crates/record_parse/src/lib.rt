@@ -17,7 +17,7 @@ use record_shapes::{Shape, shape_of, size_of};
 use record_unpack::{kind_of, read_head, read_lists};
 
 // The number of the question that failed, 0 where none did; how many numbers the record has; the bytes consumed.
-#[derive(Drop)]
+#[derive(Clone, Copy)]
 pub struct ReadAnswer {
     pub number: u64,
     pub count: usize,

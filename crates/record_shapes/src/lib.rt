@@ -10,7 +10,7 @@ ghost use Rattle.record_shapes.specs.Shapes.{Listed, Shaped};
 use record_layouts::{lists_of, part_at};
 
 // A list of a record: where the tables have the fields of an item, from start up to end, and the bits that they take; how many items it has, and how many numbers these are.
-#[derive(Drop)]
+#[derive(Clone, Copy)]
 pub struct ItemList {
     pub start: usize,
     pub end: usize,
@@ -20,7 +20,7 @@ pub struct ItemList {
 }
 
 // How many fields a record has, and how many bits they take.
-#[derive(Drop)]
+#[derive(Clone, Copy)]
 pub struct Shape {
     pub count: usize,
     pub bits: usize,

@@ -12,7 +12,7 @@ use record_shapes::{head_of, shape_of, size_of};
 
 mod encoding;
 
-#[derive(Drop)]
+#[derive(Clone, Copy)]
 pub struct WriteAnswer {
     pub number: u64,
     pub used: usize,

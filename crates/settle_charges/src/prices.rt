@@ -7,7 +7,7 @@ use settle_table::Work;
 use units::{Nominated, Unforced};
 
 // A listed registration in the table; `off` is its off-peak u.
-#[derive(Drop)]
+#[derive(Clone, Copy)]
 pub struct Line {
     pub seller: usize,
     pub product: u64,

@@ -11,7 +11,7 @@ ghost use Rattle.year.specs.Year.{deficit};
 use units::{Nominated, Unforced};
 use year_cells::Cells;
 
-#[derive(Drop)]
+#[derive(Clone, Copy)]
 pub struct EventEntry {
     pub listed: bool,
     pub reduction: Nominated,

@@ -24,7 +24,7 @@ pub use off_peak::measure;
 pub use shares::share;
 
 // An entry of an event: whether it is listed, its seller, what it is short and what it is over, and its second reduction.
-#[derive(Drop)]
+#[derive(Clone, Copy)]
 pub struct MeasuredEntry {
     pub listed: bool,
     pub seller: usize,
@@ -76,7 +76,7 @@ fn sums(year: &Cells, work: &mut Work, ev: usize)
 }
 
 // What a seller's entries are short and over in an event, and its shortfall from these.
-#[derive(Drop)]
+#[derive(Clone, Copy)]
 pub struct Net {
     pub short: Nominated,
     pub over: Nominated,

@@ -13,7 +13,7 @@ use units::{Nominated, Unforced};
 use year_cells::Cells;
 
 // An entry: whether it is measured, its seller, what it is short off-peak and what it is over.
-#[derive(Drop)]
+#[derive(Clone, Copy)]
 pub struct OffPeakEntry {
     pub measured: bool,
     pub seller: usize,

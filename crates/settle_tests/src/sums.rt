@@ -28,7 +28,7 @@ pub const WORTH: usize = REDUCTION + KEYS;
 
 pub const SUMS_WIDTH: usize = WORTH + KEYS;
 
-#[derive(Drop)]
+#[derive(Clone, Copy)]
 pub struct TestEntry {
     pub listed: bool,
     pub reduction: Nominated,
@@ -77,7 +77,7 @@ fn standing(year: &Cells, work: &Work) -> [bool; REGISTRATIONS]
 }
 
 // What an entry adds to the sums, and where.
-#[derive(Drop)]
+#[derive(Clone, Copy)]
 pub struct Addend {
     pub key: usize,
     pub committed: Nominated,

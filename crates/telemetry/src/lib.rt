@@ -13,14 +13,14 @@ mod answers;
 pub use answers::answer;
 
 // What a gateway delivers: expected and metered load, or one direct reduction from a control switch.
-#[derive(Drop)]
+#[derive(Clone, Copy)]
 pub enum Sample {
     Pair(f32, f32),
     Direct(f32),
 }
 
 // What a sample is answered: the kW of an entry, or why there are none.
-#[derive(Drop)]
+#[derive(Clone, Copy)]
 pub enum Reduced {
     Kw(u64),
     NotCounted,

@@ -6,7 +6,7 @@ ghost use Rattle.std.specs.Float.{binary32};
 ghost use Rattle.telemetry_eighths.specs.Eighths.{counts, eighths_of, Less};
 
 // Expected and metered load, in kW.
-#[derive(Drop)]
+#[derive(Clone, Copy)]
 pub struct Loads {
     pub expected: f32,
     pub metered: f32,

@@ -51,14 +51,14 @@ fn put_month(month: u64, out: &mut [u8], at: usize) -> usize
 }
 
 // The place after text that is put, and the cursor behind what it is read from.
-#[derive(Drop)]
+#[derive(Clone, Copy)]
 struct Place {
     at: usize,
     next: Cursor,
 }
 
 // The line of each party of a sort: its letter, and how many amounts behind the id.
-#[derive(Drop)]
+#[derive(Clone, Copy)]
 struct Sort {
     letter: u8,
     amounts: usize,

@@ -14,7 +14,7 @@ pub use packed_line::pack;
 pub const ROOM: usize = 21 * record_numbers::NUMBERS + 1;
 
 // What printing one record leaves: its number, its bytes, and the place after its line.
-#[derive(Drop)]
+#[derive(Clone, Copy)]
 pub struct Printed {
     pub number: u64,
     pub used: usize,

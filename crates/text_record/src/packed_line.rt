@@ -8,7 +8,7 @@ ghost use Rattle.text_record.specs.Packs.{line_number, line_record};
 const NUMBERS: usize = record_numbers::NUMBERS + 1;
 
 // What packing one line leaves: its number, and the place after its record.
-#[derive(Drop)]
+#[derive(Clone, Copy)]
 pub struct Packed {
     pub number: u64,
     pub at: usize,

@@ -11,7 +11,7 @@ mod output;
 pub use output::{finish, with_room};
 
 // The part of the input buffer that is still to be taken. Ended: no more comes; failed: a read failed.
-#[derive(Drop)]
+#[derive(Clone, Copy)]
 pub struct Window {
     pub start: usize,
     pub end: usize,
@@ -58,7 +58,7 @@ pub fn filled(input: i32, buffer: &mut [u8], window: Window, least: usize) -> Wi
 }
 
 // The window with the next line at its start, and where the line ends.
-#[derive(Drop)]
+#[derive(Clone, Copy)]
 pub struct Line {
     pub window: Window,
     pub end: usize,

@@ -5,7 +5,7 @@ ghost use Rattle.text_stream.specs.Room.{place_for};
 use libc::STDOUT_FILENO;
 
 // The place up to which output is gathered; failed: a write failed.
-#[derive(Drop)]
+#[derive(Clone, Copy)]
 pub struct Gathered {
     pub at: usize,
     pub failed: bool,

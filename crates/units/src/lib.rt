@@ -8,11 +8,11 @@ ghost use Rattle.limits.specs.Limits.{registrations, nominated_limit, unforced_l
 use limits::{NOMINATED_KW, REGISTRATIONS, UNFORCED_KW};
 
 // Kilowatts as nominated.
-#[derive(Drop)]
+#[derive(Clone, Copy)]
 pub struct Nominated(pub u64);
 
 // Unforced kilowatts: nominated ones times the DR Factor and the Forecast Pool Requirement.
-#[derive(Drop)]
+#[derive(Clone, Copy)]
 pub struct Unforced(pub u64);
 
 impl Nominated {

@@ -9,7 +9,7 @@ use limits::{EVENT_LIMIT, LSES, PRODUCTS, REGISTRATIONS, SELLERS, TEST_GROUPS};
 use units::Nominated;
 
 // A registration; one that is not known holds zeros.
-#[derive(Drop)]
+#[derive(Clone, Copy)]
 pub struct Registration {
     pub known: bool,
     pub seller: u64,
@@ -21,7 +21,7 @@ pub struct Registration {
 }
 
 // What a registration's clearings come to: how many, the sum of price × kW, and of kW.
-#[derive(Drop)]
+#[derive(Clone, Copy)]
 pub struct Clearings {
     pub count: u64,
     pub value: u64,
@@ -30,7 +30,7 @@ pub struct Clearings {
 
 // What an event or a test lists: entries by registration, the second reduction of those that have two (0: of one); deficits by
 // seller (0: absent).
-#[derive(Drop)]
+#[derive(Clone, Copy)]
 pub struct Listing {
     pub listed: [bool; REGISTRATIONS],
     pub reductions: [u32; REGISTRATIONS],
@@ -39,7 +39,7 @@ pub struct Listing {
 }
 
 // `dual`: an entry has two figures, and off-peak is measured by the second.
-#[derive(Drop)]
+#[derive(Clone, Copy)]
 pub struct Event {
     pub area: u64,
     pub month: u64,
@@ -49,7 +49,7 @@ pub struct Event {
 }
 
 // The test of a group, a zone and product; one that was not taken lists nothing.
-#[derive(Drop)]
+#[derive(Clone, Copy)]
 pub struct Test {
     pub taken: bool,
     pub month: u64,
@@ -57,14 +57,14 @@ pub struct Test {
 }
 
 // A registration's retest: the reduction that stands for its test's. One that has none holds zeros.
-#[derive(Drop)]
+#[derive(Clone, Copy)]
 pub struct Retest {
     pub taken: bool,
     pub reduction: u64,
 }
 
 // What no event, test or close changes. An obligation of 0 is an LSE that is not known.
-#[derive(Drop)]
+#[derive(Clone, Copy)]
 pub struct Terms {
     pub leap: u64,
     pub factor: u64,
@@ -74,7 +74,7 @@ pub struct Terms {
 }
 
 // Amounts to date in cents: three of each seller, and one of each LSE.
-#[derive(Drop)]
+#[derive(Clone, Copy)]
 pub struct Amounts {
     pub compliance: [u64; SELLERS],
     pub test: [u64; SELLERS],
@@ -85,7 +85,7 @@ pub struct Amounts {
 // `started`: an event, test or close is accepted. `closed` counts the closes, `accepted` the events. What clearings come to and retests stand
 // by registration, events in order of acceptance, and the test of zone z and product p at 3 z + p, as it was recorded.
 // `billed` holds the amounts to date at the last close.
-#[derive(Drop)]
+#[derive(Clone, Copy)]
 pub struct Year {
     pub opened: bool,
     pub started: bool,

@@ -1,0 +1,19 @@
+-- With i fields cut out of the word, they are laid over out from its place on, and the cursor in the word stands behind them.
+use mathlib.Core.List.{List}
+use mathlib.Core.Path.{◌≡◌, refl, ap, ◌∙◌}
+use Prim.Native.Nat.{ℕ, ◌+◌, ◌-◌, ◌*◌, ◌/◌, ◌%◌, ◌≤◌, ◌<◌}
+use native.Mathlib.Omega.{arith}
+use lib.ListN.{length, get_or, take, length-set}
+use lib.Seq.{take-length}
+use Rattle.bits.specs.Bits.{field_at}
+use Rattle.bits.specs.Table.{total, fields_at, laid}
+use Rattle.bits.specs.TableLaws.{width-in, total-in, total-more, fields-left, no-field-left, laid_none, out-more}
+use Rattle.bits.specs.Shifts.{middle}
+use Rattle.bits_read.proofs.Cursor.read_fields.Given as goal
+
+abbrev pub invariant-loop-c : goal.invariant-loop-c
+invariant-loop-c l =
+    (l.i ≤ length l.ws) × (l.c.at ≡ l.initial.c.at + total (take l.i l.ws)) × (length l.out ≡ length l.initial.out) × (l.out ≡ laid l.to (fields_at l.bytes (8 * l.first + l.initial.c.at) (take l.i l.ws)) l.initial.out)
+
+abbrev pub decreases-loop-c : goal.decreases-loop-c
+decreases-loop-c l = length l.ws - l.i

@@ -1,0 +1,20 @@
+-- With k items read, their fields are laid over out from its place on, and the cursor stands behind them.
+use mathlib.Core.Path.{◌≡◌, refl, ap, ◌∙◌}
+use Prim.Native.Nat.{◌+◌, ◌-◌, ◌≤◌}
+use native.Mathlib.Omega.{arith}
+use lib.ListN.{length}
+use Rattle.bits.specs.Table.{total, times, fields_at, laid}
+use Rattle.bits.specs.TableLaws.{length_fields, laid_none, length-laid}
+use Rattle.bits.specs.ItemLaws.{length-item, length_more, total-more-item, fit-item, out-item}
+use Rattle.bits_read.proofs.Cursor.read_items.Given as goal
+
+abbrev pub invariant-loop-k : goal.invariant-loop-k
+invariant-loop-k l =
+    (l.k ≤ l.items.count)
+    × (l.c.at ≡ l.initial.c.at + total (times l.k l.ws))
+    × (l.at ≡ l.to + length (times l.k l.ws))
+    × (length l.out ≡ length l.initial.out)
+    × (l.out ≡ laid l.to (fields_at l.bytes l.initial.c.at (times l.k l.ws)) l.initial.out)
+
+abbrev pub decreases-loop-k : goal.decreases-loop-k
+decreases-loop-k l = l.items.count - l.k

@@ -1,0 +1,17 @@
+-- The window stays within the input buffer, and a line's room free in the output buffer.
+use mathlib.Core.Path.{◌≡◌}
+use Prim.Native.Nat.{◌+◌, ◌-◌, ◌^◌, ◌≤◌}
+use native.Mathlib.Omega.{arith}
+use lib.ListN.{length, take, drop, length-drop}
+use lib.Seq.{length-take-le}
+use borrow.Author.Rules.{rules}
+use Rattle.text_record.specs.Line.{line_room}
+use Rattle.record_layouts.specs.QuestionLaws.{consumed-within}
+use Rattle.dump.proofs.dump.Given as goal
+
+abbrev pub invariant-loop-position : goal.invariant-loop-position
+invariant-loop-position l =
+    (length l.buffer ≡ length l.initial.buffer) × (length l.out ≡ length l.initial.out) × (l.window.start ≤ l.window.end) × (l.window.end ≤ length l.buffer) × (l.at + line_room ≤ length l.out)
+
+abbrev pub decreases-loop-position : goal.decreases-loop-position
+decreases-loop-position l = 2 ^ 64 - l.position

@@ -1,0 +1,23 @@
+-- `question_retest::in_time` meets its contract. Assumes nothing.
+use borrow.Author.Rules.{rules}
+use mathlib.Core.Path.{sym}
+use Rattle.question_list.specs.Answers.{yes, no}
+use Rattle.year_tested.proofs.test_month.Reads as test-month-reads
+use Rattle.year_tested.proofs.test_taken.Reads as test-taken-reads
+use Rattle.question_list.proofs.may_test.Reads as may-test-reads
+use Rattle.year.proofs.group_of.Reads as group-of-reads
+use Rattle.question_retest.proofs.in_time.Goals as goal
+
+pub returns-then-not-may_test : goal.returns-then-not-may_test
+returns-then-not-may_test c = rw (no c.may_test.ensures c.if-not-may_test.true-raw)
+
+pub returns-then-not-test_taken : goal.returns-then-not-test_taken
+returns-then-not-test_taken c =
+    let taken = rw c.group_of-group.ensures at c.test_taken.ensures in
+    rw (yes c.may_test.ensures c.if-not-may_test.false-raw, no taken c.if-not-test_taken.true-raw)
+
+pub returns : goal.returns
+returns c =
+    let group = c.group_of-group.ensures in
+    let taken = rw group at c.test_taken.ensures in
+    rw (yes c.may_test.ensures c.if-not-may_test.false-raw, yes taken c.if-not-test_taken.false-raw, sym (rw group at c.test_month.ensures))

@@ -1,0 +1,20 @@
+-- Every field passed is within its limits in each item; the first that is not settles the question.
+use mathlib.Core.Bool.{true}
+use mathlib.Core.Path.{◌≡◌, refl, sym, subst, ◌∙◌}
+use Prim.Native.Nat.{ℕ, ◌+◌, ◌-◌, ◌≤◌, ◌<◌}
+use borrow.Author.Rules.{rules}
+use borrow.Author.Tests.{not-true, not-false}
+use native.Mathlib.Omega.{arith}
+use lib.ListN.{length}
+use Rattle.ids.specs.Ids.{at, all_to}
+use Rattle.ids.specs.Tests.{all_more, all-fails}
+use Rattle.bits.specs.TableLaws.{width-in}
+use Rattle.record_layouts.specs.Parts.{column_within, items_within, ColumnFits}
+use Rattle.record_checks.proofs.limits.items_within.Given as goal
+
+abbrev pub invariant-loop-j : goal.invariant-loop-j
+invariant-loop-j l =
+    (l.j ≤ length l.lows) × (all_to l.j (λ i. column_within (at l.lows i) (at l.highs i) l.values (l.row.from + i) (length l.lows) l.row.n) ≡ true)
+
+abbrev pub decreases-loop-j : goal.decreases-loop-j
+decreases-loop-j l = length l.lows - l.j

@@ -1,0 +1,18 @@
+-- Every pair of ids passed rises; the first that does not settles the question.
+use mathlib.Core.Bool.{true}
+use mathlib.Core.Path.{◌≡◌, refl, sym}
+use Prim.Native.Nat.{ℕ, ◌+◌, ◌-◌, ◌*◌, ◌≤◌, ◌<◌}
+use borrow.Author.Tests.{lt-ltb, le-ltb}
+use native.Mathlib.Nat.{mul-le-mul_right}
+use lib.Dec.{ltb}
+use Rattle.ids.specs.Ids.{at, all_to}
+use Rattle.ids.specs.Tests.{all_more, all-fails}
+use Rattle.record_layouts.specs.Questions.{rises}
+use native.Mathlib.Omega.{arith}
+use Rattle.record_checks.proofs.rising.Given as goal
+
+abbrev pub invariant-loop-k : goal.invariant-loop-k
+invariant-loop-k l = (1 ≤ l.k) × (l.k ≤ l.n) × (l.p ≡ l.from + l.fields * (l.k - 1)) × (all_to (l.k - 1) (λ i. ltb (at l.values (l.from + l.fields * i)) (at l.values (l.from + l.fields * (i + 1)))) ≡ true)
+
+abbrev pub decreases-loop-k : goal.decreases-loop-k
+decreases-loop-k l = l.n - l.k

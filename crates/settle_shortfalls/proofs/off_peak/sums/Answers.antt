@@ -1,0 +1,51 @@
+-- `settle_shortfalls::off_peak::sums` meets its contract. The loop's invariant: the entries before i are added up. Assumes nothing.
+use Prim.Native.Nat.{◌+◌, ◌-◌}
+use mathlib.Core.Path.{ap, sym, ◌∙◌}
+use mathlib.Core.Logic.{⊎_elim}
+use native.Mathlib.Omega.{arith}
+use Rattle.limits.specs.Limits.{registrations}
+use Rattle.settle_facts.specs.CellFacts.{facts}
+use Rattle.owed_laws.specs.Limits.{limits}
+use Rattle.settle_table.specs.Places.{off_over_row}
+use Rattle.settle_shortfalls.specs.Sums.{short-room, over-room}
+use Rattle.settle_shortfalls.specs.declared.off_peak.OffPeakEntry.{OffPeakEntry}
+use Rattle.settle_shortfalls.specs.OffPeak.{Weighing, weighing-first, weighing-none, weighing-more, weighing-all, second-small}
+use Rattle.settle_shortfalls.proofs.off_peak.sums.Goals as goal
+
+pub add_at-requires : goal.add_at-requires
+add_at-requires c =
+    let l = c.loop-i in
+    let s = c in
+    let L = limits s.requires.valid_cells.sound in
+    let b = L.seller l.i in
+    rw c.entry_at-x.ensures (omega (arith, b, l.invariant.entries.columns.long), omega (arith, L.committed l.i, short-room l.invariant.sums L l.invariant.upto _ b))
+
+pub add_at-requires-then-x : goal.add_at-requires-then-x
+add_at-requires-then-x c =
+    let l = c.loop-i in
+    let s = c in
+    let L = limits s.requires.valid_cells.sound in
+    let b = L.seller l.i in
+    let e = c.entry_at-x.ensures in
+    let d = rw e at c.add_at.ensures in
+    let kept = d.others (off_over_row + (facts s.args.year.now).seller l.i) (λ z. omega (arith, b)) in
+    rw e (omega (arith, b, d.long, l.invariant.entries.columns.long), omega (arith, second-small L s.args.ev l.i, kept, over-room l.invariant.sums L l.invariant.upto _ b (L.off_peak s.args.ev)))
+
+pub loop-i-preserved : goal.loop-i-preserved
+loop-i-preserved c =
+    let l = c.loop-i in
+    let e = c.entry_at-x.ensures in
+    let measured = sym (ap (λ (x : OffPeakEntry). x.decreases) e) in
+    ⊎_elim
+    (λ a. rw a.5 (weighing-more l.invariant (omega arith) (measured ∙ a.0.taken) ((limits c.requires.valid_cells.sound).seller l.i) (rw e at a.2.ensures) (rw e at a.4.ensures)))
+    (λ a. rw a.1 (weighing-none l.invariant (omega arith) (measured ∙ a.0.left)))
+    c.if-x.branch
+
+pub returns : goal.returns
+returns c = let v = c.loop-i.invariant in record { weighed = weighing-all v (omega (arith, v.upto)); aside = v.aside }
+
+pub loop-i-init : goal.loop-i-init
+loop-i-init c = weighing-first c.args.ev c.requires.entries c.requires.row
+
+pub entry_at-x-requires : goal.entry_at-x-requires
+entry_at-x-requires c = record { valid_cells = c.requires.valid_cells; ev_lt_event_limit = (c.requires.ev_lt_event_limit, omega arith); entries = c.loop-i.invariant.entries }

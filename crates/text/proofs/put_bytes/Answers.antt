@@ -1,0 +1,42 @@
+-- After each turn the digits of the bytes so far stand in the buffer.
+use mathlib.Core.Path.{◌≡◌}
+use Prim.Native.Nat.{◌+◌, ◌-◌, ◌*◌, ◌≤◌}
+use native.Mathlib.Omega.{arith}
+use lib.ListN.{length, take}
+use lib.Seq.{take-length}
+use Rattle.text.specs.Lines.{each, hex_of}
+use Rattle.text.specs.Pasted.{Pasted, pasted_length, none, then}
+use Rattle.text.specs.LineLaws.{each_step, no_bytes, some_bytes}
+use borrow.Author.Rules.{rules}
+use Rattle.text.proofs.put_bytes.Goals as goal
+
+pub returns-then-bytes-eq0 : goal.returns-then-bytes-eq0
+returns-then-bytes-eq0 c =
+    let put = c.put_byte.ensures in record { pasted = rw (no_bytes c.args.bytes.now c.if-bytes-eq0.true) put; upper_bound = omega (arith, put.next) }
+
+pub loop-i-init : goal.loop-i-init
+unfolding each
+loop-i-init c =
+    let a = c.args in
+    (omega arith, none a.out.now a.at (omega arith), omega arith)
+
+pub put_hexadecimal-p-requires : goal.put_hexadecimal-p-requires
+put_hexadecimal-p-requires c =
+    let same = pasted_length c.loop-i.invariant.1 in
+    omega arith
+
+pub loop-i-preserved : goal.loop-i-preserved
+loop-i-preserved c =
+    let bytes = c.args.bytes.now in
+    let l = c.loop-i in
+    let put = c.put_hexadecimal-p.ensures in
+    (omega arith, rw (each_step hex_of bytes l.i (omega arith)) (then l.invariant.1 put), omega (arith, put.next))
+
+pub shape_of-out : goal.shape_of-out
+shape_of-out c = pasted_length c.loop-i.invariant.1
+
+pub returns : goal.returns
+returns c =
+    let bytes = c.args.bytes.now in
+    let l = c.loop-i in
+    let all : l.i ≡ length bytes = omega arith in record { pasted = rw (some_bytes bytes (omega arith)) (rw (all, take-length bytes) at l.invariant.1); upper_bound = omega arith }

@@ -1,0 +1,23 @@
+-- With n words passed, the front of out holds their numbers, and those of the rest of the line are left.
+use Prim.Native.Nat.{◌-◌, ◌≤◌, ◌<◌}
+use mathlib.Core.Bool.{false}
+use mathlib.Core.List.{[], ◌++◌, map}
+use mathlib.Core.Path.{◌≡◌, refl, ap, ◌∙◌}
+use native.Mathlib.Numerals.{add-one}
+use native.Mathlib.Omega.{arith}
+use lib.ListN.{length, get_or, take, drop, length-set, length-drop, drop_of_length-le}
+use lib.Seq.{length-take-le}
+use borrow.Author.Rules.{rules}
+use Rattle.text.specs.Words.{separates, closed, words_from, spelled, numbers}
+use Rattle.text.proofs.Digits.{front-more}
+use Rattle.text.proofs.Words.{numbers-next, next-number}
+use Rattle.text.proofs.scan.decimals.Given as goal
+
+abbrev pub invariant-loop-n : goal.invariant-loop-n
+invariant-loop-n l =
+    ((l.n ≤ length l.out) × (length l.out ≡ length l.initial.out) × (l.at ≤ length l.line))
+    × ((l.at < length l.line → separates (get_or l.line l.at 0) ≡ false) × (l.n ≤ length (numbers l.line)))
+    × ((drop l.n (numbers l.line) ≡ numbers (drop l.at l.line)) × (l.out ≡ take l.n (numbers l.line) ++ drop l.n l.initial.out))
+
+abbrev pub decreases-loop-n : goal.decreases-loop-n
+decreases-loop-n l = length l.initial.out - l.n

@@ -1,0 +1,11 @@
+-- `year_cells::clearings_at` meets its contract: the numbers of its row. Assumes nothing.
+use borrow.Author.Rules.{rules}
+use mathlib.Core.Path.{sym}
+use Rattle.year.specs.Year.{no_clearings}
+use Rattle.year_cells.specs.Regions.{clearings-in}
+use Rattle.year_cells.proofs.clearings_at.Goals as goal
+
+pub returns : goal.returns
+returns c =
+    let s = c in
+    sym (clearings-in s.args.year.now no_clearings s.requires)

@@ -1,0 +1,8 @@
+-- `year_cells::listed_in` meets its contract: the mark in the event's row. Assumes nothing.
+use borrow.Author.Rules.{rules}
+use mathlib.Core.Path.{sym}
+use Rattle.year_cells.specs.Regions.{listed_in}
+use Rattle.year_cells.proofs.listed_in.Goals as goal
+
+pub returns : goal.returns
+returns c = let s = c in sym (listed_in s.args.year.now s.requires.e_lt_event_limit s.requires.i_lt_registrations)

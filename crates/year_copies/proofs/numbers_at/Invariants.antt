@@ -1,0 +1,15 @@
+-- `year_copies::numbers_at` meets its contract. The loop's invariant: the first i places are filled. Assumes nothing.
+use Prim.Native.Nat.{ℕ, ◌-◌}
+use mathlib.Core.Path.{refl}
+use native.Mathlib.Omega.{arith}
+use lib.ListN.{length-replicate}
+use Rattle.ids.specs.Fill.{Filled, filled_none, filled_more, filled-all}
+use Rattle.limits.specs.Limits.{parties}
+use Rattle.year_cells.specs.Rows.{from}
+use Rattle.year_copies.proofs.numbers_at.Given as goal
+
+abbrev pub invariant-loop-i : goal.invariant-loop-i
+invariant-loop-i l = Filled 0 parties (from l.p l.cells) l.numbers l.i
+
+abbrev pub decreases-loop-i : goal.decreases-loop-i
+decreases-loop-i l = parties - l.i

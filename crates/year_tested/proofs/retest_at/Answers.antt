@@ -1,0 +1,11 @@
+-- `year_tested::retest_at` meets its contract: the mark and the reduction of its entry. Assumes nothing.
+use borrow.Author.Rules.{rules}
+use mathlib.Core.Path.{sym}
+use Rattle.year.specs.Year.{no_retest}
+use Rattle.year_cells.specs.Regions.{retest-in}
+use Rattle.year_tested.proofs.retest_at.Goals as goal
+
+pub returns : goal.returns
+returns c =
+    let s = c in
+    sym (retest-in s.args.year.now no_retest s.requires)

@@ -1,0 +1,10 @@
+-- `year_tested::test_month` meets its contract: the month in the group's row. Assumes nothing.
+use borrow.Author.Rules.{rules}
+use mathlib.Core.Path.{ap, sym}
+use Rattle.year.specs.Year.{no_test}
+use Rattle.year.specs.declared.Test.{Test}
+use Rattle.year_cells.specs.Regions.{test_in}
+use Rattle.year_tested.proofs.test_month.Goals as goal
+
+pub returns : goal.returns
+returns c = sym (ap (λ (t : Test). t.month) (test_in c.args.year.now no_test c.requires))
