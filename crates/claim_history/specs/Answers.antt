@@ -34,7 +34,7 @@ split y (c ∷ cs) (b ∷ bs) x after e =
     let rest : answers (step y c) cs ≡ bs ++ x ∷ after = cc in
     let first : shown y c ≡ b = cc in
     let s = split (step y c) cs bs x after rest in
-    record { earlier = c ∷ s.earlier; own = s.own; before-is = cc s.before-is; own_is = s.own-is }
+    record { earlier = c ∷ s.earlier; own = s.own; before-is = cc s.before-is; own_is = s.own_is }
 
 -- no question reads what is billed, or the rows behind the events
 same-questions : (rs : List Record) (r : Record) (room : ℕ) → questions month_begun (booked rs) r room ≡ questions month_begun (recorded rs) r room

@@ -152,11 +152,11 @@ module _ {y : Year} (k : StepInvariants y) (c : Call) where
 pub kept_run : {y : Year} → StepInvariants y → (cs : List Call) → StepInvariants (run y cs)
 unfolding run
 kept_run h [] = h
-kept_run h (c ∷ cs) = kept_run (kept_step h c) cs
+kept_run {y = y} h (c ∷ cs) = kept_run {y = step y c} (kept_step h c) cs
 
 pub frozen : {y : Year} → StepInvariants y → y.started ≡ true → (cs : List Call) → (run y cs).terms ≡ y.terms
 unfolding run
 frozen k t [] = refl
-frozen k t (c ∷ cs) =
+frozen {y = y} k t (c ∷ cs) =
     let m = frozen-step k c t in
-    frozen (kept_step k c) m.0 cs ∙ m.1
+    frozen {y = step y c} (kept_step k c) m.0 cs ∙ m.1

@@ -1,7 +1,7 @@
 -- The statements of a list of calls add up, in each column, to what is billed in the end.
 use Rattle.std.specs.Prelude.{ℕ, Bool, true, false, List, [], ◌∷◌, ◌++◌, ◌≡◌, refl, ℤ, pos, ◌+ℤ◌, ◌-ℤ◌}
 use Rattle.std.proofs.Common.{ap, sym, ◌∙◌}
-use Rattle.std.proofs.Math.IntN.{-ℤ-+ℤ_cancel, +ℤ_idl, +ℤ_assoc, +ℤ_comm}
+use Rattle.std.proofs.Math.IntN.{+ℤ_idl, -ℤ-+ℤ_cancel, +ℤ_assoc, +ℤ_comm}
 use Rattle.ids.specs.Ids.{at}
 use Rattle.year.specs.declared.Year.{Year}
 use Rattle.book_recorded.specs.Recorded.{gather, alone}
@@ -23,7 +23,7 @@ pub telescopes : (c : Column) (i : ℕ) {y : Year} → StepInvariants y → (cs 
     → so_far (λ x. line_in c x i) (statements (answers y cs)) +ℤ pos (at (column c y.billed) i) ≡ pos (at (column c (run y cs).billed) i)
 unfolding run answered gather so_far
 telescopes c i {y} h [] p = +ℤ_idl (pos (at (column c y.billed) i))
-telescopes c i {y} h (d ∷ cs) p = go (closes y d) refl (telescopes c i (kept_step h d) cs p)
+telescopes c i {y} h (d ∷ cs) p = go (closes y d) refl (telescopes c i {y = step y d} (kept_step h d) cs p)
   where
     go : (b : Bool) → closes y d ≡ b
         → so_far (λ x. line_in c x i) (statements (answers (step y d) cs)) +ℤ pos (at (column c (step y d).billed) i) ≡ pos (at (column c (run (step y d) cs).billed) i)
