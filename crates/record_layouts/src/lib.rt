@@ -227,6 +227,7 @@ pub fn highs_of_parts() -> [u32; 59]
 }
 
 // The first part of a kind; past the last kind, the end of the parts.
+#[tactic(auto, unfolding(crate::specs::Parts::start_of, crate::specs::Parts::kinds))]
 fn first_of(kind: usize) -> usize
     requires { kind ≤ length layouts }
     ensures { result ≡ start_of kinds kind }
@@ -268,6 +269,7 @@ fn row(start: usize, end: usize, bits: usize, count: usize, reduction: usize, se
 }
 
 // The parts in order. A match, not a table: the compiler keeps its rows as constants, where it would make a table anew at each look.
+#[tactic(auto, unfolding(crate::specs::Parts::join, crate::specs::Parts::start_of, crate::specs::Parts::kinds, crate::specs::Parts::parts, crate::specs::Parts::fields_in))]
 fn row_at(part: usize) -> Part
     requires { part < length parts }
     ensures { result ≡ row_at part }

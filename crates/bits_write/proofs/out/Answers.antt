@@ -1,9 +1,9 @@
 -- With i bytes out, the lowest of the word's are left.
 use mathlib.Core.Path.{◌≡◌}
-use Prim.Native.Nat.{◌+◌, ◌-◌, ◌*◌, ◌/◌, ◌%◌, ◌^◌, ◌≤◌}
+use Prim.Native.Nat.{◌+◌, ◌-◌, ◌*◌, ◌/◌, ◌%◌, ◌^◌}
 use native.Mathlib.Omega.{arith}
 use lib.Bits.{bit_and, and_mask, mask_lt}
-use Rattle.bits_write.proofs.Outgoing.{Going, out_none, out-more}
+use Rattle.bits_write.proofs.Outgoing.{out_none, out-more}
 use Rattle.bits_write.proofs.out.Goals as goal
 
 pub loop-i-init : goal.loop-i-init

@@ -1,9 +1,6 @@
 -- With i bytes out, the lowest of the word's are left.
-use mathlib.Core.Path.{◌≡◌}
-use Prim.Native.Nat.{◌+◌, ◌-◌, ◌*◌, ◌/◌, ◌%◌, ◌^◌, ◌≤◌}
-use native.Mathlib.Omega.{arith}
-use lib.Bits.{bit_and, and_mask, mask_lt}
-use Rattle.bits_write.proofs.Outgoing.{Going, out_none, out-more}
+use Prim.Native.Nat.{◌+◌, ◌-◌, ◌*◌, ◌≤◌}
+use Rattle.bits_write.proofs.Outgoing.{Going}
 use Rattle.bits_write.proofs.out.Given as goal
 
 abbrev pub invariant-loop-i : goal.invariant-loop-i

@@ -6,7 +6,6 @@ use lib.ListN.{length}
 use Rattle.record_layouts.specs.Layout.{head}
 use Rattle.record_layouts.specs.Questions.{is_kind}
 use Rattle.record_layouts.specs.QuestionLaws.{not-kind}
-use borrow.Author.Rules.{rules}
 use native.Mathlib.Omega.{arith}
 use Rattle.record_checks.proofs.is_kind.Goals as goal
 

@@ -1,8 +1,6 @@
 -- In every list passed the ids rise; the first where they do not settles the question.
-use mathlib.Core.Bool.{true}
 use mathlib.Core.Path.{◌≡◌, refl, sym, ◌∙◌}
-use Prim.Native.Nat.{◌-◌, ◌≤◌, ◌<◌}
-use borrow.Author.Tests.{not-true, not-false}
+use Prim.Native.Nat.{◌-◌, ◌<◌}
 use lib.ListN.{length}
 use Rattle.ids.specs.Ids.{all_to}
 use Rattle.ids.specs.Tests.{all_more, all-fails}
@@ -30,7 +28,11 @@ rising-requires c =
     let l = c.loop-i in
     let h = c.list_at-list.ensures in
     let inside : l.i < length (lists k) = omega (arith, c.lists_of-n.ensures, c.loop-i-test.true) in
-    let one : c.list_at-list.result.end - c.list_at-list.result.start ≡ length (list_at k l.i).fields = omega (arith, h.long) in record { le_fields = rw (one, h.items) (item-some k l.i inside); fields_in_bounds = rw (one, h.items) (omega (arith, l.invariant.1, s.requires.values_in_bounds, stated-list s.requires.stated inside)) }
+    let one : c.list_at-list.result.end - c.list_at-list.result.start ≡ length (list_at k l.i).fields = omega (arith, h.long) in
+    record {
+      le_fields = rw one (item-some k l.i inside);
+      fields_in_bounds = rw (one, h.items) (omega (arith, l.invariant.1, s.requires.values_in_bounds, stated-list s.requires.stated inside));
+    }
 
 pub returns-then-not-rising : goal.returns-then-not-rising
 returns-then-not-rising c =

@@ -1,15 +1,11 @@
 -- In every list passed the ids rise; the first where they do not settles the question.
 use mathlib.Core.Bool.{true}
-use mathlib.Core.Path.{◌≡◌, refl, sym, ◌∙◌}
-use Prim.Native.Nat.{◌-◌, ◌≤◌, ◌<◌}
-use borrow.Author.Tests.{not-true, not-false}
+use mathlib.Core.Path.{◌≡◌}
+use Prim.Native.Nat.{◌-◌, ◌≤◌}
 use lib.ListN.{length}
 use Rattle.ids.specs.Ids.{all_to}
-use Rattle.ids.specs.Tests.{all_more, all-fails}
 use Rattle.record_layouts.specs.Layout.{lists, list_at, items_in, rules_to, place_of}
 use Rattle.record_layouts.specs.Questions.{rises}
-use Rattle.record_layouts.specs.ListLaws.{ids-rise, length-list, item-some, stated-list, stated-count}
-use native.Mathlib.Omega.{arith}
 use Rattle.record_checks.proofs.lists_rise.Given as goal
 
 abbrev pub invariant-loop-i : goal.invariant-loop-i

@@ -1,14 +1,9 @@
 -- Every pair of ids passed rises; the first that does not settles the question.
 use mathlib.Core.Bool.{true}
-use mathlib.Core.Path.{◌≡◌, refl, sym}
-use Prim.Native.Nat.{ℕ, ◌+◌, ◌-◌, ◌*◌, ◌≤◌, ◌<◌}
-use borrow.Author.Tests.{lt-ltb, le-ltb}
-use native.Mathlib.Nat.{mul-le-mul_right}
+use mathlib.Core.Path.{◌≡◌}
+use Prim.Native.Nat.{◌+◌, ◌-◌, ◌*◌, ◌≤◌}
 use lib.Dec.{ltb}
 use Rattle.ids.specs.Ids.{at, all_to}
-use Rattle.ids.specs.Tests.{all_more, all-fails}
-use Rattle.record_layouts.specs.Questions.{rises}
-use native.Mathlib.Omega.{arith}
 use Rattle.record_checks.proofs.rising.Given as goal
 
 abbrev pub invariant-loop-k : goal.invariant-loop-k

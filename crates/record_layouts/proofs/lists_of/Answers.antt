@@ -1,5 +1,4 @@
 -- A kind's parts are its head and its lists.
-use borrow.Author.Rules.{rules}
 use native.Mathlib.Omega.{arith}
 use Rattle.record_layouts.specs.PartLaws.{first_next}
 use Rattle.record_layouts.proofs.lists_of.Goals as goal

@@ -1,5 +1,4 @@
 -- The parts of a kind stand in a row.
-use borrow.Author.Rules.{rules}
 use native.Mathlib.Omega.{arith}
 use Rattle.record_layouts.specs.Parts.{join, kinds, parts}
 use Rattle.record_layouts.specs.PartLaws.{part_in, placed}

@@ -7,7 +7,6 @@ use Rattle.record_layouts.specs.Layout.{head, list_at, items_in}
 use Rattle.record_layouts.specs.LayoutLaws.{head_small, lists-few, count-in, items-count}
 use Rattle.record_layouts.specs.ListLaws.{stated-count, stated-list}
 use native.Mathlib.Numerals.{add-one}
-use borrow.Author.Rules.{rules}
 use native.Mathlib.Omega.{arith}
 use Rattle.record_shapes.proofs.list_at.Goals as goal
 use Rattle.record_shapes.proofs.list_at.Goals.{After-part_at-part}

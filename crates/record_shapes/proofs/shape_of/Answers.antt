@@ -1,9 +1,8 @@
 -- With i lists passed, the numbers and bits before list i.
 use mathlib.Core.Path.{◌≡◌}
-use Prim.Native.Nat.{◌-◌, ◌≤◌, ◌<◌}
+use Prim.Native.Nat.{◌<◌}
 use lib.ListN.{length}
-use Rattle.bits.specs.Table.{total}
-use Rattle.record_layouts.specs.Layout.{lists, rules_to, rules_for, widths}
+use Rattle.record_layouts.specs.Layout.{lists, rules_to, rules_for}
 use Rattle.record_layouts.specs.ListLaws.{length-list, total-list, stated-list, stated-count}
 use native.Mathlib.Omega.{arith}
 use Rattle.record_shapes.proofs.shape_of.Goals as goal

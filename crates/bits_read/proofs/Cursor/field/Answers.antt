@@ -1,6 +1,5 @@
 -- The value is handed on, and the cursor moves by its width.
 use mathlib.Core.Path.{refl}
-use borrow.Author.Rules.{rules}
 use Rattle.bits_read.proofs.Cursor.field.Goals as goal
 
 pub returns : goal.returns

@@ -1,7 +1,6 @@
 -- The bits of the field lie in the middle of the word of the eight bytes from its first on.
 use mathlib.Core.Path.{◌≡◌, ap, ◌∙◌}
 use Prim.Native.Nat.{ℕ, ◌+◌, ◌*◌, ◌/◌, ◌%◌}
-use borrow.Author.Rules.{rules}
 use native.Mathlib.Omega.{arith}
 use Rattle.bits.specs.Bits.{field_at}
 use Rattle.bits.specs.Shifts.{middle}

@@ -1,12 +1,12 @@
 -- With i fields cut out of the word, they are laid over out from its place on, and the cursor in the word stands behind them.
 use mathlib.Core.List.{List}
 use mathlib.Core.Path.{◌≡◌, refl, ap, ◌∙◌}
-use Prim.Native.Nat.{ℕ, ◌+◌, ◌-◌, ◌*◌, ◌/◌, ◌%◌, ◌≤◌, ◌<◌}
+use Prim.Native.Nat.{ℕ, ◌+◌, ◌*◌, ◌/◌, ◌%◌, ◌≤◌, ◌<◌}
 use native.Mathlib.Omega.{arith}
 use lib.ListN.{length, get_or, take, length-set}
 use lib.Seq.{take-length}
 use Rattle.bits.specs.Bits.{field_at}
-use Rattle.bits.specs.Table.{total, fields_at, laid}
+use Rattle.bits.specs.Table.{total}
 use Rattle.bits.specs.TableLaws.{width-in, total-in, total-more, fields-left, no-field-left, laid_none, out-more}
 use Rattle.bits.specs.Shifts.{middle}
 use Rattle.bits_read.proofs.Cursor.read_fields.Goals as goal
@@ -75,15 +75,3 @@ returns c =
     let l = c.loop-c in
     let here : 8 * (s.args.self.at / 8) + s.args.self.at % 8 ≡ s.args.self.at = omega arith in
     let n : l.i ≡ length ws = no-field-left ws l.i s.requires.in_word.narrows l.invariant.0 (omega (arith, l.invariant.1, c.loop-c-test.false, s.requires.bits_value)) in record { at_value = omega (arith, here, rw (n, take-length) at l.invariant.1); out_after = rw (n, take-length, here) at l.invariant.3 }
-
-pub overflow_add-out : goal.overflow_add-out
-overflow_add-out c = omega (arith, slice-write-out c)
-
-pub offset_bounds-out-to : goal.offset_bounds-out-to
-offset_bounds-out-to c = omega (arith, slice-write-out c)
-
-pub overflow_add-i : goal.overflow_add-i
-overflow_add-i c = omega (arith, slice-write-out c)
-
-pub loop-c-smaller : goal.loop-c-smaller
-loop-c-smaller c = omega (arith, (loop-again c).0)

@@ -1,14 +1,8 @@
 -- With i fields cut out of the word, they are laid over out from its place on, and the cursor in the word stands behind them.
-use mathlib.Core.List.{List}
-use mathlib.Core.Path.{◌≡◌, refl, ap, ◌∙◌}
-use Prim.Native.Nat.{ℕ, ◌+◌, ◌-◌, ◌*◌, ◌/◌, ◌%◌, ◌≤◌, ◌<◌}
-use native.Mathlib.Omega.{arith}
-use lib.ListN.{length, get_or, take, length-set}
-use lib.Seq.{take-length}
-use Rattle.bits.specs.Bits.{field_at}
+use mathlib.Core.Path.{◌≡◌}
+use Prim.Native.Nat.{◌+◌, ◌-◌, ◌*◌, ◌≤◌}
+use lib.ListN.{length, take}
 use Rattle.bits.specs.Table.{total, fields_at, laid}
-use Rattle.bits.specs.TableLaws.{width-in, total-in, total-more, fields-left, no-field-left, laid_none, out-more}
-use Rattle.bits.specs.Shifts.{middle}
 use Rattle.bits_read.proofs.Cursor.read_fields.Given as goal
 
 abbrev pub invariant-loop-c : goal.invariant-loop-c

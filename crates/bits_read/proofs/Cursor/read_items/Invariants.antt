@@ -1,11 +1,8 @@
 -- With k items read, their fields are laid over out from its place on, and the cursor stands behind them.
-use mathlib.Core.Path.{◌≡◌, refl, ap, ◌∙◌}
+use mathlib.Core.Path.{◌≡◌}
 use Prim.Native.Nat.{◌+◌, ◌-◌, ◌≤◌}
-use native.Mathlib.Omega.{arith}
 use lib.ListN.{length}
 use Rattle.bits.specs.Table.{total, times, fields_at, laid}
-use Rattle.bits.specs.TableLaws.{length_fields, laid_none, length-laid}
-use Rattle.bits.specs.ItemLaws.{length-item, length_more, total-more-item, fit-item, out-item}
 use Rattle.bits_read.proofs.Cursor.read_items.Given as goal
 
 abbrev pub invariant-loop-k : goal.invariant-loop-k

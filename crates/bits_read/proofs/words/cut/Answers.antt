@@ -1,5 +1,4 @@
 -- Shifted left and then right, the word has lost the bits before and behind the field.
-use borrow.Author.Rules.{rules}
 use Rattle.bits.specs.Shifts.{shifted}
 use Rattle.bits_read.proofs.words.cut.Goals as goal
 

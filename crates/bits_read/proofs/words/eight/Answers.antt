@@ -1,7 +1,6 @@
 -- Two fields of four bytes in a row.
 use mathlib.Core.Path.{◌≡◌, ◌∙◌}
 use Prim.Native.Nat.{◌+◌, ◌*◌}
-use borrow.Author.Rules.{rules}
 use native.Mathlib.Omega.{arith}
 use Rattle.bits.specs.Shifts.{in_a_row}
 use Rattle.bits_read.proofs.words.eight.Goals as goal

@@ -1,7 +1,6 @@
 -- The four bytes in their places make the field of their bits.
 use mathlib.Core.Path.{sym, ◌∙◌}
 use Prim.Native.Nat.{ℕ, ◌^◌, ◌<◌}
-use borrow.Author.Rules.{rules}
 use lib.ListN.{get_or}
 use Rattle.bits.specs.Shifts.{quad, quad-field}
 use Rattle.bits_read.proofs.words.four.Goals as goal

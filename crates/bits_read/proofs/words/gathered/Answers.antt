@@ -1,9 +1,8 @@
 -- The word holds, turn by turn, the field of the whole bytes passed so far.
 use mathlib.Core.Path.{◌≡◌}
-use Prim.Native.Nat.{◌-◌, ◌*◌, ◌≤◌}
-use borrow.Author.Rules.{rules}
+use Prim.Native.Nat.{◌-◌, ◌*◌}
 use native.Mathlib.Omega.{arith}
-use Rattle.bits.specs.Bits.{number, field_at}
+use Rattle.bits.specs.Bits.{number}
 use Rattle.bits.specs.Shifts.{gather}
 use Rattle.bits_read.proofs.words.gathered.Goals as goal
 

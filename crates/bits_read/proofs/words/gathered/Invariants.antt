@@ -1,10 +1,7 @@
 -- The word holds, turn by turn, the field of the whole bytes passed so far.
 use mathlib.Core.Path.{◌≡◌}
 use Prim.Native.Nat.{◌-◌, ◌*◌, ◌≤◌}
-use borrow.Author.Rules.{rules}
-use native.Mathlib.Omega.{arith}
-use Rattle.bits.specs.Bits.{number, field_at}
-use Rattle.bits.specs.Shifts.{gather}
+use Rattle.bits.specs.Bits.{field_at}
 use Rattle.bits_read.proofs.words.gathered.Given as goal
 
 abbrev pub invariant-loop-i : goal.invariant-loop-i

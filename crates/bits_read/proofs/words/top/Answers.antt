@@ -1,6 +1,5 @@
 -- The bytes' number has room for the bits behind it.
 use Prim.Native.Nat.{◌-◌, ◌*◌}
-use borrow.Author.Rules.{rules}
 use native.Mathlib.Omega.{arith}
 use lib.Pow.{shl_exact}
 use Rattle.bits.specs.Bits.{field_at}

@@ -1,7 +1,6 @@
 -- Zero bits behind those held make the last byte whole.
 use mathlib.Core.Path.{◌≡◌}
 use Prim.Native.Nat.{ℕ, ◌+◌, ◌-◌, ◌*◌, ◌/◌, ◌%◌, ◌^◌, ◌≤◌, ◌<◌}
-use borrow.Author.Rules.{rules}
 use native.Mathlib.Omega.{arith}
 use lib.Pow.{pow-add, shl_exact, shl_lt}
 use Rattle.bits.specs.Bits.{field_at}

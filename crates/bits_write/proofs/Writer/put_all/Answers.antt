@@ -1,12 +1,11 @@
 -- With i values written, the writer has written their table.
 use mathlib.Core.Path.{◌≡◌, sym}
-use Prim.Native.Nat.{◌-◌, ◌≤◌, ◌<◌}
+use Prim.Native.Nat.{◌<◌}
 use native.Mathlib.Omega.{arith}
 use lib.ListN.{length, take}
 use lib.Seq.{take-length}
-use Rattle.bits.specs.Table.{total}
 use Rattle.bits.specs.TableLaws.{width-in, total-in, total-more, valid-in}
-use Rattle.bits_write.specs.Written.{joined, Wrote}
+use Rattle.bits_write.specs.Written.{joined}
 use Rattle.bits_write.specs.WrittenLaws.{joined-more, written_none, written-join}
 use Rattle.bits_write.proofs.Writer.put_all.Goals as goal
 

@@ -2,11 +2,11 @@
 use mathlib.Core.Path.{◌≡◌, sym, ◌∙◌}
 use Prim.Native.Nat.{◌+◌, ◌-◌, ◌≤◌}
 use native.Mathlib.Omega.{arith}
-use lib.ListN.{length, take}
+use lib.ListN.{length}
 use lib.Seq.{take-length}
-use Rattle.bits.specs.Table.{total, times}
+use Rattle.bits.specs.Table.{times}
 use Rattle.bits.specs.ItemLaws.{length-item, total-item, length_more, total-more-item}
-use Rattle.bits_write.specs.Written.{joined, Wrote}
+use Rattle.bits_write.specs.Written.{joined}
 use Rattle.bits_write.specs.WrittenLaws.{length-item-values, valid-item, joined-item, written_none, written-join}
 use Rattle.bits_write.proofs.Writer.put_items.Goals as goal
 use Rattle.bits_write.proofs.Writer.put_items.Goals.{In-loop-k}
@@ -34,7 +34,14 @@ put_all-p-requires c =
     let vs = s.args.values.now in
     let n = s.args.n in
     let all = s.requires.values_len in
-    let w = l.invariant.2 in record { ready = rw (part l.i (length ws)) w.ready; t = rw (part l.i (length ws)) s.requires.t; values_len = rw (part l.i (length ws)) ((length-item-values ws vs n l.k l.i h l.invariant.1 all).1); valid = rw (part l.i (length ws)) (valid-item ws vs n l.k l.i h l.invariant.1 all s.requires.valid); ws_bound = rw (part l.i (length ws)) (omega (arith, total-item ws n l.k h, w.ends, w.long)) }
+    let w = l.invariant.2 in
+    record {
+      ready = w.ready;
+      t = s.requires.t;
+      values_len = rw (part l.i (length ws)) ((length-item-values ws vs n l.k l.i h l.invariant.1 all).1);
+      valid = rw (part l.i (length ws)) (valid-item ws vs n l.k l.i h l.invariant.1 all s.requires.valid);
+      ws_bound = omega (arith, total-item ws n l.k h, w.ends, w.long);
+    }
 
 pub loop-k-preserved : goal.loop-k-preserved
 loop-k-preserved c =

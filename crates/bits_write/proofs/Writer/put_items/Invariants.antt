@@ -1,13 +1,9 @@
 -- With k items written, the writer has written their table.
-use mathlib.Core.Path.{◌≡◌, sym, ◌∙◌}
-use Prim.Native.Nat.{◌+◌, ◌-◌, ◌≤◌}
-use native.Mathlib.Omega.{arith}
+use mathlib.Core.Path.{◌≡◌}
+use Prim.Native.Nat.{◌-◌, ◌≤◌}
 use lib.ListN.{length, take}
-use lib.Seq.{take-length}
 use Rattle.bits.specs.Table.{total, times}
-use Rattle.bits.specs.ItemLaws.{length-item, total-item, length_more, total-more-item}
 use Rattle.bits_write.specs.Written.{joined, Wrote}
-use Rattle.bits_write.specs.WrittenLaws.{length-item-values, valid-item, joined-item, written_none, written-join}
 use Rattle.bits_write.proofs.Writer.put_items.Given as goal
 
 abbrev pub invariant-loop-k : goal.invariant-loop-k

@@ -1,22 +1,16 @@
 -- Every number passed is within its limits; the first that is not settles the question.
-use mathlib.Core.Bool.{Bool, true, ◌&&◌, and-false}
-use mathlib.Core.List.{List}
+use mathlib.Core.Bool.{and-false}
 use mathlib.Core.Path.{◌≡◌, refl, sym}
-use Prim.Native.Nat.{ℕ, ◌+◌, ◌-◌, ◌≤◌}
+use Prim.Native.Nat.{◌+◌}
 use borrow.Author.Tests.{le-leb, lt-leb}
-use lib.Dec.{leb}
 use lib.ListN.{length, drop}
 use lib.Seq.{get_or-drop}
 use Rattle.ids.specs.Ids.{at, all_to}
 use Rattle.ids.specs.Tests.{all_more, all-fails}
 use Rattle.record_layouts.specs.Parts.{within}
-use borrow.Author.Rules.{rules}
 use native.Mathlib.Omega.{arith}
+use Rattle.record_checks.proofs.limits.are_within.Invariants.{limits}
 use Rattle.record_checks.proofs.limits.are_within.Goals as goal
-
--- is number j within its limits
-abbrev limits : List ℕ → List ℕ → List ℕ → ℕ → Bool
-limits ls hs vs j = leb (at ls j) (at vs j) && leb (at vs j) (at hs j)
 
 pub loop-j-init : goal.loop-j-init
 unfolding all_to

@@ -1,14 +1,9 @@
 -- Every number passed is within the limits; the first that is not settles the question.
-use mathlib.Core.Bool.{true, and-false}
-use mathlib.Core.Path.{◌≡◌, refl, sym, ◌∙◌}
-use Prim.Native.Nat.{ℕ, ◌+◌, ◌-◌, ◌*◌, ◌≤◌, ◌<◌}
-use borrow.Author.Tests.{le-leb, lt-leb}
-use native.Mathlib.Nat.{mul-le-mul_right}
-use native.Mathlib.Omega.{arith}
+use mathlib.Core.Bool.{true}
+use mathlib.Core.Path.{◌≡◌}
+use Prim.Native.Nat.{◌+◌, ◌-◌, ◌*◌, ◌≤◌}
 use Rattle.ids.specs.Ids.{at, all_to}
-use Rattle.ids.specs.Tests.{all_more, all-fails}
-use Rattle.record_layouts.specs.Parts.{between, column_within}
-use Rattle.record_layouts.specs.ListLaws.{column-held}
+use Rattle.record_layouts.specs.Parts.{between}
 use Rattle.record_checks.proofs.limits.column_within.Given as goal
 
 abbrev pub invariant-loop-k : goal.invariant-loop-k

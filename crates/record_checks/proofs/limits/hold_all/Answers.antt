@@ -1,6 +1,5 @@
 -- The largest number of so many bits is a mask of as many ones.
 use mathlib.Core.Path.{◌≡◌}
-use borrow.Author.Rules.{rules}
 use borrow.Author.Tests.{ne_eqb}
 use native.Mathlib.Omega.{arith}
 use lib.Pow.{pow_pos}

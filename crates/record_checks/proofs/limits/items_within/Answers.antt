@@ -1,9 +1,6 @@
 -- Every field passed is within its limits in each item; the first that is not settles the question.
-use mathlib.Core.Bool.{true}
 use mathlib.Core.Path.{◌≡◌, refl, sym, subst, ◌∙◌}
-use Prim.Native.Nat.{ℕ, ◌+◌, ◌-◌, ◌≤◌, ◌<◌}
-use borrow.Author.Rules.{rules}
-use borrow.Author.Tests.{not-true, not-false}
+use Prim.Native.Nat.{ℕ, ◌+◌, ◌<◌}
 use native.Mathlib.Omega.{arith}
 use lib.ListN.{length}
 use Rattle.ids.specs.Ids.{at, all_to}
@@ -22,10 +19,13 @@ column_within-requires c =
     let ws = s.args.ws.now in
     let l = c.loop-j in
     let h : l.j < length ws = omega (arith, s.requires.ws_len, c.loop-j-test.true) in
-    let room = s.requires.lows_in_bounds in (
-      (width-in ws l.j s.requires.t h).1,
-      ((λ e. subst (λ (w : ℕ). ColumnFits (at ws l.j) s.args.values.now (s.args.row.from + l.j) w s.args.row.n) s.requires.ws_len (s.requires.items_fit e l.j h)), (omega (arith, room), omega (arith, room, h, s.requires.ws_len))),
-    )
+    let room = s.requires.lows_in_bounds in
+    record {
+      width_bound = (width-in ws l.j s.requires.t h).1;
+      column_fits = λ e. subst (λ (w : ℕ). ColumnFits (at ws l.j) s.args.values.now (s.args.row.from + l.j) w s.args.row.n) s.requires.ws_len (s.requires.items_fit e l.j h);
+      stride_in_bounds = omega (arith, room);
+      stride_in_bounds_2 = omega (arith, room, h, s.requires.ws_len);
+    }
 
 pub returns-then-not-column_within : goal.returns-then-not-column_within
 unfolding items_within

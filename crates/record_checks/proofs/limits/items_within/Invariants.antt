@@ -1,15 +1,10 @@
 -- Every field passed is within its limits in each item; the first that is not settles the question.
 use mathlib.Core.Bool.{true}
-use mathlib.Core.Path.{◌≡◌, refl, sym, subst, ◌∙◌}
-use Prim.Native.Nat.{ℕ, ◌+◌, ◌-◌, ◌≤◌, ◌<◌}
-use borrow.Author.Rules.{rules}
-use borrow.Author.Tests.{not-true, not-false}
-use native.Mathlib.Omega.{arith}
+use mathlib.Core.Path.{◌≡◌}
+use Prim.Native.Nat.{◌+◌, ◌-◌, ◌≤◌}
 use lib.ListN.{length}
 use Rattle.ids.specs.Ids.{at, all_to}
-use Rattle.ids.specs.Tests.{all_more, all-fails}
-use Rattle.bits.specs.TableLaws.{width-in}
-use Rattle.record_layouts.specs.Parts.{column_within, items_within, ColumnFits}
+use Rattle.record_layouts.specs.Parts.{column_within}
 use Rattle.record_checks.proofs.limits.items_within.Given as goal
 
 abbrev pub invariant-loop-j : goal.invariant-loop-j

@@ -3,7 +3,6 @@ use mathlib.Core.Path.{◌∙◌}
 use Rattle.record_layouts.specs.Layout.{head}
 use Rattle.record_layouts.specs.PartLaws.{table-long, rules-few}
 use Rattle.record_layouts.specs.ListLaws.{within-is}
-use borrow.Author.Rules.{rules}
 use native.Mathlib.Omega.{arith}
 use Rattle.record_checks.proofs.permitted.head_permitted.Goals as goal
 

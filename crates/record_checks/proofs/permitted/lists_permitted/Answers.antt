@@ -1,12 +1,10 @@
 -- Every list passed is permitted; the first that is not settles the question.
-use mathlib.Core.Bool.{true, and-false}
+use mathlib.Core.Bool.{and-false}
 use mathlib.Core.Path.{◌≡◌, refl, sym, ◌∙◌}
-use Prim.Native.Nat.{◌+◌, ◌-◌, ◌≤◌, ◌<◌}
-use borrow.Author.Tests.{not-true, not-false}
+use Prim.Native.Nat.{◌+◌, ◌<◌}
 use lib.ListN.{length, length-map}
 use Rattle.record_layouts.specs.LayoutLaws.{sound-items, narrow-sound}
 use Rattle.record_layouts.specs.Layout.{lists, list_at, rules_to, rules_for}
-use Rattle.record_layouts.specs.Questions.{permitted}
 use Rattle.record_layouts.specs.PartLaws.{table-long, rules-few}
 use Rattle.record_layouts.specs.ListLaws.{items-fit, length-list, stated-list, stated-count, permitted-list, permitted-behind}
 use native.Mathlib.Omega.{arith}
@@ -62,10 +60,13 @@ items_within-requires c =
     let fs = (list_at k l.i).fields in
     let inside : l.i < length (lists k) = omega (arith, c.lists_of-n.ensures, c.loop-i-test.true) in
     let long = s.requires.values_in_bounds in
-    rw (s.requires.ws_value, s.requires.lows_value, s.requires.highs_value, h.fields (λ r. r.width), h.fields (λ r. r.low), h.fields (λ r. r.high), length-map fs (λ r. r.width), length-map fs (λ r. r.low), length-map fs (λ r. r.high), h.items, l.invariant.1) (
-      refl,
-      (refl, (narrow-sound fs (sound-items k l.i), ((λ e. rw (length-map fs (λ r. r.width)) at (items-fit k vs l.i inside long (s.requires.valid e))), omega (arith, long, stated-list s.requires.stated inside)))),
-    )
+    rw (s.requires.ws_value, s.requires.lows_value, s.requires.highs_value, h.fields (λ r. r.width), h.fields (λ r. r.low), h.fields (λ r. r.high), length-map fs (λ r. r.width), length-map fs (λ r. r.low), length-map fs (λ r. r.high), h.items, l.invariant.1) record {
+      ws_len = refl;
+      highs_len = refl;
+      t = narrow-sound fs (sound-items k l.i);
+      items_fit = λ e. rw (length-map fs (λ r. r.width)) at (items-fit k vs l.i inside long (s.requires.valid e));
+      lows_in_bounds = omega (arith, long, stated-list s.requires.stated inside);
+    }
 
 pub returns-then-not-items_within : goal.returns-then-not-items_within
 returns-then-not-items_within c =
