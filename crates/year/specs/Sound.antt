@@ -1,5 +1,5 @@
 -- What holds of every year that the steps make: counts within their arrays, each number within its field's limits.
-use Rattle.std.specs.Prelude.{ℕ, ◌+◌, ◌*◌, ◌≤◌, ◌<◌, ◌^◌, ◌≡◌, true, false, length, get_or, replicate}
+use Rattle.std.specs.Prelude.{ℕ, ◌*◌, ◌≤◌, ◌<◌, ◌^◌, ◌≡◌, true, false, length, get_or, replicate}
 use Rattle.ids.specs.Ids.{at, holds}
 use Rattle.ids.specs.Each.{Each}
 use Rattle.limits.specs.Limits.{registrations, sellers, lses, areas, zones, products, test_groups, event_limit, close_limit, nominated_limit, obligation_limit, rate_limit, factor_limit}

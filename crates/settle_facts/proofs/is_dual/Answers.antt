@@ -1,5 +1,4 @@
 -- `settle_facts::is_dual` meets its contract: the mark in the event's row. Assumes nothing.
-use borrow.Author.Rules.{rules}
 use Rattle.settle_facts.specs.CellFacts.{dual-in}
 use Rattle.settle_facts.proofs.is_dual.Goals as goal
 

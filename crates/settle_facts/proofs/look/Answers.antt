@@ -1,5 +1,4 @@
 -- `settle_facts::look` meets its contract: the mark and the reductions in the event's row. Assumes nothing.
-use borrow.Author.Rules.{rules}
 use mathlib.Core.Path.{sym}
 use Rattle.settle_facts.specs.CellFacts.{facts, reduction-in, second-in, entry-is}
 use Rattle.settle_facts.proofs.look.Goals as goal

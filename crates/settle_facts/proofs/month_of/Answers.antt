@@ -1,5 +1,4 @@
 -- `settle_facts::month_of` meets its contract: the number in the event's row. Assumes nothing.
-use borrow.Author.Rules.{rules}
 use mathlib.Core.Path.{sym}
 use Rattle.settle_facts.specs.CellFacts.{month-in}
 use Rattle.settle_facts.proofs.month_of.Goals as goal

@@ -1,5 +1,4 @@
 -- `settle_facts::one_or_three` meets its contract: a test of the number in the event's row. Assumes nothing.
-use borrow.Author.Rules.{rules}
 use borrow.Author.Tests.{ne_eqb}
 use Rattle.settle_facts.specs.CellFacts.{period-in}
 use Rattle.settle_facts.proofs.one_or_three.Goals as goal

@@ -1,6 +1,5 @@
 -- `settle_facts::shortfall` meets its contract: each call's result in its place. Assumes nothing.
 use mathlib.Core.Path.{◌∙◌}
-use borrow.Author.Rules.{rules}
 use Rattle.settle_facts.proofs.shortfall.Goals as goal
 
 pub returns : goal.returns

@@ -1,7 +1,6 @@
 -- `settle_table::add_at` meets its contract. Assumes nothing.
 use Prim.Native.Nat.{◌+◌}
 use native.Mathlib.Omega.{arith}
-use borrow.Author.Rules.{rules}
 use Rattle.settle_table.specs.Rows.{stored}
 use Rattle.settle_table.proofs.add_at.Goals as goal
 

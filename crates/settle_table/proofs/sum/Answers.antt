@@ -1,5 +1,5 @@
 -- `settle_table::sum` meets its contract: each partial sum is at most the whole.
-use Prim.Native.Nat.{ℕ, ◌+◌, ◌-◌, ◌≤◌}
+use Prim.Native.Nat.{ℕ, ◌+◌}
 use mathlib.Core.Path.{◌≡◌, refl}
 use native.Mathlib.Omega.{arith}
 use Rattle.ids.specs.Ids.{at, sum_to}

@@ -1,8 +1,7 @@
 -- `settle_table::zero` meets its contract. The loop's invariant: the first i places hold 0, and nothing else changed. Assumes nothing.
-use Prim.Native.Nat.{◌-◌, ◌≤◌}
 use mathlib.Core.Path.{◌≡◌, refl}
 use native.Mathlib.Omega.{arith}
-use Rattle.settle_table.specs.Rows.{Aside, aside_none, aside-more, Row, row_first, row_more, none}
+use Rattle.settle_table.specs.Rows.{aside_none, aside-more, row_first, row_more, none}
 use Rattle.settle_table.proofs.zero.Goals as goal
 
 pub loop-i-preserved : goal.loop-i-preserved

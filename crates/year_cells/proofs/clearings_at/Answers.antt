@@ -1,5 +1,4 @@
 -- `year_cells::clearings_at` meets its contract: the numbers of its row. Assumes nothing.
-use borrow.Author.Rules.{rules}
 use mathlib.Core.Path.{sym}
 use Rattle.year.specs.Year.{no_clearings}
 use Rattle.year_cells.specs.Regions.{clearings-in}

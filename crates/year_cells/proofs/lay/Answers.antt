@@ -1,11 +1,7 @@
 -- `year_cells::lay` meets its contract. The loop's invariant: the first i numbers of the row are laid. Assumes nothing.
-use Prim.Native.Nat.{◌≤◌, ◌-◌}
 use native.Mathlib.Omega.{arith}
-use lib.ListN.{length, take}
 use lib.Seq.{take_all}
-use Rattle.year_cells.specs.Rows.{Laid, laid_none, laid_more}
-use Rattle.year_cells.proofs.lay.Reads as reads
-use Rattle.year_cells.proofs.lay.Lts as lts
+use Rattle.year_cells.specs.Rows.{laid_none, laid_more}
 use Rattle.year_cells.proofs.lay.Goals as goal
 
 pub loop-i-init : goal.loop-i-init

@@ -1,5 +1,4 @@
 -- `year_cells::listed_in` meets its contract: the mark in the event's row. Assumes nothing.
-use borrow.Author.Rules.{rules}
 use mathlib.Core.Path.{sym}
 use Rattle.year_cells.specs.Regions.{listed_in}
 use Rattle.year_cells.proofs.listed_in.Goals as goal

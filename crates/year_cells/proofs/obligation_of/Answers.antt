@@ -1,5 +1,4 @@
 -- `year_cells::obligation_of` meets its contract: the number of the LSE. Assumes nothing.
-use borrow.Author.Rules.{rules}
 use mathlib.Core.Path.{sym}
 use Rattle.year.specs.Year.{obligation}
 use Rattle.year_cells.specs.Regions.{obligation-in}

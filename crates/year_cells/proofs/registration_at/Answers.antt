@@ -1,5 +1,4 @@
 -- `year_cells::registration_at` meets its contract: the numbers of the registration's row. Assumes nothing.
-use borrow.Author.Rules.{rules}
 use mathlib.Core.Path.{sym}
 use Rattle.year.specs.Year.{no_registration}
 use Rattle.year_cells.specs.Regions.{registration-in}

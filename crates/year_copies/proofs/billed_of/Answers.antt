@@ -1,7 +1,5 @@
 -- `year_copies::billed_of` meets its contract: four rows of amounts. Assumes nothing.
-use borrow.Author.Rules.{rules}
 use Rattle.year_cells.specs.Layout.{cell_billed}
-use Rattle.year_copies.proofs.numbers_at.Reads as numbers-at-reads
 use Rattle.year_copies.proofs.billed_of.Goals as goal
 
 pub returns : goal.returns

@@ -1,11 +1,10 @@
 -- `year_copies::numbers_at` meets its contract. The loop's invariant: the first i places are filled. Assumes nothing.
-use Prim.Native.Nat.{ℕ, ◌-◌}
+use Prim.Native.Nat.{ℕ}
 use mathlib.Core.Path.{refl}
 use native.Mathlib.Omega.{arith}
 use lib.ListN.{length-replicate}
-use Rattle.ids.specs.Fill.{Filled, filled_none, filled_more, filled-all}
+use Rattle.ids.specs.Fill.{filled_none, filled_more, filled-all}
 use Rattle.limits.specs.Limits.{parties}
-use Rattle.year_cells.specs.Rows.{from}
 use Rattle.year_copies.proofs.numbers_at.Goals as goal
 
 pub loop-i-init : goal.loop-i-init

@@ -1,16 +1,12 @@
 -- `year_copies::registrations_of` meets its contract. The loop's invariant: the first i registrations are there. Assumes nothing.
-use Prim.Native.Nat.{◌+◌, ◌*◌, ◌-◌}
 use mathlib.Core.Path.{◌∙◌}
 use native.Mathlib.Omega.{arith}
 use lib.ListN.{length-replicate}
-use Rattle.ids.specs.Fill.{Filled, filled_none, filled_more, filled-all}
+use Rattle.ids.specs.Fill.{filled_none, filled_more, filled-all}
 use Rattle.limits.specs.Limits.{registrations}
-use Rattle.year_cells.specs.Places.{registration_width, registrations_place}
 use Rattle.year.specs.Year.{no_registration}
-use Rattle.year_cells.specs.Rows.{from}
-use Rattle.year_cells.specs.Layout.{registration_at, cell_registrations}
+use Rattle.year_cells.specs.Layout.{cell_registrations}
 use Rattle.year_cells.specs.Regions.{registration-in}
-use Rattle.year_cells.proofs.registration_at.Reads as registration-at-reads
 use Rattle.year_copies.proofs.registrations_of.Goals as goal
 
 pub loop-i-init : goal.loop-i-init

@@ -1,8 +1,5 @@
 -- `year_copies::terms_of` meets its contract. Assumes nothing.
-use borrow.Author.Rules.{rules}
 use Rattle.year_cells.specs.Layout.{cell_obligations}
-use Rattle.year_copies.proofs.numbers_at.Reads as numbers-at-reads
-use Rattle.year_copies.proofs.registrations_of.Reads as registrations-of-reads
 use Rattle.year_copies.proofs.terms_of.Goals as goal
 
 pub returns : goal.returns

@@ -1,12 +1,9 @@
 -- `year_steps::add_event` meets its contract: head, listing and marks. Assumes nothing.
-use borrow.Author.Rules.{rules}
 use mathlib.Core.Path.{◌∙◌}
 use native.Mathlib.Omega.{arith}
 use Rattle.year_cells.specs.Regions.{stepped}
 use Rattle.year_steps.specs.StepsLaid.{call-laid}
 use Rattle.year.specs.StaysSound.{sound-event}
-use Rattle.year_cells.proofs.events_accepted.Reads as events-accepted-reads
-use Rattle.year_cells.proofs.lay.Reads as lay-reads
 use Rattle.year_steps.proofs.add_event.Goals as goal
 
 pub returns : goal.returns
@@ -16,6 +13,7 @@ returns c =
     let head = c.lay.ensures in
     let listing = c.lay-2.ensures in
     let marks = c.lay-3.ensures in
-    stepped s.requires.valid_cells (marks.long ∙ listing.long ∙ head.long)
+    let r = stepped s.requires.valid_cells (marks.long ∙ listing.long ∙ head.long)
     (call-laid n.result s.args.e n.ensures (omega (arith, n.ensures, s.requires.year_bound)) s.requires.listing_len head listing marks)
-    (sound-event s.requires.valid_cells.sound s.requires.year_bound s.requires.sound_event)
+    (sound-event s.requires.valid_cells.sound s.requires.year_bound s.requires.sound_event) in
+    record { equals = r.0; valid = r.1 }

@@ -1,8 +1,6 @@
 -- `year_tested::first_in` meets its contract. Assumes nothing.
-use borrow.Author.Rules.{rules}
 use mathlib.Core.Path.{sym, ◌∙◌}
 use Rattle.year_tested.specs.Tested.{tested-in, first-in}
-use Rattle.year_tested.proofs.tested_in.Reads as tested-in-reads
 use Rattle.year_tested.proofs.first_in.Goals as goal
 
 pub returns-then-tested_in : goal.returns-then-tested_in

@@ -1,5 +1,4 @@
 -- `year_tested::retest_at` meets its contract: the mark and the reduction of its entry. Assumes nothing.
-use borrow.Author.Rules.{rules}
 use mathlib.Core.Path.{sym}
 use Rattle.year.specs.Year.{no_retest}
 use Rattle.year_cells.specs.Regions.{retest-in}

@@ -1,5 +1,4 @@
 -- `year_tested::test_month` meets its contract: the month in the group's row. Assumes nothing.
-use borrow.Author.Rules.{rules}
 use mathlib.Core.Path.{ap, sym}
 use Rattle.year.specs.Year.{no_test}
 use Rattle.year.specs.declared.Test.{Test}

@@ -1,6 +1,5 @@
 -- `year_tested::tested_in` meets its contract. Assumes nothing.
-use borrow.Author.Rules.{rules}
-use Prim.Native.Nat.{◌+◌, ◌*◌, ◌<◌}
+use Prim.Native.Nat.{◌<◌}
 use mathlib.Core.Path.{◌≡◌, sym, ◌∙◌}
 use native.Mathlib.Omega.{arith}
 use borrow.Author.Tests.{eq-eqb, ne_eqb}
@@ -9,7 +8,6 @@ use Rattle.year.specs.Year.{zone, product}
 use Rattle.year.specs.Limits.{zone-below, product-below}
 use Rattle.year_cells.specs.Layout.{group_in}
 use Rattle.year_tested.specs.Tested.{tested-in}
-use Rattle.year_cells.proofs.registration_at.Reads as registration-at-reads
 use Rattle.year_tested.proofs.tested_in.Goals as goal
 use Rattle.year_tested.proofs.tested_in.Goals.{After-group_of-own, After-registration_at-r}
 

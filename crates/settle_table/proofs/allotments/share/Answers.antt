@@ -1,7 +1,6 @@
 -- `settle_table::allotments::share` meets its contract: what the allotment gives is stored. Assumes nothing.
 use mathlib.Core.Path.{◌≡◌}
 use native.Mathlib.Omega.{arith}
-use borrow.Author.Rules.{rules}
 use Rattle.allotment.specs.declared.Allotment.{Allotment}
 use Rattle.settle_table.specs.Allotments.{stepper, shared}
 use Rattle.settle_table.proofs.allotments.share.Goals as goal
@@ -14,12 +13,11 @@ read c = cc (c.get.ensures, c.get-2.ensures, c.get-3.ensures, c.get-4.ensures, c
 
 pub returns : goal.returns
 returns c =
-    let b = c in
-    let s = b in
-    shared s.requires.work_len.2 (rw (read b) at c.share-share.ensures) c.put.ensures c.put-2.ensures c.put-3.ensures
+    let s = c in
+    shared s.requires.work_len.2 (rw (read (goal.at.returns c).After-get-5) at c.share-share.ensures) c.put.ensures c.put-2.ensures c.put-3.ensures
 
 pub share-share-requires : goal.share-share-requires
-share-share-requires c = rw (read c) c.requires.asks
+share-share-requires c = rw (read (goal.at.share-share-requires c).After-get-5) c.requires.asks
 
 pub overflow_add-p-7 : goal.overflow_add-p-7
 overflow_add-p-7 c = record { fits = omega (arith, c.requires.work_len.1) }

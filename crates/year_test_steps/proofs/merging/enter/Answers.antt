@@ -1,8 +1,5 @@
 -- `year_test_steps::merging::enter` meets its contract: two rows. Assumes nothing.
-use borrow.Author.Rules.{rules}
 use Rattle.year_test_steps.specs.Entered.{entered}
-use Rattle.year_cells.proofs.lay.Reads as lay-reads
-use Rattle.year_test_steps.proofs.merging.merge.Reads as merge-reads
 use Rattle.year_test_steps.proofs.merging.enter.Goals as goal
 
 pub returns : goal.returns

@@ -1,11 +1,8 @@
 -- `year_test_steps::merging::merge` meets its contract. The loop's invariant: the first i entries are there. Assumes nothing.
-use Prim.Native.Nat.{ℕ, ◌-◌}
-use native.Mathlib.Omega.{arith}
-use lib.ListN.{length-replicate}
-use Rattle.ids.specs.Fill.{Filled, filled_none, filled_more, filled-all}
+use Prim.Native.Nat.{◌-◌}
+use Rattle.ids.specs.Fill.{Filled}
 use Rattle.limits.specs.Limits.{registrations}
 use Rattle.year_test_steps.specs.Entered.{merged_at}
-use Rattle.year_test_steps.proofs.merging.merged_at.Reads as merged-at-reads
 use Rattle.year_test_steps.proofs.merging.merge.Given as goal
 
 abbrev pub invariant-loop-i : goal.invariant-loop-i

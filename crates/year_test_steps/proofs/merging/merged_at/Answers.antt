@@ -1,5 +1,4 @@
 -- `year_test_steps::merging::merged_at` meets its contract. Assumes nothing.
-use borrow.Author.Rules.{rules}
 use Rattle.ids.specs.Ids.{at}
 use borrow.Author.Tests.{eq-eqb, ne_eqb}
 use Rattle.year_test_steps.proofs.merging.merged_at.Goals as goal
