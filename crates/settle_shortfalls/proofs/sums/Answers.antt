@@ -11,6 +11,7 @@ use Rattle.settle_shortfalls.specs.declared.MeasuredEntry.{MeasuredEntry}
 use Rattle.settle_shortfalls.specs.Weighing.{Weighing, weighing-first, weighing-none, weighing-more, weighing-all}
 use Rattle.settle_shortfalls.specs.Sums.{short-room, over-room}
 use Rattle.settle_shortfalls.proofs.sums.Goals as goal
+use Rattle.settle_shortfalls.proofs.sums.Goals.{then-x, else-x}
 
 pub add_at-requires : goal.add_at-requires
 add_at-requires c =
@@ -35,10 +36,10 @@ loop-i-preserved c =
     let l = c.loop-i in
     let e = c.entry_at-x.ensures in
     let listed = sym (ap (λ (x : MeasuredEntry). x.listed) e) in
-    ⊎_elim
-    (λ a. rw a.5 (weighing-more l.invariant (omega arith) (listed ∙ a.0.taken) ((limits c.requires.valid_cells.sound).seller l.i) (rw e at a.2.ensures) (rw e at a.4.ensures)))
-    (λ a. rw a.1 (weighing-none l.invariant (omega arith) (listed ∙ a.0.left)))
-    c.if-x.branch
+    elim c.if-x.branch [
+      then-x w ↦ rw w.work-is (weighing-more l.invariant (omega arith) (listed ∙ w.if-x.true) ((limits c.requires.valid_cells.sound).seller l.i) (rw e at w.add_at.ensures) (rw e at w.add_at-then-x.ensures))
+    | else-x w ↦ rw w.work-is (weighing-none l.invariant (omega arith) (listed ∙ w.if-x.false))
+    ]
 
 pub returns : goal.returns
 returns c = let v = c.loop-i.invariant in record { weighed = weighing-all v (omega (arith, v.upto)); aside = v.aside }

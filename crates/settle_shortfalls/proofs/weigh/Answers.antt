@@ -22,7 +22,7 @@ returns c =
     let k = c.zero.ensures in
     let g = c.sums.ensures in
     let a = c.nets.ensures in
-    let z = row_within u_row later_places k.zeros (omega arith) (omega arith) in (
-      netted-all a.netted (row-aside (row-aside z g.aside (λ j l x y. omega arith)) a.aside (λ j l x y. omega arith)),
-      aside_then (aside_then {q = short_row} {m = event_places} k.aside g.aside (omega arith) (omega arith) (omega arith) (omega arith)) a.aside (omega arith) (omega arith) (omega arith) (omega arith),
-    )
+    let z = row_within u_row later_places k.zeros (omega arith) (omega arith) in record {
+      ready = netted-all a.netted (row-aside (row-aside z g.aside (λ j l x y. omega arith)) a.aside (λ j l x y. omega arith));
+      aside = aside_then (aside_then {q = short_row} {m = event_places} k.aside g.aside (omega arith) (omega arith) (omega arith) (omega arith)) a.aside (omega arith) (omega arith) (omega arith) (omega arith);
+    }

@@ -47,13 +47,13 @@ returns c =
     let a = c.share.ensures in
     let m = c.measure.ensures in
     let k = c.charge-charges.ensures in
-    let d = c.credit.ensures in (
-      run_more (run-aside (run-aside (run-aside c.requires.run_2 g.aside (lit≤ tt)) a.aside (lit≤ tt)) m.aside (lit≤ tt)) k.aside k.billed d.aside d.credited,
-      aside_then
+    let d = c.credit.ensures in record {
+      run = run_more (run-aside (run-aside (run-aside c.requires.run_2 g.aside (lit≤ tt)) a.aside (lit≤ tt)) m.aside (lit≤ tt)) k.aside k.billed d.aside d.credited;
+      aside = aside_then
           (aside_then {q = dispatch_count_row} {m = passed_places}
           (aside_then {q = dispatch_count_row} {m = passed_places}
           (aside_then {q = dispatch_count_row} {m = passed_places} g.aside a.aside (omega arith) (omega arith) (omega arith) (omega arith))
           m.aside (omega arith) (omega arith) (omega arith) (omega arith))
           k.aside (omega arith) (omega arith) (omega arith) (omega arith))
-          d.aside (omega arith) (omega arith) (omega arith) (omega arith),
-    )
+          d.aside (omega arith) (omega arith) (omega arith) (omega arith);
+    }

@@ -41,6 +41,3 @@ returns c =
     let F = facts s.year.now in
     let z : l.ev ≡ F.events = omega (arith, c.events_accepted-accepted.ensures) in
     let h = rw z at l.invariant.1.0 in record { compliance = billed-all h.billed; credit = credit-all F s.k h.credit; dispatched = h.dispatched; aside = aside_then c.count.ensures.aside l.invariant.1.1 (omega arith) (omega arith) (omega arith) (omega arith) }
-
-pub events_accepted-accepted-requires : goal.events_accepted-accepted-requires
-events_accepted-accepted-requires c = tt

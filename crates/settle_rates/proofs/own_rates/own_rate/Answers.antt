@@ -18,13 +18,13 @@ known_is s = ap (λ r. r.known) (sym s.requires.r_value)
 
 pub returns-then-not-r : goal.returns-then-not-r
 unfolding own
-returns-then-not-r c = let s = c in rw (known_is s, not-true s.args.r.known c.if-not-r.true)
+returns-then-not-r c = rw (known_is (goal.at.returns-then-not-r c).Start, not-true c.args.r.known c.if-not-r.true)
 
 pub returns-then-clearings-eq0 : goal.returns-then-clearings-eq0
 unfolding own field_rate
 returns-then-clearings-eq0 c =
     let s = c in
-    ap (λ r. r.rate) s.requires.r_value ∙ rw (known_is s, not-false s.args.r.known c.if-not-r.false, ← c.clearings_at-clearings.ensures, c.if-clearings-eq0.true)
+    ap (λ r. r.rate) s.requires.r_value ∙ rw (known_is (goal.at.returns-then-clearings-eq0 c).Start, not-false c.args.r.known c.if-not-r.false, ← c.clearings_at-clearings.ensures, c.if-clearings-eq0.true)
 
 -- there is a clearing
 some : (c : Else-clearings-eq0) → 0 < c.clearings_at-clearings.result.count
@@ -38,6 +38,4 @@ nonzero_div-result c =
 
 pub returns : goal.returns
 unfolding own
-returns c =
-    let s = c in
-    rw (known_is s, not-false s.args.r.known c.if-not-r.false, ← c.clearings_at-clearings.ensures, lt-ltb _ _ (some (goal.at.returns c).Else-clearings-eq0))
+returns c = rw (known_is (goal.at.returns c).Start, not-false c.args.r.known c.if-not-r.false, ← c.clearings_at-clearings.ensures, lt-ltb _ _ (some (goal.at.returns c).Else-clearings-eq0))

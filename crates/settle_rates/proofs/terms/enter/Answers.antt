@@ -20,16 +20,16 @@ pub add_to_area-own-requires : goal.add_to_area-own-requires
 add_to_area-own-requires c = let p = c.requires in record { valid_cells = p.0; i_lt_registrations = (p.1, p.2); work_len = (p.3.long, p.3.sums) }
 
 pub unforced-all-requires : goal.unforced-all-requires
-unforced-all-requires c = let s = c in record { valid_cells = s.requires.0; kw_le_nominated_sum = omega (arith, (sound s).committed) }
+unforced-all-requires c = let s = c in record { valid_cells = s.requires.0; kw_le_nominated_sum = omega (arith, (sound (goal.at.unforced-all-requires c).Start).committed) }
 
 -- by the own rate as by the field
 pub overflow_mul-cap : goal.overflow_mul-cap
 overflow_mul-cap c =
     let s = c in
     let L = limits s.requires.0.sound in
-    let all : c.unforced-all.result.0 ≤ unforced_limit = rw c.unforced-all.ensures (unforced-one L (sound s).committed) in
+    let all : c.unforced-all.result.0 ≤ unforced_limit = rw c.unforced-all.ensures (unforced-one L (sound (goal.at.overflow_mul-cap c).Start).committed) in
     let own : c.add_to_area-own.result ≤ rate_limit = rw c.add_to_area-own.ensures.own (L.own s.args.i) in
-    record { fits = omega (arith, mul-le-mul all own, mul-le-mul all (sound s).rate) }
+    record { fits = omega (arith, mul-le-mul all own, mul-le-mul all (sound (goal.at.overflow_mul-cap c).Start).rate) }
 
 pub put-requires-6 : goal.put-requires-6
 put-requires-6 c =

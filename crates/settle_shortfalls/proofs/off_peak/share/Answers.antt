@@ -12,10 +12,10 @@ use Rattle.owed_laws.specs.Limits.{limits}
 use Rattle.settle_shortfalls.specs.declared.off_peak.OffPeakEntry.{OffPeakEntry}
 use Rattle.settle_shortfalls.specs.OffPeak.{Sharing, sharing-first, sharing-none, sharing-more, sharing-all, u-asks}
 use Rattle.settle_shortfalls.proofs.off_peak.share.Goals as goal
-use Rattle.settle_shortfalls.proofs.off_peak.share.Goals.{After-entry_at-x}
+use Rattle.settle_shortfalls.proofs.off_peak.share.Goals.{After-entry_at-x, then-x, else-x}
 
 on : (c : After-entry_at-x) → c.entry_at-x.result.measured ≡ true → measured (facts c.args.year.now) c.args.ev c.loop-i.i ≡ true
-on c t = sym (ap (λ (x : OffPeakEntry). x.decreases) c.entry_at-x.ensures) ∙ t
+on c t = sym (ap (λ (x : OffPeakEntry). x.measured) c.entry_at-x.ensures) ∙ t
 
 pub share-requires : goal.share-requires
 share-requires c =
@@ -26,10 +26,10 @@ pub loop-i-preserved : goal.loop-i-preserved
 loop-i-preserved c =
     let v = c.loop-i.invariant in
     let e = c.entry_at-x.ensures in
-    ⊎_elim
-    (λ a. rw a.5 (sharing-more v (limits c.requires.valid_cells.sound) (omega arith) (on (goal.at.loop-i-preserved c).After-entry_at-x a.0.taken) (rw e at a.2.ensures) a.4.ensures))
-    (λ a. rw a.1 (sharing-none v (omega arith) (sym (ap (λ (x : OffPeakEntry). x.decreases) e) ∙ a.0.left)))
-    c.if-x.branch
+    elim c.if-x.branch [
+      then-x w ↦ rw w.work-is (sharing-more v (limits c.requires.valid_cells.sound) (omega arith) (on (goal.at.loop-i-preserved c).After-entry_at-x w.if-x.true) (rw e at w.share.ensures) w.put.ensures)
+    | else-x w ↦ rw w.work-is (sharing-none v (omega arith) (sym (ap (λ (x : OffPeakEntry). x.measured) e) ∙ w.if-x.false))
+    ]
 
 pub returns : goal.returns
 returns c = let v = c.loop-i.invariant in let all = sharing-all v (omega (arith, v.upto)) in record { shares = all.0; divisions = all.1; aside = v.aside }

@@ -11,6 +11,7 @@ use Rattle.settle_shortfalls.specs.Sums.{short-room, over-room}
 use Rattle.settle_shortfalls.specs.declared.off_peak.OffPeakEntry.{OffPeakEntry}
 use Rattle.settle_shortfalls.specs.OffPeak.{Weighing, weighing-first, weighing-none, weighing-more, weighing-all, second-small}
 use Rattle.settle_shortfalls.proofs.off_peak.sums.Goals as goal
+use Rattle.settle_shortfalls.proofs.off_peak.sums.Goals.{then-x, else-x}
 
 pub add_at-requires : goal.add_at-requires
 add_at-requires c =
@@ -35,11 +36,11 @@ pub loop-i-preserved : goal.loop-i-preserved
 loop-i-preserved c =
     let l = c.loop-i in
     let e = c.entry_at-x.ensures in
-    let measured = sym (ap (λ (x : OffPeakEntry). x.decreases) e) in
-    ⊎_elim
-    (λ a. rw a.5 (weighing-more l.invariant (omega arith) (measured ∙ a.0.taken) ((limits c.requires.valid_cells.sound).seller l.i) (rw e at a.2.ensures) (rw e at a.4.ensures)))
-    (λ a. rw a.1 (weighing-none l.invariant (omega arith) (measured ∙ a.0.left)))
-    c.if-x.branch
+    let measured = sym (ap (λ (x : OffPeakEntry). x.measured) e) in
+    elim c.if-x.branch [
+      then-x w ↦ rw w.work-is (weighing-more l.invariant (omega arith) (measured ∙ w.if-x.true) ((limits c.requires.valid_cells.sound).seller l.i) (rw e at w.add_at.ensures) (rw e at w.add_at-then-x.ensures))
+    | else-x w ↦ rw w.work-is (weighing-none l.invariant (omega arith) (measured ∙ w.if-x.false))
+    ]
 
 pub returns : goal.returns
 returns c = let v = c.loop-i.invariant in record { weighed = weighing-all v (omega (arith, v.upto)); aside = v.aside }

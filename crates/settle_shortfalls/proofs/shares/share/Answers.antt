@@ -12,7 +12,7 @@ use Rattle.owed_laws.specs.Limits.{limits}
 use Rattle.settle_shortfalls.specs.declared.MeasuredEntry.{MeasuredEntry}
 use Rattle.settle_shortfalls.specs.Sharing.{Sharing, sharing-first, sharing-none, sharing-more, sharing-all, sharing-divided, u-asks, e-asks}
 use Rattle.settle_shortfalls.proofs.shares.share.Goals as goal
-use Rattle.settle_shortfalls.proofs.shares.share.Goals.{After-entry_at-x}
+use Rattle.settle_shortfalls.proofs.shares.share.Goals.{After-entry_at-x, then-x, else-x}
 
 is-listed : (c : After-entry_at-x) → c.entry_at-x.result.listed ≡ true → listed ((facts c.args.year.now).event c.args.ev).listing c.loop-i.i ≡ true
 is-listed c t = sym (ap (λ (x : MeasuredEntry). x.listed) c.entry_at-x.ensures) ∙ t
@@ -33,10 +33,10 @@ pub loop-i-preserved : goal.loop-i-preserved
 loop-i-preserved c =
     let v = c.loop-i.invariant in
     let e = c.entry_at-x.ensures in
-    ⊎_elim
-    (λ a. rw a.13 (sharing-more v (limits c.requires.valid_cells.sound) (omega arith) (is-listed (goal.at.loop-i-preserved c).After-entry_at-x a.0.taken) (rw e at a.2.ensures) (rw e at a.4.ensures) a.6.ensures a.8.ensures a.10.ensures (rw e at a.12.ensures)))
-    (λ a. rw a.1 (sharing-none v (omega arith) (sym (ap (λ (x : MeasuredEntry). x.listed) e) ∙ a.0.left)))
-    c.if-x.branch
+    elim c.if-x.branch [
+      then-x w ↦ rw w.work-is (sharing-more v (limits c.requires.valid_cells.sound) (omega arith) (is-listed (goal.at.loop-i-preserved c).After-entry_at-x w.if-x.true) (rw e at w.share.ensures) (rw e at w.share-then-x.ensures) w.put.ensures w.put-then-x.ensures w.put-then-x-2.ensures (rw e at w.put-then-x-3.ensures))
+    | else-x w ↦ rw w.work-is (sharing-none v (omega arith) (sym (ap (λ (x : MeasuredEntry). x.listed) e) ∙ w.if-x.false))
+    ]
 
 pub returns : goal.returns
 returns c = let v = c.loop-i.invariant in let all : c.loop-i.i ≡ registrations = omega (arith, v.upto) in record { shares = sharing-all v all; divisions = sharing-divided v all; aside = v.aside }
