@@ -4,7 +4,7 @@ use Rattle.std.proofs.Common.{sym, ◌∙◌, arith, length-set, get_or-set_same
 use Rattle.std.proofs.Math.Bool.{false, or-true, or-false}
 use Rattle.std.proofs.Math.ListN.{length-replicate, get_or-replicate}
 use Rattle.std.proofs.lemmas.Bool.{eqb-false}
-use Rattle.ids.specs.Ids.{at, holds, any_to, all_to, tabulate}
+use Rattle.ids.specs.Ids.{holds, any_to, all_to, tabulate}
 use Rattle.ids.specs.Tests.{any_step, all_same}
 use Rattle.ids.specs.Tables.{get_or-tabulate, is-tabulate}
 use Rattle.limits.specs.Limits.{sellers}

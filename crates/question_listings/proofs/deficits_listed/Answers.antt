@@ -1,10 +1,9 @@
 -- `question_listings::deficits_listed` meets its contract. The invariant: all deficits so far have an entry. Assumes nothing.
-use Prim.Native.Nat.{◌+◌, ◌≤◌, ◌-◌}
+use Prim.Native.Nat.{◌+◌}
 use mathlib.Core.Path.{◌≡◌, refl, sym, ◌∙◌}
-use mathlib.Core.Bool.{true, ◌||◌}
+use mathlib.Core.Bool.{◌||◌}
 use native.Mathlib.Omega.{arith}
-use mathlib.Core.Logic.{⊎_elim}
-use borrow.Author.Tests.{not-true, not-false, eq-eqb, ne_eqb}
+use borrow.Author.Tests.{eq-eqb, ne_eqb}
 use lib.Dec.{eqb}
 use Rattle.ids.specs.Ids.{at, holds, all_to}
 use Rattle.ids.specs.Tests.{all_more, all-fails}
@@ -14,8 +13,8 @@ use Rattle.year.specs.Year.{deficit}
 use Rattle.year_cells.specs.Layout.{listing_at, cell_terms}
 use Rattle.year_cells.specs.Regions.{row-deficit}
 use Rattle.question_listings.specs.Passes.{deficits-listed}
-use Rattle.question_listings.proofs.sellers_listed.Reads as sellers-listed-reads
 use Rattle.question_listings.proofs.deficits_listed.Goals as goal
+use Rattle.question_listings.proofs.deficits_listed.Goals.{else-listing-s-ne0-via-then-listing-s-ne0+else-not-sellers-s, else-listing-s-ne0-via-else-listing-s-ne0}
 
 pub loop-s-init : goal.loop-s-init
 unfolding all_to
@@ -39,8 +38,10 @@ loop-s-preserved c =
       omega arith,
       all_more l.s (λ k. eqb (deficit (listing_at (at row)) k) 0 || holds marks k) l.invariant.1
           (rw (row-deficit row {s = l.s} (omega arith))
-          (⊎_elim (λ w. rw (ne_eqb (at row (deficits_in + l.s)) 0 w.0.taken, not-false (holds marks l.s) w.1.left))
-          (λ w. rw (eq-eqb (at row (deficits_in + l.s)) 0 w.left)) c.else-listing-s-ne0.branch)),
+          (elim c.else-listing-s-ne0.branch [
+            | else-listing-s-ne0-via-then-listing-s-ne0+else-not-sellers-s w ↦ rw (ne_eqb (at row (deficits_in + l.s)) 0 w.if-listing-s-ne0.true, w.if-not-sellers-s.false)
+            | else-listing-s-ne0-via-else-listing-s-ne0 w ↦ rw (eq-eqb (at row (deficits_in + l.s)) 0 w.if-listing-s-ne0.false)
+          ])),
     )
 
 pub returns : goal.returns

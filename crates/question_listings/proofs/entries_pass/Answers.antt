@@ -1,8 +1,5 @@
 -- `question_listings::entries_pass` meets its contract. Assumes nothing.
-use borrow.Author.Rules.{rules}
 use mathlib.Core.Path.{sym}
-use Rattle.question_listings.proofs.deficits_listed.Reads as deficits-listed-reads
-use Rattle.question_listings.proofs.every_listed.Reads as every-listed-reads
 use Rattle.question_listings.proofs.entries_pass.Goals as goal
 
 pub returns-then-every_listed : goal.returns-then-every_listed

@@ -1,18 +1,12 @@
 -- `question_listings::every_listed` meets its contract. The invariant: all so far meet the condition where they are listed. Assumes nothing.
 use Prim.Native.Nat.{◌≤◌, ◌-◌}
-use mathlib.Core.Path.{◌≡◌, refl, sym, ◌∙◌}
+use mathlib.Core.Path.{◌≡◌}
 use mathlib.Core.Bool.{true, not, ◌||◌}
-use native.Mathlib.Omega.{arith}
-use borrow.Author.Tests.{not-true, not-false}
 use Rattle.ids.specs.Ids.{at, all_to}
-use Rattle.ids.specs.Tests.{all_more, all-fails}
 use Rattle.limits.specs.Limits.{registrations}
-use Rattle.year.specs.Year.{listed, size}
-use Rattle.year.specs.Limits.{size_is}
-use Rattle.year_cells.specs.Layout.{listing_at, cell_terms, year_in}
-use Rattle.question_conditions.specs.Entries.{every_listed}
+use Rattle.year.specs.Year.{listed}
+use Rattle.year_cells.specs.Layout.{listing_at, year_in}
 use Rattle.question_conditions.specs.Meets.{fulfils}
-use Rattle.question_listings.proofs.passes.Reads as passes-reads
 use Rattle.question_listings.proofs.every_listed.Given as goal
 
 abbrev pub invariant-loop-i : goal.invariant-loop-i

@@ -1,19 +1,12 @@
 -- `question_listings::lists_exactly` meets its contract. The invariant: all so far are listed as they should be. Assumes nothing.
 use Prim.Native.Nat.{◌≤◌, ◌-◌}
-use mathlib.Core.Path.{◌≡◌, refl, sym}
+use mathlib.Core.Path.{◌≡◌}
 use mathlib.Core.Bool.{true, beq}
-use native.Mathlib.Omega.{arith}
-use borrow.Author.Tests.{not-true, not-false}
 use Rattle.ids.specs.Ids.{at, all_to}
-use Rattle.ids.specs.Tests.{all_more, all-fails}
 use Rattle.limits.specs.Limits.{registrations}
-use Rattle.year.specs.Year.{listed, size}
-use Rattle.year.specs.Limits.{size_is}
-use Rattle.year_cells.specs.Layout.{flag, listing_at, cell_terms, year_in}
-use Rattle.year_cells.specs.Regions.{row_listed}
-use Rattle.question_conditions.specs.Entries.{lists_exactly}
+use Rattle.year.specs.Year.{listed}
+use Rattle.year_cells.specs.Layout.{listing_at, year_in}
 use Rattle.question_conditions.specs.Selects.{selects}
-use Rattle.question_conditions.proofs.is_selected.Reads as is-selected-reads
 use Rattle.question_listings.proofs.lists_exactly.Given as goal
 
 abbrev pub invariant-loop-i : goal.invariant-loop-i

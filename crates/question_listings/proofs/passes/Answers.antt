@@ -1,19 +1,15 @@
 -- `question_listings::passes` meets its contract. Assumes nothing.
-use borrow.Author.Rules.{rules}
 use borrow.Author.Tests.{eq-eqb, ne_eqb}
 use Rattle.ids.specs.Ids.{at}
 use Rattle.year_cells.specs.Regions.{row_listed}
-use Rattle.question_conditions.proofs.meets.Reads as meets-reads
 use Rattle.question_listings.proofs.passes.Goals as goal
 
 pub returns-then-listing-i-eq0 : goal.returns-then-listing-i-eq0
 returns-then-listing-i-eq0 c =
-    let start = c in
-    let row = start.args.listing.now in
-    rw (row_listed row start.requires.i_lt_registrations, eq-eqb (at row start.args.i) 0 c.if-listing-i-eq0.true)
+    let row = c.args.listing.now in
+    rw (row_listed row c.requires.i_lt_registrations, eq-eqb (at row c.args.i) 0 c.if-listing-i-eq0.true)
 
 pub returns : goal.returns
 returns c =
-    let start = c in
-    let row = start.args.listing.now in
-    rw (row_listed row start.requires.i_lt_registrations, ne_eqb (at row start.args.i) 0 c.if-listing-i-eq0.false) c.meets.ensures
+    let row = c.args.listing.now in
+    rw (row_listed row c.requires.i_lt_registrations, ne_eqb (at row c.args.i) 0 c.if-listing-i-eq0.false) c.meets.ensures

@@ -1,17 +1,9 @@
 -- `question_listings::sellers_listed` meets its contract. The invariant: the sellers of the entries so far are marked. Assumes nothing.
 use Prim.Native.Nat.{◌≤◌, ◌-◌}
-use mathlib.Core.Path.{◌∙◌}
-use mathlib.Core.Logic.{⊎_elim}
-use native.Mathlib.Omega.{arith}
-use borrow.Author.Tests.{eq-eqb, ne_eqb}
 use Rattle.ids.specs.Ids.{at}
-use Rattle.limits.specs.Limits.{registrations, sellers}
-use Rattle.year.specs.Year.{seller}
-use Rattle.year.specs.Limits.{seller-below, size_is}
+use Rattle.limits.specs.Limits.{registrations}
 use Rattle.year_cells.specs.Layout.{listing_at, cell_terms}
-use Rattle.year_cells.specs.Regions.{row_listed}
-use Rattle.question_listings.specs.Passes.{Marked, marked-none, marked-same, marked_more, marked_all}
-use Rattle.year_cells.proofs.registration_at.Reads as registration-at-reads
+use Rattle.question_listings.specs.Passes.{Marked}
 use Rattle.question_listings.proofs.sellers_listed.Given as goal
 
 abbrev pub invariant-loop-i : goal.invariant-loop-i

@@ -1,12 +1,8 @@
 -- `statement::obliged` meets its contract. The loop's invariant: the LSEs before j are marked.
 use Prim.Native.Nat.{◌-◌}
 use mathlib.Core.Bool.{false}
-use mathlib.Core.Path.{◌≡◌, refl}
-use native.Mathlib.Omega.{arith}
-use lib.ListN.{length-replicate}
-use Rattle.ids.specs.Fill.{Filled, filled_none, filled_more}
+use Rattle.ids.specs.Fill.{Filled}
 use Rattle.limits.specs.Limits.{parties}
-use Rattle.year.specs.Year.{obligation}
 use Rattle.statement.specs.Statement.{has_obligation}
 use Rattle.statement.proofs.obliged.Given as goal
 

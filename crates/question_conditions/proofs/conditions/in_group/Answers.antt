@@ -1,5 +1,4 @@
 -- `question_conditions::conditions::in_group` meets its contract. Assumes nothing.
-use borrow.Author.Rules.{rules}
 use borrow.Author.Tests.{eq-eqb, ne_eqb}
 use Rattle.question_conditions.proofs.conditions.in_group.Goals as goal
 

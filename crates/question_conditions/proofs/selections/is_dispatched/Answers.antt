@@ -1,7 +1,5 @@
 -- `question_conditions::selections::is_dispatched` meets its contract. The invariant: none of the events so far lists it. Assumes nothing.
-use Prim.Native.Nat.{◌≤◌, ◌-◌}
 use mathlib.Core.Path.{◌≡◌, refl, sym, ◌∙◌}
-use mathlib.Core.Bool.{false}
 use native.Mathlib.Omega.{arith}
 use lib.ListN.{get_or}
 use Rattle.ids.specs.Ids.{at, any_to}
@@ -9,8 +7,6 @@ use Rattle.ids.specs.Tests.{any_at, any_none}
 use Rattle.year.specs.Year.{listed, no_event}
 use Rattle.year_cells.specs.Layout.{cell_events}
 use Rattle.owed.specs.Owed.{dispatched}
-use Rattle.year_cells.proofs.events_accepted.Reads as events-accepted-reads
-use Rattle.year_cells.proofs.listed_in.Reads as listed-in-reads
 use Rattle.question_conditions.proofs.selections.is_dispatched.Goals as goal
 
 pub loop-e-init : goal.loop-e-init
@@ -20,11 +16,10 @@ loop-e-init c = (omega arith, refl)
 pub returns-then-listed_in : goal.returns-then-listed_in
 unfolding dispatched
 returns-then-listed_in c =
-    let start = c in
-    let events = cell_events start.args.year.now in
+    let events = cell_events c.args.year.now in
     let accepted = c.events_accepted-n in
     let e = c.loop-e.e in
-    sym (any_at (at start.args.year.now 2) (λ k. listed (get_or events k no_event).listing start.args.i) e (omega (arith, accepted.ensures)) (sym c.listed_in.ensures ∙ c.if-listed_in.true))
+    sym (any_at (at c.args.year.now 2) (λ k. listed (get_or events k no_event).listing c.args.i) e (omega (arith, accepted.ensures)) (sym c.listed_in.ensures ∙ c.if-listed_in.true))
 
 pub loop-e-preserved : goal.loop-e-preserved
 loop-e-preserved c = (omega arith, any_none _ _ c.loop-e.invariant.1 (sym c.listed_in.ensures ∙ c.if-listed_in.false))

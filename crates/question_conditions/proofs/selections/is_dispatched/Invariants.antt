@@ -1,16 +1,11 @@
 -- `question_conditions::selections::is_dispatched` meets its contract. The invariant: none of the events so far lists it. Assumes nothing.
 use Prim.Native.Nat.{◌≤◌, ◌-◌}
-use mathlib.Core.Path.{◌≡◌, refl, sym, ◌∙◌}
+use mathlib.Core.Path.{◌≡◌}
 use mathlib.Core.Bool.{false}
-use native.Mathlib.Omega.{arith}
 use lib.ListN.{get_or}
-use Rattle.ids.specs.Ids.{at, any_to}
-use Rattle.ids.specs.Tests.{any_at, any_none}
+use Rattle.ids.specs.Ids.{any_to}
 use Rattle.year.specs.Year.{listed, no_event}
 use Rattle.year_cells.specs.Layout.{cell_events}
-use Rattle.owed.specs.Owed.{dispatched}
-use Rattle.year_cells.proofs.events_accepted.Reads as events-accepted-reads
-use Rattle.year_cells.proofs.listed_in.Reads as listed-in-reads
 use Rattle.question_conditions.proofs.selections.is_dispatched.Given as goal
 
 abbrev pub invariant-loop-e : goal.invariant-loop-e

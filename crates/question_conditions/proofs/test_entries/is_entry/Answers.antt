@@ -1,10 +1,7 @@
 -- `question_conditions::test_entries::is_entry` meets its contract. Assumes nothing.
-use borrow.Author.Rules.{rules}
 use mathlib.Core.Path.{sym}
 use Rattle.year.specs.Year.{seller}
 use Rattle.owed.specs.Retests.{test_entry}
-use Rattle.year_cells.proofs.registration_at.Reads as registration-at-reads
-use Rattle.year_tested.proofs.tested_in.Reads as tested-in-reads
 use Rattle.question_conditions.proofs.test_entries.is_entry.Goals as goal
 
 pub returns-then-tested_in : goal.returns-then-tested_in

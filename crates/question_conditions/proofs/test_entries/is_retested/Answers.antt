@@ -1,8 +1,5 @@
 -- `question_conditions::test_entries::is_retested` meets its contract. Assumes nothing.
-use borrow.Author.Rules.{rules}
 use mathlib.Core.Path.{sym}
-use Rattle.year_tested.proofs.retest_at.Reads as retest-at-reads
-use Rattle.question_conditions.proofs.test_entries.is_entry.Reads as is-entry-reads
 use Rattle.question_conditions.proofs.test_entries.is_retested.Goals as goal
 
 pub returns-then-is_entry : goal.returns-then-is_entry

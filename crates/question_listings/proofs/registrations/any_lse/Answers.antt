@@ -1,17 +1,13 @@
 -- `question_listings::registrations::any_lse` meets its contract. The invariant: none so far has an obligation. Assumes nothing.
-use Prim.Native.Nat.{◌≤◌, ◌-◌}
 use mathlib.Core.Path.{◌≡◌, refl, sym}
-use mathlib.Core.Bool.{false}
 use native.Mathlib.Omega.{arith}
 use borrow.Author.Tests.{lt-ltb, le-ltb}
 use lib.Dec.{ltb}
 use Rattle.ids.specs.Ids.{any_to}
 use Rattle.ids.specs.Tests.{any_at, any_none}
-use Rattle.limits.specs.Limits.{lses}
 use Rattle.year.specs.Year.{obligation, lse_count}
 use Rattle.year.specs.Limits.{lse-count-is}
 use Rattle.year_cells.specs.Layout.{cell_terms}
-use Rattle.year_cells.proofs.obligation_of.Reads as obligation-of-reads
 use Rattle.question_listings.proofs.registrations.any_lse.Goals as goal
 
 pub loop-j-init : goal.loop-j-init
@@ -20,10 +16,9 @@ loop-j-init c = (omega arith, refl)
 
 pub returns-then-obligation_of-gt0 : goal.returns-then-obligation_of-gt0
 returns-then-obligation_of-gt0 c =
-    let start = c in
-    let T = cell_terms start.args.year.now in
+    let T = cell_terms c.args.year.now in
     let j = c.loop-j.j in
-    sym (any_at (lse_count T) (λ k. ltb 0 (obligation T k)) j (omega (arith, lse-count-is start.requires.sound.terms)) (lt-ltb 0 (obligation T j) (omega (arith, c.obligation_of.ensures, c.if-obligation_of-gt0.true))))
+    sym (any_at (lse_count T) (λ k. ltb 0 (obligation T k)) j (omega (arith, lse-count-is c.requires.sound.terms)) (lt-ltb 0 (obligation T j) (omega (arith, c.obligation_of.ensures, c.if-obligation_of-gt0.true))))
 
 pub loop-j-preserved : goal.loop-j-preserved
 loop-j-preserved c =
@@ -33,6 +28,5 @@ loop-j-preserved c =
 
 pub returns : goal.returns
 returns c =
-    let start = c in
-    let all : c.loop-j.j ≡ lse_count (cell_terms start.args.year.now) = omega (arith, lse-count-is start.requires.sound.terms) in
+    let all : c.loop-j.j ≡ lse_count (cell_terms c.args.year.now) = omega (arith, lse-count-is c.requires.sound.terms) in
     sym (rw all at c.loop-j.invariant.1)

@@ -1,17 +1,12 @@
 -- `question_listings::registrations::any_lse` meets its contract. The invariant: none so far has an obligation. Assumes nothing.
 use Prim.Native.Nat.{◌≤◌, ◌-◌}
-use mathlib.Core.Path.{◌≡◌, refl, sym}
+use mathlib.Core.Path.{◌≡◌}
 use mathlib.Core.Bool.{false}
-use native.Mathlib.Omega.{arith}
-use borrow.Author.Tests.{lt-ltb, le-ltb}
 use lib.Dec.{ltb}
 use Rattle.ids.specs.Ids.{any_to}
-use Rattle.ids.specs.Tests.{any_at, any_none}
 use Rattle.limits.specs.Limits.{lses}
-use Rattle.year.specs.Year.{obligation, lse_count}
-use Rattle.year.specs.Limits.{lse-count-is}
+use Rattle.year.specs.Year.{obligation}
 use Rattle.year_cells.specs.Layout.{cell_terms}
-use Rattle.year_cells.proofs.obligation_of.Reads as obligation-of-reads
 use Rattle.question_listings.proofs.registrations.any_lse.Given as goal
 
 abbrev pub invariant-loop-j : goal.invariant-loop-j

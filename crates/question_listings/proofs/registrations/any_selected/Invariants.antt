@@ -1,14 +1,11 @@
 -- `question_listings::registrations::any_selected` meets its contract. The invariant: none so far is selected. Assumes nothing.
 use Prim.Native.Nat.{◌≤◌, ◌-◌}
-use mathlib.Core.Path.{◌≡◌, refl, sym, ◌∙◌}
+use mathlib.Core.Path.{◌≡◌}
 use mathlib.Core.Bool.{false}
-use native.Mathlib.Omega.{arith}
 use Rattle.ids.specs.Ids.{any_to}
-use Rattle.ids.specs.Tests.{any_at, any_none}
 use Rattle.limits.specs.Limits.{registrations}
 use Rattle.year_cells.specs.Layout.{year_in}
 use Rattle.question_conditions.specs.Selects.{selects}
-use Rattle.question_conditions.proofs.is_selected.Reads as is-selected-reads
 use Rattle.question_listings.proofs.registrations.any_selected.Given as goal
 
 abbrev pub invariant-loop-i : goal.invariant-loop-i

@@ -1,9 +1,6 @@
 -- `question_listings::registrations::committed_by` meets its contract. Assumes nothing.
-use borrow.Author.Rules.{rules}
 use mathlib.Core.Path.{sym}
 use Rattle.year.specs.Year.{committed}
-use Rattle.year_cells.proofs.registration_at.Reads as registration-at-reads
-use Rattle.question_conditions.proofs.is_selected.Reads as is-selected-reads
 use Rattle.question_listings.proofs.registrations.committed_by.Goals as goal
 
 pub returns-then-is_selected : goal.returns-then-is_selected

@@ -1,17 +1,14 @@
 -- `question_listings::registrations::committed_kw` meets its contract. The invariant: what those so far commit is summed. Assumes nothing.
-use Prim.Native.Nat.{◌*◌, ◌≤◌, ◌-◌}
+use Prim.Native.Nat.{◌*◌, ◌≤◌}
 use mathlib.Core.Path.{◌≡◌, refl, sym, ◌∙◌}
 use native.Mathlib.Omega.{arith}
-use Rattle.ids.specs.Ids.{sum_to, only}
+use Rattle.ids.specs.Ids.{sum_to}
 use Rattle.ids.specs.Sums.{sum_step}
 use Rattle.ids.specs.Tests.{cond-le}
 use Rattle.limits.specs.Limits.{registrations, nominated_limit}
-use Rattle.year.specs.Year.{committed}
 use Rattle.year.specs.Limits.{committed-most, committed-sum}
-use Rattle.year_cells.specs.Layout.{cell_terms, year_in}
+use Rattle.year_cells.specs.Layout.{year_in}
 use Rattle.question_conditions.specs.Selects.{selects}
-use Rattle.question_listings.proofs.registrations.committed_by.Reads as committed-by-reads
-use Rattle.units.proofs.Nominated.sum.Reads as sum-reads
 use Rattle.question_listings.proofs.registrations.committed_kw.Goals as goal
 use Rattle.question_listings.proofs.registrations.committed_kw.Goals.{After-committed_by-sum, At-loop-i}
 
@@ -22,14 +19,12 @@ loop-i-init c = (omega arith, refl)
 -- what is summed, at most
 sum-most : (c : At-loop-i) → c.loop-i.sum ≤ c.loop-i.i * nominated_limit
 sum-most c =
-    let s = c in
-    rw c.loop-i.invariant.1 (committed-sum s.requires.sound.terms (selects (year_in s.args.year.now) s.args.selection) c.loop-i.i)
+    rw c.loop-i.invariant.1 (committed-sum c.requires.sound.terms (selects (year_in c.args.year.now) c.args.selection) c.loop-i.i)
 
 one-most : (c : After-committed_by-sum) → c.committed_by-sum.result ≤ nominated_limit
 one-most c =
-    let s = c in
     let i = c.loop-i.i in
-    rw c.committed_by-sum.ensures (cond-le (selects (year_in s.args.year.now) s.args.selection i) (committed-most s.requires.sound.terms i))
+    rw c.committed_by-sum.ensures (cond-le (selects (year_in c.args.year.now) c.args.selection i) (committed-most c.requires.sound.terms i))
 
 pub loop-i-preserved : goal.loop-i-preserved
 loop-i-preserved c =

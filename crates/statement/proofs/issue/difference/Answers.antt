@@ -1,5 +1,4 @@
 -- `statement::difference` meets its contract, and does not wrap.
-use borrow.Author.Rules.{rules}
 use mathlib.Core.Path.{refl}
 use Rattle.statement.specs.Statement.{difference}
 use Rattle.statement.proofs.issue.difference.Goals as goal

@@ -1,15 +1,14 @@
 -- The amounts of the first k columns stand behind the id.
-use borrow.Author.Rules.{rules}
-use Prim.Native.Nat.{◌+◌, ◌-◌, ◌*◌, ◌≤◌}
+use Prim.Native.Nat.{◌+◌, ◌*◌}
 use mathlib.Core.Path.{◌≡◌}
 use native.Mathlib.Numerals.{add-one}
 use native.Mathlib.Omega.{arith}
 use Rattle.ids.specs.Ids.{tabulate}
 use Rattle.limits.specs.Limits.{parties}
-use Rattle.statement.specs.Statement.{amount_field, line_fields}
+use Rattle.statement.specs.Statement.{line_fields}
 use Rattle.statement.specs.Lines.{amounts-bits}
 use Rattle.statement.specs.Sizes.{difference_below}
-use Rattle.statement.specs.WrittenFields.{WrittenFields, no_fields, one_field, more-fields}
+use Rattle.statement.specs.WrittenFields.{no_fields, one_field, more-fields}
 use Rattle.statement.proofs.issue.put_line.Goals as goal
 
 pub loop-k-init : goal.loop-k-init
@@ -18,26 +17,20 @@ loop-k-init c = (omega arith, no_fields c.put-r.ensures.ready)
 
 pub difference-requires : goal.difference-requires
 difference-requires c =
-    let h = c in
-    let s = h in
-    let place = parties * h.loop-k.k + s.args.id in
-    (s.requires.columns.0.at place (omega arith), s.requires.columns.1.at place (omega arith))
+    let place = parties * c.loop-k.k + c.args.id in
+    (c.requires.columns.0.at place (omega arith), c.requires.columns.1.at place (omega arith))
 
 pub put-r-requires-in-loop-k : goal.put-r-requires-in-loop-k
 put-r-requires-in-loop-k c =
-    let h = c in
-    let p = h in
-    let s = p in
-    let w = h.loop-k.invariant.1.wrote in
-    let n = amounts-bits h.loop-k.k s.args.owed.now s.args.billed.now s.args.id in record { ready = w.ready; width_bound = omega arith; value_bound = rw c.difference.ensures (difference_below _ _); width_bound_2 = omega (arith, w.ends, w.long, p.put-r.ensures.ends, p.put-r.ensures.long) }
+    let w = c.loop-k.invariant.1.wrote in
+    let n = amounts-bits c.loop-k.k c.args.owed.now c.args.billed.now c.args.id in
+    record { ready = w.ready; width_bound = omega arith; value_bound = rw c.difference.ensures (difference_below _ _); width_bound_2 = omega (arith, w.ends, w.long, c.put-r.ensures.ends, c.put-r.ensures.long) }
 
 pub loop-k-preserved : goal.loop-k-preserved
 unfolding tabulate
 loop-k-preserved c =
-    let p = c in
-    let d = p in
-    let l = d.loop-k in
-    (omega arith, rw (add-one l.k) (more-fields l.invariant.1 (one_field (rw d.difference.ensures at p.put-r-in-loop-k.ensures))))
+    let l = c.loop-k in
+    (omega arith, rw (add-one l.k) (more-fields l.invariant.1 (one_field (rw c.difference.ensures at c.put-r-in-loop-k.ensures))))
 
 pub shape_of-out : goal.shape_of-out
 shape_of-out c = omega (arith, c.loop-k.invariant.1.wrote.long, c.put-r.ensures.long)
@@ -45,7 +38,5 @@ shape_of-out c = omega (arith, c.loop-k.invariant.1.wrote.long, c.put-r.ensures.
 pub returns : goal.returns
 unfolding line_fields
 returns c =
-    let h = c in
-    let p = h in
-    let all : h.loop-k.k ≡ p.args.n = omega arith in
-    more-fields (one_field p.put-r.ensures) (rw all at h.loop-k.invariant.1)
+    let all : c.loop-k.k ≡ c.args.n = omega arith in
+    more-fields (one_field c.put-r.ensures) (rw all at c.loop-k.invariant.1)

@@ -1,5 +1,4 @@
 -- `statement::put_parties` meets its contract: the lines of the one kind behind those of the other.
-use borrow.Author.Rules.{rules}
 use native.Mathlib.Omega.{arith}
 use Rattle.ids.specs.Ids.{holds}
 use Rattle.limits.specs.Limits.{parties}
@@ -10,21 +9,17 @@ use Rattle.statement.proofs.issue.put_parties.Goals as goal
 
 pub put_lines-lines-requires : goal.put_lines-lines-requires
 put_lines-lines-requires c =
-    let t = c in
-    let h = t.requires in record { ready = h.ready; columns = (rw t.columns.ensures (columns-sound h.sound_amounts.0), rw c.columns-2.ensures (columns-sound h.sound_amounts.1)); parties_bound = omega (arith, h) }
+    let h = c.requires in
+    record { ready = h.ready; columns = (rw c.columns.ensures (columns-sound h.sound_amounts.0), rw c.columns-2.ensures (columns-sound h.sound_amounts.1)); parties_bound = omega (arith, h) }
 
 pub put_lines-requires : goal.put_lines-requires
 put_lines-requires c =
-    let l = c in
-    let t = l in
-    let s = t in
-    let w = l.put-lines.ensures.wrote in
-    let room = lines-room 3 t.columns.result l.columns-2.result (holds s.args.sellers) parties 17 (omega arith) in record { ready = w.ready; columns = (s.requires.sound_amounts.0.lse, s.requires.sound_amounts.1.lse); parties_bound = omega (arith, w.ends, w.long, s.requires) }
+    let w = c.put_lines-lines.ensures.wrote in
+    let room = lines-room 3 c.columns.result c.columns-2.result (holds c.args.sellers) parties 17 (omega arith) in
+    record { ready = w.ready; columns = (c.requires.sound_amounts.0.lse, c.requires.sound_amounts.1.lse); parties_bound = omega (arith, w.ends, w.long, c.requires) }
 
 pub returns : goal.returns
 returns c =
-    let m = c in
-    let l = m in
     more-fields
-    (rw (l.columns.ensures, l.columns-2.ensures) at l.put-lines.ensures)
-    m.put_lines.ensures
+    (rw (c.columns.ensures, c.columns-2.ensures) at c.put_lines-lines.ensures)
+    c.put_lines.ensures
