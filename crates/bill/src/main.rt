@@ -6,12 +6,16 @@ ghost use Rattle.text_bill.specs.Text.{room};
 ghost use Rattle.record_layouts.specs.Layout.{longest_record};
 
 use bill_step::Course;
-use libc::STDIN_FILENO;
+use std::env;
+use std::fs::File;
+use std::io::{self, Read, Write};
+use std::process::ExitCode;
+use std::rt::Runtime;
 
 // Bills one record after another, up to the end or a number that ends the file; answers whether all is read and written.
 // A failed read or write ends it with nothing more written. No contract can name what is read or written: that
 // each step on what is at hand prints the file's bill is a law of `bill_step` (text-first).
-fn bill(input: i32, buffer: &mut [u8], out: &mut [u8]) -> bool
+fn bill<R: Read, W: Write>(input: &mut R, output: &mut W, buffer: &mut [u8], out: &mut [u8]) -> bool
     requires longest_record_in_bounds { longest_record ≤ length buffer.old }
     requires room_in_bounds { room ≤ length out.old }
 {
@@ -28,11 +32,11 @@ fn bill(input: i32, buffer: &mut [u8], out: &mut [u8]) -> bool
         let start = window.start;
         let end = window.end;
         if start == end {
-            return text_stream::finish(out, course.at);
+            return text_stream::finish(output, out, course.at);
         }
         let answered = bill_step::step(&mut year, course, &buffer[start..end], &mut statement, out);
         course = answered.next;
-        let gathered = text_stream::with_room(out, course.at, text_bill::ROOM);
+        let gathered = text_stream::with_room(output, out, course.at, text_bill::ROOM);
         if gathered.failed {
             return false;
         }
@@ -44,39 +48,44 @@ fn bill(input: i32, buffer: &mut [u8], out: &mut [u8]) -> bool
 }
 
 // Bills one input, through buffers of its own.
-fn bill_input(input: i32) -> bool {
-    let mut buffer = io::large_buffer();
-    let mut out = io::large_buffer();
-    bill(input, &mut buffer, &mut out)
+fn bill_input<R: Read>(rt: &impl Print, input: &mut R) -> bool {
+    let mut buffer = [0u8; 65536];
+    let mut out = [0u8; 65536];
+    bill(input, &mut io::writer(rt), &mut buffer, &mut out)
 }
 
 // Bills the file that an argument names; answers whether all is read and written.
-fn bill_argument(i: usize) -> bool {
-    let mut name = io::buffer();
-    let length = os::arg(i, &mut name);
-    if length == 1 && name[0] == b'-' {
-        return bill_input(STDIN_FILENO);
+fn bill_argument(rt: &impl Runtime, name: &str) -> bool {
+    if name == "-" {
+        return bill_input(rt, &mut rt.reader());
     }
-    let file = os::open_read(&name[..length]);
-    if file < 0 {
-        os::fail(&name[..length]);
-        return false;
+    match File::open(rt, name) {
+        Ok(mut file) => bill_input(rt, &mut file),
+        Err(error) => {
+            let _ = eprintln!(rt; "{name}: {error}");
+            false
+        }
     }
-    let is_billed = bill_input(file);
-    libc::close(file);
-    is_billed
 }
 
-fn main() {
-    let arguments = os::arg_count();
-    if arguments < 2 {
-        bill_input(STDIN_FILENO);
+// Bills what the arguments name, one after another; answers whether all is read and written.
+fn run(rt: &impl Runtime) -> io::Result<bool> {
+    let arguments = env::args(rt)?;
+    if arguments.len() < 2 {
+        return Ok(bill_input(rt, &mut rt.reader()));
     }
-    let mut i = 1;
-    while i < arguments {
-        if !bill_argument(i) {
-            return;
+    for name in arguments.skip(1) {
+        if !bill_argument(rt, &name) {
+            return Ok(false);
         }
-        i += 1;
+    }
+    Ok(true)
+}
+
+fn main(rt: HostRuntime) -> io::Result<ExitCode> {
+    if run(&rt)? {
+        Ok(ExitCode::SUCCESS)
+    } else {
+        Ok(ExitCode::FAILURE)
     }
 }

@@ -6,12 +6,16 @@ ghost use Rattle.std.specs.Prelude.{◌≤◌, length};
 ghost use Rattle.record_layouts.specs.Layout.{longest_record};
 ghost use Rattle.text_record.specs.Line.{line_room};
 
-use libc::STDIN_FILENO;
+use std::env;
+use std::fs::File;
+use std::io::{self, Read, Write};
+use std::process::ExitCode;
+use std::rt::Runtime;
 
 // Prints one record after another, up to the end or a number that ends the file; answers whether all is read and written.
 // A failed read or write ends it with nothing more written. No contract can name what is read or written: that
 // the lines of what is at hand are the file's is a law of `text_record` (lines-first).
-fn dump(input: i32, buffer: &mut [u8], out: &mut [u8]) -> bool
+fn dump<R: Read, W: Write>(input: &mut R, output: &mut W, buffer: &mut [u8], out: &mut [u8]) -> bool
     requires longest_record_in_bounds { longest_record ≤ length buffer.old }
     requires line_room_in_bounds { line_room ≤ length out.old }
 {
@@ -27,10 +31,10 @@ fn dump(input: i32, buffer: &mut [u8], out: &mut [u8]) -> bool
         let start = window.start;
         let end = window.end;
         if start == end {
-            return text_stream::finish(out, at);
+            return text_stream::finish(output, out, at);
         }
         let printed = text_record::print(position, &buffer[start..end], out, at);
-        let gathered = text_stream::with_room(out, printed.at, text_record::ROOM);
+        let gathered = text_stream::with_room(output, out, printed.at, text_record::ROOM);
         if gathered.failed {
             return false;
         }
@@ -42,39 +46,44 @@ fn dump(input: i32, buffer: &mut [u8], out: &mut [u8]) -> bool
 }
 
 // Prints one input, through buffers of its own.
-fn dump_input(input: i32) -> bool {
-    let mut buffer = io::large_buffer();
-    let mut out = io::large_buffer();
-    dump(input, &mut buffer, &mut out)
+fn dump_input<R: Read>(rt: &impl Print, input: &mut R) -> bool {
+    let mut buffer = [0u8; 65536];
+    let mut out = [0u8; 65536];
+    dump(input, &mut io::writer(rt), &mut buffer, &mut out)
 }
 
 // Prints the file that an argument names; answers whether all is read and written.
-fn dump_argument(i: usize) -> bool {
-    let mut name = io::buffer();
-    let length = os::arg(i, &mut name);
-    if length == 1 && name[0] == b'-' {
-        return dump_input(STDIN_FILENO);
+fn dump_argument(rt: &impl Runtime, name: &str) -> bool {
+    if name == "-" {
+        return dump_input(rt, &mut rt.reader());
     }
-    let file = os::open_read(&name[..length]);
-    if file < 0 {
-        os::fail(&name[..length]);
-        return false;
+    match File::open(rt, name) {
+        Ok(mut file) => dump_input(rt, &mut file),
+        Err(error) => {
+            let _ = eprintln!(rt; "{name}: {error}");
+            false
+        }
     }
-    let is_dumped = dump_input(file);
-    libc::close(file);
-    is_dumped
 }
 
-fn main() {
-    let arguments = os::arg_count();
-    if arguments < 2 {
-        dump_input(STDIN_FILENO);
+// Prints what the arguments name, one after another; answers whether all is read and written.
+fn run(rt: &impl Runtime) -> io::Result<bool> {
+    let arguments = env::args(rt)?;
+    if arguments.len() < 2 {
+        return Ok(dump_input(rt, &mut rt.reader()));
     }
-    let mut i = 1;
-    while i < arguments {
-        if !dump_argument(i) {
-            return;
+    for name in arguments.skip(1) {
+        if !dump_argument(rt, &name) {
+            return Ok(false);
         }
-        i += 1;
+    }
+    Ok(true)
+}
+
+fn main(rt: HostRuntime) -> io::Result<ExitCode> {
+    if run(&rt)? {
+        Ok(ExitCode::SUCCESS)
+    } else {
+        Ok(ExitCode::FAILURE)
     }
 }

@@ -5,19 +5,26 @@
 ghost use Rattle.std.specs.Prelude.{◌≤◌, length};
 ghost use Rattle.record_layouts.specs.Layout.{longest_permitted};
 
-use libc::{STDERR_FILENO, STDIN_FILENO};
+use std::io::{Read, Write};
+use std::process::ExitCode;
 
 // Tells the refusal of a line.
-fn refuse(position: u64, number: u64) -> bool {
+fn refuse<W: Write>(refusals: &mut W, position: u64, number: u64) -> bool {
     let mut text = [0u8; 64];
     let end = text_bill::refusal_line(position, number, &mut text, 0);
-    io::write_all(STDERR_FILENO, &text[0..end])
+    refusals.write_all(&text[0..end]).is_ok()
 }
 
 // Packs one line after another, up to the end; answers whether all is read and written.
 // A failed read or write ends it with nothing more written. No contract can name what is read or written:
 // what a line packs to is the contract of `text_record::pack`.
-fn pack(input: i32, buffer: &mut [u8], out: &mut [u8]) -> bool
+fn pack<R: Read, W: Write, E: Write>(
+    input: &mut R,
+    output: &mut W,
+    refusals: &mut E,
+    buffer: &mut [u8],
+    out: &mut [u8],
+) -> bool
     requires { longest_permitted ≤ length out.old }
 {
     let mut window = text_stream::new_window();
@@ -40,14 +47,14 @@ fn pack(input: i32, buffer: &mut [u8], out: &mut [u8]) -> bool
             continue;
         }
         if start == window.end && !cut {
-            return text_stream::finish(out, at);
+            return text_stream::finish(output, out, at);
         }
         let packed = text_record::pack(&buffer[start..end], cut, out, at);
         let number = packed.number;
-        if number != 0 && !refuse(position, number) {
+        if number != 0 && !refuse(refusals, position, number) {
             return false;
         }
-        let gathered = text_stream::with_room(out, packed.at, record_numbers::PERMITTED);
+        let gathered = text_stream::with_room(output, out, packed.at, record_numbers::PERMITTED);
         if gathered.failed {
             return false;
         }
@@ -59,8 +66,21 @@ fn pack(input: i32, buffer: &mut [u8], out: &mut [u8]) -> bool
     false
 }
 
-fn main() {
-    let mut buffer = io::large_buffer();
-    let mut out = io::large_buffer();
-    pack(STDIN_FILENO, &mut buffer, &mut out);
+fn main(rt: HostRuntime) -> ExitCode {
+    let mut buffer = [0u8; 65536];
+    let mut out = [0u8; 65536];
+    let mut input = rt.stdin();
+    let mut output = rt.stdout();
+    let mut refusals = rt.stderr();
+    if pack(
+        &mut input,
+        &mut output,
+        &mut refusals,
+        &mut buffer,
+        &mut out,
+    ) {
+        ExitCode::SUCCESS
+    } else {
+        ExitCode::FAILURE
+    }
 }

@@ -9,6 +9,7 @@ ghost use Rattle.text_stream.specs.Filled.{Behind, Filled, LineWithin};
 mod output;
 
 pub use output::{finish, with_room};
+use std::io::Read;
 
 // The part of the input buffer that is still to be taken. Ended: no more comes; failed: a read failed.
 #[derive(Clone, Copy)]
@@ -32,7 +33,7 @@ pub fn new_window() -> Window
 }
 
 // Reads until the window has at least so many bytes, or the input ends; answers the window.
-pub fn filled(input: i32, buffer: &mut [u8], window: Window, least: usize) -> Window
+pub fn filled<R: Read>(input: &mut R, buffer: &mut [u8], window: Window, least: usize) -> Window
     requires start_le_end { window.start ≤ window.end }
     requires end_in_bounds { window.end ≤ length buffer.old }
     requires least_in_bounds { least ≤ length buffer.old }
@@ -65,7 +66,7 @@ pub struct Line {
 }
 
 // Finds the next line, up to its newline, or to the window's end where the input ends or the buffer is full before.
-pub fn next_line(input: i32, buffer: &mut [u8], window: Window) -> Line
+pub fn next_line<R: Read>(input: &mut R, buffer: &mut [u8], window: Window) -> Line
     requires start_le_end { window.start ≤ window.end }
     requires end_in_bounds { window.end ≤ length buffer.old }
     ensures line_within { LineWithin buffer.old result }
@@ -137,18 +138,24 @@ fn to_front(buffer: &mut [u8], start: usize, end: usize) -> usize
 }
 
 // Reads once behind what is there; answers the window of both.
-fn read_more(input: i32, buffer: &mut [u8], end: usize) -> Window
+fn read_more<R: Read>(input: &mut R, buffer: &mut [u8], end: usize) -> Window
     requires { end ≤ length buffer.old }
     ensures start_value { (result.start ≡ 0) × (end ≤ result.end) × (result.end ≤ length buffer.old) }
     ensures end_lt_end { result.ended ≡ false → end < result.end }
     ensures buffer_unchanged { take end buffer.new ≡ take end buffer.old }
 {
-    let got = libc::read(input, &mut buffer[end..]);
-    let n = io::count(got, &buffer[end..]);
-    Window {
-        start: 0,
-        end: end + n,
-        ended: n == 0,
-        failed: got < 0,
+    match input.read(&mut buffer[end..]) {
+        Ok(n) => Window {
+            start: 0,
+            end: end + n,
+            ended: n == 0,
+            failed: false,
+        },
+        Err(_) => Window {
+            start: 0,
+            end: end,
+            ended: true,
+            failed: true,
+        },
     }
 }

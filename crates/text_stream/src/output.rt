@@ -2,7 +2,7 @@
 ghost use Rattle.std.specs.Prelude.{true, false, ◌≡◌, ◌+◌, ◌≤◌, length};
 ghost use Rattle.text_stream.specs.Room.{place_for};
 
-use libc::STDOUT_FILENO;
+use std::io::Write;
 
 // The place up to which output is gathered; failed: a write failed.
 #[derive(Clone, Copy)]
@@ -12,7 +12,7 @@ pub struct Gathered {
 }
 
 // Makes room for so many bytes more: where less is left, what is gathered is written. With room for the whole buffer all is written.
-pub fn with_room(out: &[u8], at: usize, room: usize) -> Gathered
+pub fn with_room<W: Write>(output: &mut W, out: &[u8], at: usize, room: usize) -> Gathered
     requires at_in_bounds { at ≤ length out.now }
     requires room_in_bounds { room ≤ length out.now }
     ensures at_value { result.at ≡ place_for room (length out.now) at }
@@ -25,7 +25,7 @@ pub fn with_room(out: &[u8], at: usize, room: usize) -> Gathered
             failed: false,
         };
     }
-    let is_written = io::write_all(STDOUT_FILENO, &out[0..at]);
+    let is_written = output.write_all(&out[0..at]).is_ok();
     Gathered {
         at: 0,
         failed: !is_written,
@@ -33,9 +33,9 @@ pub fn with_room(out: &[u8], at: usize, room: usize) -> Gathered
 }
 
 // Writes all that is gathered; answers whether it is written.
-pub fn finish(out: &[u8], at: usize) -> bool
+pub fn finish<W: Write>(output: &mut W, out: &[u8], at: usize) -> bool
     requires { at ≤ length out.now }
     ensures { at ≡ 0 → result ≡ true }
 {
-    !with_room(out, at, out.len()).failed
+    !with_room(output, out, at, out.len()).failed
 }

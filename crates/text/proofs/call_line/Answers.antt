@@ -1,6 +1,5 @@
 -- The words of the line, one after another.
 use native.Mathlib.Omega.{arith}
-use borrow.Author.Rules.{rules}
 use Rattle.text.specs.Lines.{call_line}
 use Rattle.text.specs.Pasted.{then}
 use Rattle.text.specs.LineLaws.{decimal-length}

@@ -1,7 +1,6 @@
 -- Digits up to 9, then letters.
 use borrow.Author.Tests.{lt-ltb, le-ltb}
 use Rattle.text.specs.Lines.{character}
-use borrow.Author.Rules.{rules}
 use Rattle.text.proofs.character_of.Goals as goal
 
 pub returns-then-n-lt10 : goal.returns-then-n-lt10

@@ -1,13 +1,12 @@
 -- The first number, and after each turn the further ones so far.
 use mathlib.Core.Path.{◌≡◌}
-use Prim.Native.Nat.{◌+◌, ◌-◌, ◌*◌, ◌≤◌, ◌<◌}
+use Prim.Native.Nat.{◌+◌, ◌-◌, ◌<◌}
 use native.Mathlib.Omega.{arith}
 use lib.ListN.{length, get_or, take, drop, length-drop}
 use lib.Seq.{take_all, get_or-drop}
 use Rattle.text.specs.Lines.{decimal, word, each}
-use Rattle.text.specs.Pasted.{Pasted, pasted_length, none, then}
+use Rattle.text.specs.Pasted.{pasted_length, none, then}
 use Rattle.text.specs.LineLaws.{decimal-length, each_step, no-numbers, numbers-line}
-use borrow.Author.Rules.{rules}
 use Rattle.text.proofs.numbers_line.Goals as goal
 
 pub returns-then-numbers-eq0 : goal.returns-then-numbers-eq0
@@ -19,7 +18,7 @@ pub loop-i-init : goal.loop-i-init
 unfolding each
 loop-i-init c =
     let put = c.put_decimal-p in
-    (omega arith, omega arith, none put.new.0 put.result (omega (arith, put.auto.0, put.ensures.within)), omega (arith, put.ensures.next, decimal-length (get_or c.args.numbers.now 0 0)))
+    (omega arith, omega arith, none put.new.out put.result (omega (arith, put.auto.out, put.ensures.within)), omega (arith, put.ensures.next, decimal-length (get_or c.args.numbers.now 0 0)))
 
 pub put_number-p-requires : goal.put_number-p-requires
 put_number-p-requires c =

@@ -1,13 +1,8 @@
 -- The first number, and after each turn the further ones so far.
-use mathlib.Core.Path.{◌≡◌}
-use Prim.Native.Nat.{◌+◌, ◌-◌, ◌*◌, ◌≤◌, ◌<◌}
-use native.Mathlib.Omega.{arith}
-use lib.ListN.{length, get_or, take, drop, length-drop}
-use lib.Seq.{take_all, get_or-drop}
+use Prim.Native.Nat.{◌+◌, ◌-◌, ◌*◌, ◌≤◌}
+use lib.ListN.{length, take, drop}
 use Rattle.text.specs.Lines.{decimal, word, each}
-use Rattle.text.specs.Pasted.{Pasted, pasted_length, none, then}
-use Rattle.text.specs.LineLaws.{decimal-length, each_step, no-numbers, numbers-line}
-use borrow.Author.Rules.{rules}
+use Rattle.text.specs.Pasted.{Pasted}
 use Rattle.text.proofs.numbers_line.Given as goal
 
 abbrev pub invariant-loop-i : goal.invariant-loop-i

@@ -1,5 +1,4 @@
 -- A store is a paste of one byte.
-use borrow.Author.Rules.{rules}
 use Rattle.text.specs.Pasted.{one}
 use Rattle.text.proofs.put_byte.Goals as goal
 

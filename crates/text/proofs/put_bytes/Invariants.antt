@@ -1,13 +1,8 @@
 -- After each turn the digits of the bytes so far stand in the buffer.
-use mathlib.Core.Path.{◌≡◌}
 use Prim.Native.Nat.{◌+◌, ◌-◌, ◌*◌, ◌≤◌}
-use native.Mathlib.Omega.{arith}
 use lib.ListN.{length, take}
-use lib.Seq.{take-length}
 use Rattle.text.specs.Lines.{each, hex_of}
-use Rattle.text.specs.Pasted.{Pasted, pasted_length, none, then}
-use Rattle.text.specs.LineLaws.{each_step, no_bytes, some_bytes}
-use borrow.Author.Rules.{rules}
+use Rattle.text.specs.Pasted.{Pasted}
 use Rattle.text.proofs.put_bytes.Given as goal
 
 abbrev pub invariant-loop-i : goal.invariant-loop-i

@@ -1,5 +1,4 @@
 -- The higher digit, then the lower.
-use borrow.Author.Rules.{rules}
 use Rattle.text.specs.Pasted.{then}
 use Rattle.text.proofs.put_hexadecimal.Goals as goal
 

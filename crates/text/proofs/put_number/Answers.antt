@@ -1,5 +1,4 @@
 -- A space, then the digits.
-use borrow.Author.Rules.{rules}
 use native.Mathlib.Omega.{arith}
 use Rattle.text.specs.Pasted.{then}
 use Rattle.text.specs.LineLaws.{decimal-length}

@@ -1,10 +1,10 @@
 -- After each turn the bytes so far stand at the front, and those still to be moved where they were.
 use mathlib.Core.Path.{◌≡◌, ap, ◌∙◌}
-use Prim.Native.Nat.{◌-◌, ◌≤◌}
+use Prim.Native.Nat.{◌-◌}
 use native.Mathlib.Omega.{arith}
 use borrow.Author.Rules.{rules}
 use lib.ListN.{length}
-use Rattle.text_stream.specs.Front.{moved, moved_length, moved_more}
+use Rattle.text_stream.specs.Front.{moved_length, moved_more}
 use Rattle.text_stream.proofs.to_front.Goals as goal
 
 pub bounds-buffer-start : goal.bounds-buffer-start

@@ -1,12 +1,10 @@
 -- With i digits passed, the number is what they spell.
 use mathlib.Core.Path.{◌≡◌, refl, ◌∙◌}
-use Prim.Native.Nat.{◌-◌, ◌≤◌}
 use native.Mathlib.Omega.{arith}
-use lib.ListN.{length, take}
+use lib.ListN.{length}
 use lib.Seq.{take-length}
 use Rattle.text.specs.Words.{spelled}
 use Rattle.text.proofs.Words.{spelled-more}
-use borrow.Author.Rules.{rules}
 use Rattle.text.proofs.scan.decimal.Goals as goal
 
 pub loop-i-init : goal.loop-i-init

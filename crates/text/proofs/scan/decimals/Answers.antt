@@ -1,14 +1,11 @@
 -- With n words passed, the front of out holds their numbers, and those of the rest of the line are left.
-use Prim.Native.Nat.{◌-◌, ◌≤◌, ◌<◌}
-use mathlib.Core.Bool.{false}
-use mathlib.Core.List.{[], ◌++◌, map}
+use mathlib.Core.List.{[], map}
 use mathlib.Core.Path.{◌≡◌, refl, ap, ◌∙◌}
 use native.Mathlib.Numerals.{add-one}
 use native.Mathlib.Omega.{arith}
-use lib.ListN.{length, get_or, take, drop, length-set, length-drop, drop_of_length-le}
+use lib.ListN.{length, take, drop, length-set, length-drop, drop_of_length-le}
 use lib.Seq.{length-take-le}
-use borrow.Author.Rules.{rules}
-use Rattle.text.specs.Words.{separates, closed, words_from, spelled, numbers}
+use Rattle.text.specs.Words.{closed, words_from, spelled, numbers}
 use Rattle.text.proofs.Digits.{front-more}
 use Rattle.text.proofs.Words.{numbers-next, next-number}
 use Rattle.text.proofs.scan.decimals.Goals as goal

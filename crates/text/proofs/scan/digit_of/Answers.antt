@@ -1,7 +1,6 @@
 -- The tests are those of the definition, in its order.
 use borrow.Author.Tests.{lt-ltb, le-ltb}
 use Rattle.text.specs.Digits.{digit}
-use borrow.Author.Rules.{rules}
 use Rattle.text.proofs.scan.digit_of.Goals as goal
 
 pub returns-then-b-lt48 : goal.returns-then-b-lt48

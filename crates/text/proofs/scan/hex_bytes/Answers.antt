@@ -1,12 +1,9 @@
 -- With i pairs passed, the front of out holds their bytes and the rest is as it was.
-use mathlib.Core.List.{◌++◌}
 use mathlib.Core.Path.{◌≡◌, refl}
-use Prim.Native.Nat.{◌-◌, ◌≤◌}
 use native.Mathlib.Omega.{arith}
-use lib.ListN.{length, drop, length-set}
+use lib.ListN.{length-set}
 use Rattle.text.specs.Digits.{pairs}
 use Rattle.text.proofs.Digits.{pairs-more}
-use borrow.Author.Rules.{rules}
 use Rattle.text.proofs.scan.hex_bytes.Goals as goal
 
 pub loop-i-init : goal.loop-i-init

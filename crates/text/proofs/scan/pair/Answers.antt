@@ -1,7 +1,6 @@
 -- A digit is below 16, so two make a byte.
 use native.Mathlib.Omega.{arith}
 use Rattle.text.proofs.Digits.{digit_lt}
-use borrow.Author.Rules.{rules}
 use Rattle.text.proofs.scan.pair.Goals as goal
 
 pub overflow_mul-result : goal.overflow_mul-result

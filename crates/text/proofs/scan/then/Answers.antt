@@ -1,6 +1,5 @@
 -- The tests are those of the definition, and then what keeps the sum from wrapping.
 use native.Mathlib.Omega.{arith}
-use borrow.Author.Rules.{rules}
 use borrow.Author.Tests.{le-leb, lt-leb}
 use Rattle.text.specs.Words.{further}
 use Rattle.text.proofs.scan.then.Goals as goal

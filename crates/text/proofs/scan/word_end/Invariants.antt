@@ -1,11 +1,8 @@
 -- What is passed is the characters of the word.
 use Prim.Native.Nat.{◌-◌, ◌≤◌, ◌<◌}
-use mathlib.Core.Path.{◌≡◌, sym, ◌∙◌}
-use native.Mathlib.Omega.{arith}
-use borrow.Author.Rules.{rules}
+use mathlib.Core.Path.{◌≡◌}
 use lib.ListN.{length, take, drop}
 use Rattle.text.specs.Words.{words, words_from}
-use Rattle.text.proofs.Words.{character-joined, word-closed}
 use Rattle.text.proofs.scan.word_end.Given as goal
 
 abbrev pub invariant-loop-i : goal.invariant-loop-i

@@ -1,11 +1,6 @@
 -- What is passed is separators alone.
-use Prim.Native.Nat.{◌-◌, ◌≤◌}
-use mathlib.Core.Path.{◌≡◌, refl, sym, ◌∙◌}
+use mathlib.Core.Path.{refl, sym, ◌∙◌}
 use native.Mathlib.Omega.{arith}
-use borrow.Author.Rules.{rules}
-use borrow.Author.Tests.{not-true, not-false}
-use lib.ListN.{length, drop}
-use Rattle.text.specs.Words.{words}
 use Rattle.text.proofs.Words.{separator-passed}
 use Rattle.text.proofs.scan.word_start.Goals as goal
 

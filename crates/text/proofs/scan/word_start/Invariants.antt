@@ -1,12 +1,8 @@
 -- What is passed is separators alone.
 use Prim.Native.Nat.{◌-◌, ◌≤◌}
-use mathlib.Core.Path.{◌≡◌, refl, sym, ◌∙◌}
-use native.Mathlib.Omega.{arith}
-use borrow.Author.Rules.{rules}
-use borrow.Author.Tests.{not-true, not-false}
+use mathlib.Core.Path.{◌≡◌}
 use lib.ListN.{length, drop}
 use Rattle.text.specs.Words.{words}
-use Rattle.text.proofs.Words.{separator-passed}
 use Rattle.text.proofs.scan.word_start.Given as goal
 
 abbrev pub invariant-loop-i : goal.invariant-loop-i
