@@ -2,7 +2,6 @@
 use mathlib.Core.Path.{sym}
 use native.Mathlib.Omega.{arith}
 use lib.ListN.{get_or-eq_default}
-use borrow.Author.Rules.{rules}
 use Rattle.record_write.proofs.first_of.Goals as goal
 
 pub returns-then-numbers-eq0 : goal.returns-then-numbers-eq0

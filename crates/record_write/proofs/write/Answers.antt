@@ -3,7 +3,7 @@ use mathlib.Core.Bool.{true, true≢false, and-false}
 use mathlib.Core.List.{List}
 use mathlib.Core.Path.{◌≡◌, refl, sym, ap, subst, ◌∙◌}
 use Prim.Native.Nat.{ℕ, ◌≤◌, ◌<◌}
-use borrow.Author.Tests.{not-true, not-false, ne_eqb}
+use borrow.Author.Tests.{ne_eqb}
 use lib.ListN.{length}
 use Rattle.ids.specs.Ids.{at}
 use Rattle.bits.specs.Table.{total}
@@ -14,7 +14,6 @@ use Rattle.record_layouts.specs.QuestionLaws.{kind-in}
 use Rattle.record_layouts.specs.Parts.{Stated}
 use Rattle.record_numbers.specs.Parsing.{Writable}
 use Rattle.record_write.specs.Encoding.{stops-1, stops-3, stops-5, stops-16, stops-none, denies, grants, short-stops, head-stops, passes, by_kind, stated-by}
-use borrow.Author.Rules.{rules}
 use native.Mathlib.Omega.{arith}
 use Rattle.record_write.proofs.write.Goals as goal
 use Rattle.record_write.proofs.write.Goals.{After-size_of, Else-bytes-size_of, Else-not-head_permitted, Else-not-is_kind, Else-not-lists_permitted, Else-not-lists_rise, Else-numbers-head_of, Else-numbers-s}
@@ -30,7 +29,8 @@ long-at : (c : Else-numbers-head_of) → length (head c.first_of-kind.result) �
 long-at c = rw (← c.head_of.ensures) c.if-numbers-head_of.false
 
 stated-at : (c : Else-not-head_permitted) → Stated c.first_of-kind.result c.args.numbers.now
-stated-at c = stated-by _ c.first_of-kind.ensures (kind_at c) (long-at c) (sym c.head_permitted.ensures ∙ c.if-not-head_permitted.false)
+stated-at c =
+    stated-by _ c.first_of-kind.ensures (sym c.is_kind.ensures ∙ c.if-not-is_kind.false) (rw (← c.head_of.ensures) c.if-numbers-head_of.false) (sym c.head_permitted.ensures ∙ c.if-not-head_permitted.false)
 
 count_at : (c : Else-numbers-s) → length c.args.numbers.now ≡ length (rules_by c.args.numbers.now)
 count_at c = omega (arith, c.if-numbers-s.false, c.shape_of-s.ensures.count, ap length (by_kind c.args.numbers.now c.first_of-kind.ensures))
@@ -46,18 +46,23 @@ permits-at c =
 rise-at : (c : Else-not-lists_rise) → ids_rise c.args.numbers.now ≡ true
 rise-at c = sym c.lists_rise.ensures ∙ c.if-not-lists_rise.false
 
-size-at : (c : After-size_of) → c.type_size.result ≡ size_of (rules_by c.args.numbers.now)
+size-at : (c : After-size_of) → c.size_of.result ≡ size_of (rules_by c.args.numbers.now)
 size-at c =
-    c.type_size.ensures ∙ ap bytes_for (c.shape_of-s.ensures.bits ∙ ap (λ (rs : List Rule). total (widths rs)) (by_kind c.args.numbers.now c.first_of-kind.ensures))
+    c.size_of.ensures ∙ ap bytes_for (c.shape_of-s.ensures.bits ∙ ap (λ (rs : List Rule). total (widths rs)) (by_kind c.args.numbers.now c.first_of-kind.ensures))
 
 writable-at : (c : Else-bytes-size_of) → Writable c.args.numbers.now (length c.args.bytes.now)
 writable-at c =
+    let vs = c.args.numbers.now in
+    let e = c.first_of-kind.ensures in
+    let b = by_kind vs e in
+    let size : c.size_of.result ≡ size_of (rules_by vs) =
+    c.size_of.ensures ∙ ap bytes_for (c.shape_of-s.ensures.bits ∙ ap (λ (rs : List Rule). total (widths rs)) b) in
     record {
-      kind = first-at c;
-      counted = count_at c;
-      permits = permits-at c;
-      rise = rise-at c;
-      fits = rw (← size-at c) c.if-bytes-size_of.false;
+      kind = ap is_kind (sym e) ∙ sym c.is_kind.ensures ∙ c.if-not-is_kind.false;
+      counted = omega (arith, c.if-numbers-s.false, c.shape_of-s.ensures.count, ap length b);
+      permits = ap (λ (rs : List Rule). permitted rs vs) (sym b) ∙ sym c.lists_permitted.ensures ∙ c.if-not-lists_permitted.false;
+      rise = sym c.lists_rise.ensures ∙ c.if-not-lists_rise.false;
+      fits = rw (← size) c.if-bytes-size_of.false;
     }
 
 pub returns-then-not-is_kind : goal.returns-then-not-is_kind

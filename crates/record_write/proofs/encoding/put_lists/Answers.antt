@@ -1,12 +1,8 @@
 -- With i lists written, the bits are those of the fields before list i.
-use Prim.Native.Nat.{ℕ, ◌+◌, ◌-◌, ◌≤◌, ◌<◌}
-use mathlib.Core.List.{List}
+use Prim.Native.Nat.{ℕ, ◌+◌, ◌-◌, ◌<◌}
 use mathlib.Core.Path.{◌≡◌, refl, ap, ◌∙◌}
-use lib.ListN.{length, take}
-use Rattle.bits_write.specs.declared.Writer.{Writer}
-use Rattle.bits.specs.Table.{total}
-use Rattle.bits_write.specs.Written.{joined, written_bits, Ready, Wrote}
-use Rattle.record_layouts.specs.Layout.{head, lists, rules_to, widths}
+use lib.ListN.{length}
+use Rattle.record_layouts.specs.Layout.{lists, rules_to}
 use Rattle.record_layouts.specs.Questions.{is_kind}
 use Rattle.record_layouts.specs.QuestionLaws.{kind-in}
 use Rattle.record_layouts.specs.PartLaws.{table-long}
@@ -72,7 +68,14 @@ put_items-q-requires c =
     let l = c.loop-i in
     let h = c.list_at-list.ensures in
     let inside = inside-at s.args.kind l.i c.lists_of-n.ensures c.loop-i-test.true in
-    let d : l.p + c.list_at-list.result.numbers - l.p ≡ c.list_at-list.result.numbers = omega arith in record { ready = rw (s.requires.ws_value, h.fields (λ r. r.width), h.items, d) l.invariant.3; t = rw (s.requires.ws_value, h.fields (λ r. r.width), h.items, d) (part-narrow e w inside l.invariant.1 h.numbers); values_len = rw (s.requires.ws_value, h.fields (λ r. r.width), h.items, d) (part-long e w inside l.invariant.1 h.numbers); valid = rw (s.requires.ws_value, h.fields (λ r. r.width), h.items, d) (part-valid e w inside l.invariant.1 h.numbers); ws_bound = rw (s.requires.ws_value, h.fields (λ r. r.width), h.items, d) (omega (arith, l.invariant.2, l.invariant.4, part-fits e w inside l.invariant.1 h.numbers)) }
+    let d : l.p + c.list_at-list.result.numbers - l.p ≡ c.list_at-list.result.numbers = omega arith in
+    record {
+      ready = l.invariant.3;
+      t = rw (s.requires.ws_value, h.fields (λ r. r.width)) (part-narrow e w inside l.invariant.1 h.numbers);
+      values_len = rw (s.requires.ws_value, h.fields (λ r. r.width), h.items, d) (part-long e w inside l.invariant.1 h.numbers);
+      valid = rw (s.requires.ws_value, h.fields (λ r. r.width), h.items, d) (part-valid e w inside l.invariant.1 h.numbers);
+      ws_bound = rw (s.requires.ws_value, h.fields (λ r. r.width), h.items) (omega (arith, l.invariant.2, l.invariant.4, part-fits e w inside l.invariant.1 h.numbers));
+    }
 
 pub loop-i-preserved : goal.loop-i-preserved
 loop-i-preserved c =

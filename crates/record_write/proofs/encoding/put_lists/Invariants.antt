@@ -1,17 +1,12 @@
 -- With i lists written, the bits are those of the fields before list i.
-use Prim.Native.Nat.{ℕ, ◌+◌, ◌-◌, ◌≤◌, ◌<◌}
+use Prim.Native.Nat.{ℕ, ◌-◌, ◌≤◌}
 use mathlib.Core.List.{List}
-use mathlib.Core.Path.{◌≡◌, refl, ap, ◌∙◌}
+use mathlib.Core.Path.{◌≡◌}
 use lib.ListN.{length, take}
 use Rattle.bits_write.specs.declared.Writer.{Writer}
 use Rattle.bits.specs.Table.{total}
 use Rattle.bits_write.specs.Written.{joined, written_bits, Ready, Wrote}
 use Rattle.record_layouts.specs.Layout.{head, lists, rules_to, widths}
-use Rattle.record_layouts.specs.Questions.{is_kind}
-use Rattle.record_layouts.specs.QuestionLaws.{kind-in}
-use Rattle.record_layouts.specs.PartLaws.{table-long}
-use Rattle.record_write.specs.Encoding.{put-stated, part_room, part-long, part-narrow, part-valid, part-total, part-fits, part-next, part-written, lists-written}
-use native.Mathlib.Omega.{arith}
 use Rattle.record_write.proofs.encoding.put_lists.Given as goal
 
 abbrev pub invariant-loop-i : goal.invariant-loop-i

@@ -3,7 +3,6 @@ use Prim.Native.Nat.{ℕ, ◌-◌}
 use mathlib.Core.Path.{◌≡◌, refl, sym, ap, subst, ◌∙◌}
 use lib.ListN.{length, take}
 use lib.Seq.{length-take-le}
-use Rattle.ids.specs.Ids.{at}
 use Rattle.bits.specs.Table.{total}
 use Rattle.bits_write.specs.Written.{joined, Ready, Wrote}
 use Rattle.record_layouts.specs.Layout.{head, widths}
@@ -22,20 +21,24 @@ use Rattle.record_write.proofs.encoding.put_record.Goals.{After-part_at-part, Af
 head_at : (c : After-part_at-part) → c.part_at-part.result.end - c.part_at-part.result.start ≡ length (head c.args.kind)
 head_at c = omega (arith, c.part_at-part.ensures.long)
 
-part-written : (c : After-put_all-head) → let s = c in let hs = head s.args.kind in
-    Wrote s.args.bytes.now c.put_all-head.new.1.0 c.new.result c.put_all-head.result (total (widths hs)) (joined (widths hs) (take (length hs) s.args.numbers.now))
-part-written c = rw (c.requires.ws_value, c.part_at-part.ensures.fields (λ r. r.width), head_at c) at c.put_all-head.ensures
+part-written : (c : After-put_all-head) → let hs = head c.args.kind in
+    Wrote c.args.bytes.now c.put_all-head.new.bytes c.new.result c.put_all-head.result (total (widths hs)) (joined (widths hs) (take (length hs) c.args.numbers.now))
+part-written c =
+    let n : c.part_at-part.result.end - c.part_at-part.result.start ≡ length (head c.args.kind) = omega (arith, c.part_at-part.ensures.long) in
+    rw (c.requires.ws_value, c.part_at-part.ensures.fields (λ r. r.width), n) at c.put_all-head.ensures
 
-lists-written : (c : After-put_lists-lists) → let s = c in let ws = widths (rules_by s.args.numbers.now) in
-    Wrote s.args.bytes.now c.put_lists-lists.new.1.1.1.1.0 c.new.result c.put_lists-lists.result (total ws) (joined ws s.args.numbers.now)
+lists-written : (c : After-put_lists-lists) → let ws = widths (rules_by c.args.numbers.now) in
+    Wrote c.args.bytes.now c.put_lists-lists.new.bytes c.new.result c.put_lists-lists.result (total ws) (joined ws c.args.numbers.now)
 lists-written c =
     let s = c in
     let vs = s.args.numbers.now in
-    let one = c.put_all-head.new.1.0 in
+    let one = c.put_all-head.new.bytes in
     let p = c.new.result in
     let q = c.put_all-head.result in
+    let n : c.part_at-part.result.end - c.part_at-part.result.start ≡ length (head c.args.kind) = omega (arith, c.part_at-part.ensures.long) in
+    let part = rw (c.requires.ws_value, c.part_at-part.ensures.fields (λ r. r.width), n) at c.put_all-head.ensures in
     c.put_lists-lists.ensures s.args.bytes.now p
-    (subst (λ (x : ℕ). Wrote s.args.bytes.now one p q (total (widths (head x))) (joined (widths (head x)) (take (length (head x)) vs))) s.requires.kind_value (part-written c))
+    (subst (λ (x : ℕ). Wrote s.args.bytes.now one p q (total (widths (head x))) (joined (widths (head x)) (take (length (head x)) vs))) s.requires.kind_value part)
 
 pub slice_bounds-put_all-end-2 : goal.slice_bounds-put_all-end-2
 slice_bounds-put_all-end-2 c =
@@ -49,7 +52,15 @@ put_all-head-requires c =
     let k = s.args.kind in
     let h = c.part_at-part.ensures in
     let e = c.new.ensures in
-    let ready : Ready c.new.result = record { part = omega arith; small = rw (e.1, e.2) (omega arith) } in record { ready = rw (s.requires.ws_value, h.fields (λ r. r.width), head_at (goal.at.put_all-head-requires c).After-part_at-part) ready; t = rw (s.requires.ws_value, h.fields (λ r. r.width), head_at (goal.at.put_all-head-requires c).After-part_at-part) (narrow-sound (head k) (sound-heads k)); values_len = rw (s.requires.ws_value, h.fields (λ r. r.width), head_at (goal.at.put_all-head-requires c).After-part_at-part) (head-long s.requires.kind_value s.requires.writable); valid = rw (s.requires.ws_value, h.fields (λ r. r.width), head_at (goal.at.put_all-head-requires c).After-part_at-part) (head-valid s.requires.kind_value s.requires.writable); ws_bound = rw (s.requires.ws_value, h.fields (λ r. r.width), head_at (goal.at.put_all-head-requires c).After-part_at-part) (omega (arith, head-fits s.requires.kind_value s.requires.writable)) }
+    let ready : Ready c.new.result = record { part = omega arith; small = rw (e.1, e.2) (omega arith) } in
+    let n = head_at (goal.at.put_all-head-requires c).After-part_at-part in
+    record {
+      ready = ready;
+      t = rw (s.requires.ws_value, h.fields (λ r. r.width)) (narrow-sound (head k) (sound-heads k));
+      values_len = rw (s.requires.ws_value, h.fields (λ r. r.width), n) (head-long s.requires.kind_value s.requires.writable);
+      valid = rw (s.requires.ws_value, h.fields (λ r. r.width), n) (head-valid s.requires.kind_value s.requires.writable);
+      ws_bound = rw (s.requires.ws_value, h.fields (λ r. r.width)) (omega (arith, head-fits s.requires.kind_value s.requires.writable));
+    }
 
 pub put_lists-lists-requires : goal.put_lists-lists-requires
 put_lists-lists-requires c =
@@ -67,7 +78,8 @@ pub returns : goal.returns
 returns c =
     let s = c in
     let e = c.new.ensures in
-    all-written s.requires.kind_value s.requires.writable e.0 e.1 e.2 (lists-written (goal.at.returns c).After-put_lists-lists) c.finish.ensures (λ i. (c.slice_known-1.given i).fits) (λ i. (c.slice_known-4-1.given i).fits) refl
+    let all = all-written s.requires.kind_value s.requires.writable e.0 e.1 e.2 (lists-written (goal.at.returns c).After-put_lists-lists) c.finish.ensures (λ i. search rules) (λ i. (c.type_inv.bytes i).fits) refl in
+    record { value = all.0; bytes_after = all.1 }
 
 pub part_at-part-requires : goal.part_at-part-requires
 part_at-part-requires c = record { kind_in_bounds = kind-in _ (ap is_kind c.requires.kind_value ∙ c.requires.writable.kind); i_in_bounds = omega arith }
