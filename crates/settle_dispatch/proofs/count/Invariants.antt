@@ -1,11 +1,9 @@
 -- `settle_dispatch::count` meets its contract. The loop's invariant: the events before ev are counted. Assumes nothing.
 use Prim.Native.Nat.{◌-◌, ◌≤◌}
-use mathlib.Core.Path.{◌≡◌}
-use native.Mathlib.Omega.{arith}
 use Rattle.settle_facts.specs.CellFacts.{facts}
 use Rattle.settle_table.specs.Places.{dispatch_count_row, spent_row}
-use Rattle.settle_table.specs.Rows.{Aside, aside_none, aside_then}
-use Rattle.settle_dispatch.specs.Counting.{Counting, counting-first, dispatch-count-all, dispatched-all}
+use Rattle.settle_table.specs.Rows.{Aside}
+use Rattle.settle_dispatch.specs.Counting.{Counting}
 use Rattle.settle_dispatch.proofs.count.Given as goal
 
 abbrev pub invariant-loop-ev : goal.invariant-loop-ev

@@ -1,15 +1,13 @@
 -- `settle_dispatch::count_event` meets its contract. The loop's invariant: the entries before i are counted. Assumes nothing.
-use Prim.Native.Nat.{◌-◌}
 use mathlib.Core.Path.{ap, sym, ◌∙◌}
-use mathlib.Core.Logic.{⊎_elim}
 use native.Mathlib.Omega.{arith}
-use Rattle.limits.specs.Limits.{registrations}
 use Rattle.settle_facts.specs.CellFacts.{facts}
 use Rattle.settle_facts.specs.declared.EventEntry.{EventEntry}
 use Rattle.ids.specs.Tests.{cond-le}
 use Rattle.settle_table.specs.Rows.{mark}
-use Rattle.settle_dispatch.specs.Counting.{Counts, counts-first, counts-none, counts-next, counts-more, counts_all, dispatch-count-most}
+use Rattle.settle_dispatch.specs.Counting.{counts-first, counts-none, counts-next, counts-more, counts_all, dispatch-count-most}
 use Rattle.settle_dispatch.proofs.count_event.Goals as goal
+use Rattle.settle_dispatch.proofs.count_event.Goals.{then-x, else-x}
 
 pub loop-i-init : goal.loop-i-init
 loop-i-init c = counts-first c.requires.counting
@@ -28,10 +26,10 @@ loop-i-preserved c =
     let l = c.loop-i in
     let listed = sym (ap (λ (x : EventEntry). x.listed) c.look-x.ensures) in
     let one = c.as_mark-one.ensures ∙ ap mark c.one_or_three.ensures in
-    ⊎_elim
-    (λ a. rw a.5 (counts-more l.invariant (omega arith) (listed ∙ a.0.taken) one a.2.ensures a.4.ensures))
-    (λ a. rw a.1 (counts-none l.invariant (omega arith) (listed ∙ a.0.left)))
-    c.if-x.branch
+    elim c.if-x.branch [
+      | then-x w ↦ rw w.work-is (counts-more l.invariant (omega arith) (listed ∙ w.if-x.true) one w.put.ensures w.add_at.ensures)
+      | else-x w ↦ rw w.work-is (counts-none l.invariant (omega arith) (listed ∙ w.if-x.false))
+    ]
 
 pub returns : goal.returns
 returns c = let v = c.loop-i.invariant in record { counted = counts_all v (omega (arith, v.upto)); aside = v.aside }

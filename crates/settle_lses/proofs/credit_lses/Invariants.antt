@@ -1,22 +1,16 @@
 -- `settle_lses::credit_lses` meets its contract: share by share, and none for an id without an obligation.
 use Prim.Native.Nat.{◌-◌, ◌≤◌}
-use mathlib.Core.Path.{◌≡◌, sym, ◌∙◌}
-use mathlib.Core.Logic.{⊎_elim}
-use native.Mathlib.Omega.{arith}
-use lib.Dec.{lit<}
+use mathlib.Core.Path.{◌≡◌}
 use lib.ListN.{length}
-use borrow.Author.Tests.{lt-ltb}
 use Rattle.limits.specs.Limits.{lses}
-use Rattle.allotment.specs.Allot.{share, share-zero}
-use Rattle.allotment.specs.Stepper.{Before, before-first, share-asks, share-value, share-next, share-skip, divisions-made}
+use Rattle.allotment.specs.Allot.{share}
+use Rattle.allotment.specs.Stepper.{Before}
 use Rattle.year.specs.Year.{obligation}
 use Rattle.settle_facts.specs.CellFacts.{facts}
-use Rattle.owed.specs.Divisions.{known_lse, lse_divisions}
-use Rattle.owed_laws.specs.Limits.{limits}
-use Rattle.owed_laws.specs.Totals.{obligations-le}
+use Rattle.owed.specs.Divisions.{known_lse}
 use Rattle.settle_table.specs.Places.{lse_row, size}
-use Rattle.settle_table.specs.Rows.{Aside, aside_none, aside-more, Renewed, none, renewed-first, renewed-more, renewed-none}
-use Rattle.settle_lses.specs.Lses.{net, obligations}
+use Rattle.settle_table.specs.Rows.{Aside, Renewed, none}
+use Rattle.settle_lses.specs.Lses.{net}
 use Rattle.settle_lses.proofs.credit_lses.Given as goal
 
 abbrev pub invariant-loop-j : goal.invariant-loop-j

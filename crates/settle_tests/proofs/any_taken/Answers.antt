@@ -1,7 +1,5 @@
 -- `settle_tests::any_taken` meets its contract: no group so far has a test.
-use Prim.Native.Nat.{◌-◌, ◌≤◌}
 use mathlib.Core.Path.{◌≡◌, refl, sym, ◌∙◌}
-use mathlib.Core.Bool.{false}
 use native.Mathlib.Omega.{arith}
 use Rattle.ids.specs.Ids.{any_to}
 use Rattle.ids.specs.Tests.{any_none, any_at}

@@ -1,10 +1,8 @@
 -- `settle_tests::any_taken` meets its contract: no group so far has a test.
 use Prim.Native.Nat.{◌-◌, ◌≤◌}
-use mathlib.Core.Path.{◌≡◌, refl, sym, ◌∙◌}
+use mathlib.Core.Path.{◌≡◌}
 use mathlib.Core.Bool.{false}
-use native.Mathlib.Omega.{arith}
 use Rattle.ids.specs.Ids.{any_to}
-use Rattle.ids.specs.Tests.{any_none, any_at}
 use Rattle.limits.specs.Limits.{test_groups}
 use Rattle.settle_tests.specs.Entries.{taken_at}
 use Rattle.settle_tests.proofs.any_taken.Given as goal

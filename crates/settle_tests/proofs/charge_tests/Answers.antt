@@ -1,16 +1,13 @@
 -- `settle_tests::charge_tests` meets its contract: seller by seller; where no test is taken, every charge is 0.
-use Prim.Native.Nat.{◌+◌, ◌-◌, ◌≤◌}
+use Prim.Native.Nat.{◌+◌}
 use mathlib.Core.Path.{◌≡◌, refl, sym, ◌∙◌}
 use native.Mathlib.Omega.{arith}
-use lib.ListN.{length}
 use Rattle.ids.specs.Sets.{get_or-replicate-same}
 use Rattle.limits.specs.Limits.{sellers}
-use Rattle.owed.specs.Owed.{test}
-use Rattle.settle_facts.specs.CellFacts.{facts}
-use Rattle.settle_table.specs.Places.{test_row, size}
-use Rattle.settle_table.specs.Rows.{Aside, aside_none, aside-more, Row, row_same, row_first, row_more}
+use Rattle.settle_table.specs.Places.{test_row}
+use Rattle.settle_table.specs.Rows.{aside_none, aside-more, row_same, row_first, row_more}
 use Rattle.settle_tests.specs.Entries.{unless, none-taken}
-use Rattle.settle_tests.specs.Sums.{sums_width, Summed}
+use Rattle.settle_tests.specs.Sums.{sums_width}
 use Rattle.settle_tests.proofs.charge_tests.Goals as goal
 
 pub returns-then-not-any_taken : goal.returns-then-not-any_taken

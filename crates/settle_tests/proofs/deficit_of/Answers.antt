@@ -1,7 +1,6 @@
 -- `settle_tests::deficit_of` meets its contract: the number in the test's row, at most 1,000,000.
 use mathlib.Core.Path.{sym, ◌∙◌}
 use native.Mathlib.Omega.{arith}
-use borrow.Author.Rules.{rules}
 use Rattle.owed_laws.specs.Limits.{limits}
 use Rattle.settle_tests.specs.Entries.{deficit-in}
 use Rattle.settle_tests.proofs.deficit_of.Goals as goal

@@ -1,7 +1,6 @@
 -- `settle_tests::rate_of` meets its contract: an average is at most the highest rate.
 use native.Mathlib.Omega.{arith}
 use native.Mathlib.Nat.{div-le_of_le-mul}
-use borrow.Author.Rules.{rules}
 use Rattle.owed.specs.Owed.{raised}
 use Rattle.settle_tests.proofs.rate_of.Goals as goal
 

@@ -1,17 +1,10 @@
 -- `settle_tests::test_of` meets its contract: group by group.
 use Prim.Native.Nat.{◌-◌, ◌≤◌}
-use mathlib.Core.Path.{◌≡◌, refl, sym, ◌∙◌}
-use mathlib.Core.Logic.{⊎_elim}
-use native.Mathlib.Omega.{arith}
+use mathlib.Core.Path.{◌≡◌}
 use Rattle.ids.specs.Ids.{sum_to}
-use Rattle.ids.specs.Sums.{sum_step}
 use Rattle.limits.specs.Limits.{test_groups}
-use Rattle.owed.specs.Owed.{test_charge, test}
-use Rattle.owed_laws.specs.Limits.{limits}
-use Rattle.owed_laws.specs.Bounds.{D-le, test-le}
-use Rattle.owed_laws.specs.Totals.{test-most}
+use Rattle.owed.specs.Owed.{test_charge}
 use Rattle.settle_facts.specs.CellFacts.{facts}
-use Rattle.settle_tests.specs.Entries.{untaken}
 use Rattle.settle_tests.proofs.test_of.Given as goal
 
 abbrev pub invariant-loop-group : goal.invariant-loop-group

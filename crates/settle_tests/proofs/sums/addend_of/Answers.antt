@@ -3,14 +3,13 @@ use Prim.Native.Nat.{◌+◌, ◌*◌, ◌<◌, ◌≤◌}
 use mathlib.Core.Path.{◌≡◌, ◌∙◌}
 use native.Mathlib.Omega.{arith}
 use native.Mathlib.Nat.{mul-le-mul}
-use borrow.Author.Rules.{rules}
 use Rattle.limits.specs.Limits.{sellers, test_groups, nominated_limit, rate_limit}
 use Rattle.year_cells.specs.Layout.{group_in}
 use Rattle.year_tested.specs.Tested.{group-below}
 use Rattle.settle_facts.specs.CellFacts.{facts}
 use Rattle.owed.specs.Owed as owed
 use Rattle.owed_laws.specs.Limits.{limits}
-use Rattle.year.specs.Year.{committed, seller}
+use Rattle.year.specs.Year.{committed}
 use Rattle.settle_tests.proofs.sums.addend_of.Goals as goal
 use Rattle.settle_tests.proofs.sums.addend_of.Goals.{After-get, After-get-2, After-get-3, After-get-4, After-new-committed}
 
@@ -31,7 +30,7 @@ group-less : (c : After-get-2) → c.get-2.result < test_groups
 group-less c = rw (group-is c) (group-below c.args.year.now c.requires.valid_cells.sound c.args.i)
 
 committed-most : (c : After-new-committed) → c.new-committed.result.0 ≤ nominated_limit
-committed-most c = rw (c.new-committed.ensures ∙ committed-is c) ((limits c.requires.valid_cells.sound).committed c.args.i)
+committed-most c = rw (c.new-committed.ensures ∙ c.get.ensures ∙ c.requires.ready.columns.committed.is c.args.i c.requires.i_lt_registrations) ((limits c.requires.valid_cells.sound).committed c.args.i)
 
 pub overflow_mul-result : goal.overflow_mul-result
 overflow_mul-result c =

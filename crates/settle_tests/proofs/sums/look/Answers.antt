@@ -1,8 +1,5 @@
 -- `settle_tests::sums::look` meets its contract: the test's entry, and its retest. Assumes nothing.
-use borrow.Author.Rules.{rules}
 use Rattle.settle_tests.specs.Entries.{look_at}
-use Rattle.year_tested.proofs.retest_at.Reads as retest-at-reads
-use Rattle.settle_tests.proofs.sums.result.Reads as result-reads
 use Rattle.settle_tests.proofs.sums.look.Goals as goal
 
 pub returns : goal.returns

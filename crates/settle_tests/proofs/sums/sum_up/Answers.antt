@@ -1,8 +1,7 @@
 -- `settle_tests::sums::sum_up` meets its contract: entry by entry, three stores at the group and seller of each that stands.
-use Prim.Native.Nat.{◌+◌, ◌-◌, ◌≤◌}
+use Prim.Native.Nat.{◌+◌}
 use mathlib.Core.Path.{◌≡◌, sym, ◌∙◌}
 use mathlib.Core.Bool.{Bool, false}
-use mathlib.Core.Logic.{⊎_elim}
 use native.Mathlib.Omega.{arith}
 use native.Mathlib.Nat.{mul-le-mul}
 use lib.ListN.{get_or}
@@ -10,9 +9,9 @@ use Rattle.ids.specs.Tables.{table_at}
 use Rattle.limits.specs.Limits.{registrations}
 use Rattle.owed_laws.specs.Limits.{limits}
 use Rattle.settle_tests.specs.Entries.{stands, standing-le}
-use Rattle.settle_tests.specs.Sums.{reduction_sum, worth_sum, Summing, key_at, key_below, summing-first, summing-none, summing-more, committed-room, reduction-room, worth-room}
+use Rattle.settle_tests.specs.Sums.{reduction_sum, worth_sum, key_at, key_below, summing-first, summing-none, summing-more, committed-room, reduction-room, worth-room}
 use Rattle.settle_tests.proofs.sums.sum_up.Goals as goal
-use Rattle.settle_tests.proofs.sums.sum_up.Goals.{In-loop-i}
+use Rattle.settle_tests.proofs.sums.sum_up.Goals.{In-loop-i, then-left-i, else-left-i}
 
 -- whether the entry stands
 stands-is : (c : In-loop-i) {t : Bool} → get_or c.standing-left.result c.loop-i.i false ≡ t → stands c.args.year.now c.loop-i.i ≡ t
@@ -55,10 +54,11 @@ loop-i-preserved c =
     let s = c in
     let y = s.args.year.now in
     let e = c.addend_of-x.ensures in
-    ⊎_elim
-    (λ a. rw a.7 (omega arith, summing-more y l.invariant.1 (stands-is (goal.at.loop-i-preserved c).In-loop-i a.0.taken) (key_below s.requires.valid_cells l.i) (rw e at a.2.ensures) (rw e at a.4.ensures) (rw e at a.6.ensures)))
-    (λ a. rw a.1 (omega arith, summing-none y l.invariant.1 (stands-is (goal.at.loop-i-preserved c).In-loop-i a.0.left)))
-    c.if-left-i.branch
+    let at = (goal.at.loop-i-preserved c).In-loop-i in
+    elim c.if-left-i.branch [
+      | then-left-i w ↦ rw w.sums-is (omega arith, summing-more y l.invariant.1 (stands-is at w.if-left-i.true) (key_below s.requires.valid_cells l.i) (rw e at w.add_at.ensures) (rw e at w.add_at-then-left-i.ensures) (rw e at w.add_at-then-left-i-2.ensures))
+      | else-left-i w ↦ rw w.sums-is (omega arith, summing-none y l.invariant.1 (stands-is at w.if-left-i.false))
+    ]
 
 pub returns : goal.returns
 returns c = let l = c.loop-i in let z : l.i ≡ registrations = omega arith in rw z at l.invariant.1
