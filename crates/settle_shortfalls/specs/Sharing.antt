@@ -1,7 +1,7 @@
 -- Pass 3: u and e entry by entry, with the second reductions.
 use Rattle.std.specs.Prelude.{ℕ, ◌+◌, ◌≤◌, ◌<◌, ◌≡◌, true, false, List}
 use Rattle.std.proofs.Common.{sym, arith, mul-le-mul}
-use Rattle.ids.specs.Ids.{at, only}
+use Rattle.ids.specs.Ids.{only}
 use Rattle.limits.specs.Limits.{registrations, sellers, nominated_limit, nominated_sum}
 use Rattle.settle_table.specs.Allotments.{SellerAllotments, Shared, stepper, shared-aside, allotments-asks, allotments-value, allotments-more, allotments-none, allotments-all, allotments-kept, allotments-aside}
 use Rattle.allotment.specs.Stepper.{Asks}

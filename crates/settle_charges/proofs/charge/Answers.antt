@@ -1,5 +1,5 @@
 -- `settle_charges::charge` meets its contract. The loop's invariant: the entries before i are charged. Assumes nothing.
-use Rattle.std.specs.Prelude.{ℕ, ◌+◌, ◌-◌, ◌*◌, ◌/◌, ◌≤◌, ◌<◌, ◌≡◌, Bool, true, not, ◌||◌, cond, List, eqb, leb}
+use Rattle.std.specs.Prelude.{ℕ, ◌+◌, ◌*◌, ◌/◌, ◌≤◌, ◌<◌, ◌≡◌, Bool, true, not, ◌||◌, cond, List, eqb, leb}
 use Rattle.std.proofs.Common.{ap, ◌∙◌, arith}
 use Rattle.ids.specs.Ids.{at}
 use Rattle.limits.specs.Limits.{registrations}
@@ -45,14 +45,14 @@ loop-i-preserved c =
     let h = c.loop-i.invariant in
     let t = c.loop-i-test.true in
     elim c.if-u-off.branch [
-      then-u-off w ↦
-        let d = daily-eq h t w.line_at-line.ensures w.if-u-off.true c.get-u.ensures c.get-off.ensures c.one_or_three-peak.ensures w.daily_of-daily.ensures in
-        let r = charge-eq h t w.line_at-line.ensures d c.month_of-month.ensures c.days_to-days.ensures w.cents-due.ensures in
-        rw (w.work-is, w.all-is)
-        (charging-more h t ((limits c.requires.valid_cells.sound).seller c.loop-i.i) d r w.add_at.ensures (rw (line h t w.line_at-line.ensures) at w.add_at-then-u-off.ensures))
-    | else-u-off w ↦
-        let zero = none-some w.if-u-off.false (c.get-u.ensures ∙ h.given.shares.u.is c.loop-i.i t) (c.get-off.ensures ∙ h.given.off.is c.loop-i.i t) in
-        rw (w.work-is, w.all-is) (charging-none h t zero.0 zero.1)
+      | then-u-off w ↦
+          let d = daily-eq h t w.line_at-line.ensures w.if-u-off.true c.get-u.ensures c.get-off.ensures c.one_or_three-peak.ensures w.daily_of-daily.ensures in
+          let r = charge-eq h t w.line_at-line.ensures d c.month_of-month.ensures c.days_to-days.ensures w.cents-due.ensures in
+          rw (w.work-is, w.all-is)
+          (charging-more h t ((limits c.requires.valid_cells.sound).seller c.loop-i.i) d r w.add_at.ensures (rw (line h t w.line_at-line.ensures) at w.add_at-then-u-off.ensures))
+      | else-u-off w ↦
+          let zero = none-some w.if-u-off.false (c.get-u.ensures ∙ h.given.shares.u.is c.loop-i.i t) (c.get-off.ensures ∙ h.given.off.is c.loop-i.i t) in
+          rw (w.work-is, w.all-is) (charging-none h t zero.0 zero.1)
     ]
 
 pub daily_of-daily-requires : goal.daily_of-daily-requires

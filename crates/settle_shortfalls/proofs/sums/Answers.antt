@@ -1,14 +1,12 @@
 -- `settle_shortfalls::sums` meets its contract. The loop's invariant: the entries before i are added up. Assumes nothing.
-use Prim.Native.Nat.{◌+◌, ◌-◌}
+use Prim.Native.Nat.{◌+◌}
 use mathlib.Core.Path.{ap, sym, ◌∙◌}
-use mathlib.Core.Logic.{⊎_elim}
 use native.Mathlib.Omega.{arith}
-use Rattle.limits.specs.Limits.{registrations}
 use Rattle.settle_facts.specs.CellFacts.{facts}
 use Rattle.owed_laws.specs.Limits.{limits}
 use Rattle.settle_table.specs.Places.{over_row}
 use Rattle.settle_shortfalls.specs.declared.MeasuredEntry.{MeasuredEntry}
-use Rattle.settle_shortfalls.specs.Weighing.{Weighing, weighing-first, weighing-none, weighing-more, weighing-all}
+use Rattle.settle_shortfalls.specs.Weighing.{weighing-first, weighing-none, weighing-more, weighing-all}
 use Rattle.settle_shortfalls.specs.Sums.{short-room, over-room}
 use Rattle.settle_shortfalls.proofs.sums.Goals as goal
 use Rattle.settle_shortfalls.proofs.sums.Goals.{then-x, else-x}
@@ -37,8 +35,8 @@ loop-i-preserved c =
     let e = c.entry_at-x.ensures in
     let listed = sym (ap (λ (x : MeasuredEntry). x.listed) e) in
     elim c.if-x.branch [
-      then-x w ↦ rw w.work-is (weighing-more l.invariant (omega arith) (listed ∙ w.if-x.true) ((limits c.requires.valid_cells.sound).seller l.i) (rw e at w.add_at.ensures) (rw e at w.add_at-then-x.ensures))
-    | else-x w ↦ rw w.work-is (weighing-none l.invariant (omega arith) (listed ∙ w.if-x.false))
+      | then-x w ↦ rw w.work-is (weighing-more l.invariant (omega arith) (listed ∙ w.if-x.true) ((limits c.requires.valid_cells.sound).seller l.i) (rw e at w.add_at.ensures) (rw e at w.add_at-then-x.ensures))
+      | else-x w ↦ rw w.work-is (weighing-none l.invariant (omega arith) (listed ∙ w.if-x.false))
     ]
 
 pub returns : goal.returns

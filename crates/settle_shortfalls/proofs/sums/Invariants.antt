@@ -1,15 +1,8 @@
 -- `settle_shortfalls::sums` meets its contract. The loop's invariant: the entries before i are added up. Assumes nothing.
-use Prim.Native.Nat.{◌+◌, ◌-◌}
-use mathlib.Core.Path.{ap, sym, ◌∙◌}
-use mathlib.Core.Logic.{⊎_elim}
-use native.Mathlib.Omega.{arith}
+use Prim.Native.Nat.{◌-◌}
 use Rattle.limits.specs.Limits.{registrations}
 use Rattle.settle_facts.specs.CellFacts.{facts}
-use Rattle.owed_laws.specs.Limits.{limits}
-use Rattle.settle_table.specs.Places.{over_row}
-use Rattle.settle_shortfalls.specs.declared.MeasuredEntry.{MeasuredEntry}
-use Rattle.settle_shortfalls.specs.Weighing.{Weighing, weighing-first, weighing-none, weighing-more, weighing-all}
-use Rattle.settle_shortfalls.specs.Sums.{short-room, over-room}
+use Rattle.settle_shortfalls.specs.Weighing.{Weighing}
 use Rattle.settle_shortfalls.proofs.sums.Given as goal
 
 abbrev pub invariant-loop-i : goal.invariant-loop-i

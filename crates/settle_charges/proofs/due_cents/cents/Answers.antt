@@ -1,7 +1,6 @@
 -- `settle_charges::due_cents::cents` meets its contract. Assumes nothing.
 use native.Mathlib.Omega.{arith}
 use native.Mathlib.Nat.{mul-le-mul}
-use borrow.Author.Rules.{rules}
 use borrow.Author.Tests.{le-leb, lt-leb}
 use Rattle.settle_charges.proofs.due_cents.cents.Goals as goal
 

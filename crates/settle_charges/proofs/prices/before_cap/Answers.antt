@@ -3,7 +3,6 @@ use Prim.Native.Nat.{max}
 use mathlib.Core.Path.{◌≡◌}
 use native.Mathlib.Omega.{arith}
 use native.Mathlib.Nat.{mul-le-mul}
-use borrow.Author.Rules.{rules}
 use Rattle.settle_charges.proofs.prices.before_cap.Goals as goal
 
 pub overflow_mul-all : goal.overflow_mul-all

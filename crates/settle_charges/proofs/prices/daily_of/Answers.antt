@@ -1,6 +1,5 @@
 -- `settle_charges::prices::daily_of` meets its contract. Assumes nothing.
 use mathlib.Core.Path.{◌∙◌}
-use borrow.Author.Rules.{rules}
 use Rattle.settle_charges.proofs.prices.daily_of.Goals as goal
 
 pub returns : goal.returns

@@ -1,5 +1,4 @@
 -- `settle_charges::prices::line_at` meets its contract: one cell of each row. Assumes nothing.
-use native.Mathlib.Omega.{arith}
 use Rattle.settle_charges.proofs.prices.line_at.Goals as goal
 
 pub returns : goal.returns

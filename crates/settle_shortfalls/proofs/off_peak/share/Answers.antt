@@ -1,16 +1,13 @@
 -- `settle_shortfalls::off_peak::share` meets its contract. The loop's invariant: the entries before i have their shares. Assumes nothing.
-use Prim.Native.Nat.{◌-◌}
 use mathlib.Core.Path.{◌≡◌, ap, sym, ◌∙◌}
-use mathlib.Core.Logic.{⊎_elim}
 use mathlib.Core.Bool.{true}
 use native.Mathlib.Omega.{arith}
 use lib.Dec.{lit≤}
-use Rattle.limits.specs.Limits.{registrations}
 use Rattle.settle_facts.specs.CellFacts.{facts}
 use Rattle.owed.specs.Owed.{measured}
 use Rattle.owed_laws.specs.Limits.{limits}
 use Rattle.settle_shortfalls.specs.declared.off_peak.OffPeakEntry.{OffPeakEntry}
-use Rattle.settle_shortfalls.specs.OffPeak.{Sharing, sharing-first, sharing-none, sharing-more, sharing-all, u-asks}
+use Rattle.settle_shortfalls.specs.OffPeak.{sharing-first, sharing-none, sharing-more, sharing-all, u-asks}
 use Rattle.settle_shortfalls.proofs.off_peak.share.Goals as goal
 use Rattle.settle_shortfalls.proofs.off_peak.share.Goals.{After-entry_at-x, then-x, else-x}
 
@@ -27,8 +24,8 @@ loop-i-preserved c =
     let v = c.loop-i.invariant in
     let e = c.entry_at-x.ensures in
     elim c.if-x.branch [
-      then-x w ↦ rw w.work-is (sharing-more v (limits c.requires.valid_cells.sound) (omega arith) (on (goal.at.loop-i-preserved c).After-entry_at-x w.if-x.true) (rw e at w.share.ensures) w.put.ensures)
-    | else-x w ↦ rw w.work-is (sharing-none v (omega arith) (sym (ap (λ (x : OffPeakEntry). x.measured) e) ∙ w.if-x.false))
+      | then-x w ↦ rw w.work-is (sharing-more v (limits c.requires.valid_cells.sound) (omega arith) (on (goal.at.loop-i-preserved c).After-entry_at-x w.if-x.true) (rw e at w.share.ensures) w.put.ensures)
+      | else-x w ↦ rw w.work-is (sharing-none v (omega arith) (sym (ap (λ (x : OffPeakEntry). x.measured) e) ∙ w.if-x.false))
     ]
 
 pub returns : goal.returns

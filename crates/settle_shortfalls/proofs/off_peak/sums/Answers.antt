@@ -1,15 +1,13 @@
 -- `settle_shortfalls::off_peak::sums` meets its contract. The loop's invariant: the entries before i are added up. Assumes nothing.
-use Prim.Native.Nat.{◌+◌, ◌-◌}
+use Prim.Native.Nat.{◌+◌}
 use mathlib.Core.Path.{ap, sym, ◌∙◌}
-use mathlib.Core.Logic.{⊎_elim}
 use native.Mathlib.Omega.{arith}
-use Rattle.limits.specs.Limits.{registrations}
 use Rattle.settle_facts.specs.CellFacts.{facts}
 use Rattle.owed_laws.specs.Limits.{limits}
 use Rattle.settle_table.specs.Places.{off_over_row}
 use Rattle.settle_shortfalls.specs.Sums.{short-room, over-room}
 use Rattle.settle_shortfalls.specs.declared.off_peak.OffPeakEntry.{OffPeakEntry}
-use Rattle.settle_shortfalls.specs.OffPeak.{Weighing, weighing-first, weighing-none, weighing-more, weighing-all, second-small}
+use Rattle.settle_shortfalls.specs.OffPeak.{weighing-first, weighing-none, weighing-more, weighing-all, second-small}
 use Rattle.settle_shortfalls.proofs.off_peak.sums.Goals as goal
 use Rattle.settle_shortfalls.proofs.off_peak.sums.Goals.{then-x, else-x}
 
@@ -38,8 +36,8 @@ loop-i-preserved c =
     let e = c.entry_at-x.ensures in
     let measured = sym (ap (λ (x : OffPeakEntry). x.measured) e) in
     elim c.if-x.branch [
-      then-x w ↦ rw w.work-is (weighing-more l.invariant (omega arith) (measured ∙ w.if-x.true) ((limits c.requires.valid_cells.sound).seller l.i) (rw e at w.add_at.ensures) (rw e at w.add_at-then-x.ensures))
-    | else-x w ↦ rw w.work-is (weighing-none l.invariant (omega arith) (measured ∙ w.if-x.false))
+      | then-x w ↦ rw w.work-is (weighing-more l.invariant (omega arith) (measured ∙ w.if-x.true) ((limits c.requires.valid_cells.sound).seller l.i) (rw e at w.add_at.ensures) (rw e at w.add_at-then-x.ensures))
+      | else-x w ↦ rw w.work-is (weighing-none l.invariant (omega arith) (measured ∙ w.if-x.false))
     ]
 
 pub returns : goal.returns

@@ -1,7 +1,5 @@
 -- `settle_shortfalls::shares::share` meets its contract. The loop's invariant: the entries before i have their shares. Assumes nothing.
-use Prim.Native.Nat.{◌-◌}
 use mathlib.Core.Path.{◌≡◌, ap, sym, ◌∙◌}
-use mathlib.Core.Logic.{⊎_elim}
 use mathlib.Core.Bool.{true}
 use native.Mathlib.Omega.{arith}
 use lib.Dec.{lit≤}
@@ -10,7 +8,7 @@ use Rattle.year.specs.Year.{listed}
 use Rattle.settle_facts.specs.CellFacts.{facts}
 use Rattle.owed_laws.specs.Limits.{limits}
 use Rattle.settle_shortfalls.specs.declared.MeasuredEntry.{MeasuredEntry}
-use Rattle.settle_shortfalls.specs.Sharing.{Sharing, sharing-first, sharing-none, sharing-more, sharing-all, sharing-divided, u-asks, e-asks}
+use Rattle.settle_shortfalls.specs.Sharing.{sharing-first, sharing-none, sharing-more, sharing-all, sharing-divided, u-asks, e-asks}
 use Rattle.settle_shortfalls.proofs.shares.share.Goals as goal
 use Rattle.settle_shortfalls.proofs.shares.share.Goals.{After-entry_at-x, then-x, else-x}
 
@@ -34,8 +32,8 @@ loop-i-preserved c =
     let v = c.loop-i.invariant in
     let e = c.entry_at-x.ensures in
     elim c.if-x.branch [
-      then-x w ↦ rw w.work-is (sharing-more v (limits c.requires.valid_cells.sound) (omega arith) (is-listed (goal.at.loop-i-preserved c).After-entry_at-x w.if-x.true) (rw e at w.share.ensures) (rw e at w.share-then-x.ensures) w.put.ensures w.put-then-x.ensures w.put-then-x-2.ensures (rw e at w.put-then-x-3.ensures))
-    | else-x w ↦ rw w.work-is (sharing-none v (omega arith) (sym (ap (λ (x : MeasuredEntry). x.listed) e) ∙ w.if-x.false))
+      | then-x w ↦ rw w.work-is (sharing-more v (limits c.requires.valid_cells.sound) (omega arith) (is-listed (goal.at.loop-i-preserved c).After-entry_at-x w.if-x.true) (rw e at w.share.ensures) (rw e at w.share-then-x.ensures) w.put.ensures w.put-then-x.ensures w.put-then-x-2.ensures (rw e at w.put-then-x-3.ensures))
+      | else-x w ↦ rw w.work-is (sharing-none v (omega arith) (sym (ap (λ (x : MeasuredEntry). x.listed) e) ∙ w.if-x.false))
     ]
 
 pub returns : goal.returns
