@@ -1,9 +1,6 @@
 -- `question_event_and_test::may_call` meets its contract. Assumes nothing.
-use borrow.Author.Rules.{rules}
 use mathlib.Core.Path.{sym}
 use Rattle.year.specs.Year.{product}
-use Rattle.question_listings.proofs.every_listed.Reads as every-listed-reads
-use Rattle.question_list.proofs.month_begun.Reads as month-begun-reads
 use Rattle.question_event_and_test.proofs.may_call.Goals as goal
 
 pub returns-then-month_begun : goal.returns-then-month_begun

@@ -1,9 +1,6 @@
 -- `question_list::has_parties` meets its contract. Assumes nothing.
-use borrow.Author.Rules.{rules}
 use mathlib.Core.Path.{sym}
 use Rattle.year.specs.Limits.{size_is}
-use Rattle.question_listings.proofs.any_lse.Reads as any-lse-reads
-use Rattle.question_listings.proofs.any_selected.Reads as any-selected-reads
 use Rattle.question_list.proofs.has_parties.Goals as goal
 
 pub returns-then-any_selected : goal.returns-then-any_selected

@@ -1,8 +1,5 @@
 -- `question_list::is_open` meets its contract. Assumes nothing.
-use borrow.Author.Rules.{rules}
 use mathlib.Core.Path.{sym}
-use Rattle.year_cells.proofs.closed.Reads as closed-reads
-use Rattle.year_cells.proofs.opened.Reads as opened-reads
 use Rattle.question_list.proofs.is_open.Goals as goal
 
 pub returns-then-opened : goal.returns-then-opened

@@ -1,7 +1,5 @@
 -- `question_list::may_test` meets its contract. Assumes nothing.
-use borrow.Author.Rules.{rules}
 use mathlib.Core.Path.{sym}
-use Rattle.question_list.proofs.month_begun.Reads as month-begun-reads
 use Rattle.question_list.proofs.may_test.Goals as goal
 
 pub returns-then-month_begun : goal.returns-then-month_begun

@@ -1,10 +1,7 @@
 -- `question_list::open_number` meets its contract: 6, then 8. Assumes nothing.
-use borrow.Author.Rules.{rules}
 use mathlib.Core.Path.{sym}
 use Rattle.record_layouts.specs.Questions.{first_failed}
 use Rattle.question_list.specs.Answers.{yes, no}
-use Rattle.question_list.proofs.has_parties.Reads as has-parties-reads
-use Rattle.question_list.proofs.is_open.Reads as is-open-reads
 use Rattle.question_list.proofs.open_number.Goals as goal
 
 pub returns-then-not-is_open : goal.returns-then-not-is_open
