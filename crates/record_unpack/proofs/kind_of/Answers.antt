@@ -1,6 +1,5 @@
 -- The kind is the first four bits, and no byte at all reads as zero bits.
 use mathlib.Core.Path.{sym, ◌∙◌}
-use borrow.Author.Rules.{rules}
 use native.Mathlib.Omega.{arith}
 use Rattle.bits.specs.BitLaws.{field_past}
 use Rattle.record_layouts.specs.Questions.{kind_of}

@@ -1,5 +1,6 @@
 -- The kind goes in front of the row, and the fields of the head's part of the table behind it.
 use mathlib.Core.Bool.{true}
+use mathlib.Core.List.{List}
 use mathlib.Core.Path.{◌≡◌, ap, subst, ◌∙◌}
 use Prim.Native.Nat.{ℕ, ◌+◌, ◌-◌}
 use lib.ListN.{length, take, drop, length-replicate, length-set}
@@ -9,20 +10,18 @@ use Rattle.record_layouts.specs.Layout.{head, widths, most_numbers}
 use Rattle.record_layouts.specs.LayoutLaws.{head_small, length-widths}
 use Rattle.record_layouts.specs.Questions.{is_kind, row}
 use Rattle.record_layouts.specs.QuestionLaws.{kind-in, kind-byte, head-kind, length-row}
+use Rattle.record_layouts.specs.Parts.{rules, Placed}
+use Rattle.record_layouts.specs.declared.Part.{Part}
 use Rattle.record_layouts.specs.PartLaws.{table-long, rules-few}
 use Rattle.record_unpack.specs.Reading.{head-split, head-rest, head-row, behind-is}
 use native.Mathlib.Omega.{arith}
 use Rattle.record_unpack.proofs.read_head.Goals as goal
-use Rattle.record_unpack.proofs.read_head.Goals.{After-read_fields-arg-2-1, After-slice_known-2-1}
+use Rattle.record_unpack.proofs.read_head.Goals.{After-slice_known-2-1}
 
 -- the part of the table behind the kind
-part-at-2 : (c : After-read_fields-arg-2-1) → let p = c.part_at-part.result in
-    take (p.end - (p.start + 1)) (drop (p.start + 1) c.args.ws.now) ≡ drop 1 (widths (head c.args.kind.value))
-part-at-2 c =
-    let s = c in
-    let h = c.part_at-part.ensures in
-    let p = c.part_at-part.result in
-    rw s.requires.ws_value (behind-is p.start p.end _ _ (h.fields (λ r. r.width)) (omega (arith, h.long, (head-kind s.args.kind.value s.requires.value_value_2).0)))
+behind-at : {ws : List ℕ} {k : ℕ} {p : Part} → ws ≡ widths rules → Placed k 0 p → is_kind k ≡ true
+    → take (p.end - (p.start + 1)) (drop (p.start + 1) ws) ≡ drop 1 (widths (head k))
+behind-at {ws} {k} {p} e h first = rw e (behind-is p.start p.end _ _ (h.fields (λ r. r.width)) (omega (arith, h.long, (head-kind k first).0)))
 
 pub read_fields-requires : goal.read_fields-requires
 read_fields-requires c =
@@ -31,13 +30,19 @@ read_fields-requires c =
     let first = p.value_value_2 in
     let rest = head-rest s.args.kind.value first in
     let some = kind-byte s.args.bytes.now (subst (λ (x : ℕ). is_kind x ≡ true) p.value_value first) in
-    let bits = c.part_at-part.ensures.bits in record { in_word = rw (part-at-2 (goal.at.read_fields-requires c).After-read_fields-arg-2-1, length-set) (record { narrows = rest.0; begins = omega (arith, some, p.at_value); ends = omega (arith, rest.1, p.at_value); small = omega (arith, rest.1, p.at_value) }); bits_value = rw (part-at-2 (goal.at.read_fields-requires c).After-read_fields-arg-2-1, length-set) (omega (arith, bits, (head-split s.args.kind.value first).1, p.at_value)); ws_in_bounds = rw (part-at-2 (goal.at.read_fields-requires c).After-read_fields-arg-2-1, length-set) (omega (arith, rest.2, ap length p.values_value, length-replicate {A = ℕ} most_numbers 0)) }
+    let bits = c.part_at-part.ensures.bits in
+    let behind = behind-at p.ws_value c.part_at-part.ensures first in
+    record {
+      in_word = rw behind (record { narrows = rest.0; begins = omega (arith, some, p.at_value); ends = omega (arith, rest.1, p.at_value); small = omega (arith, rest.1, p.at_value) });
+      bits_value = rw behind (omega (arith, bits, (head-split s.args.kind.value first).1, p.at_value));
+      ws_in_bounds = rw (behind, length-set) (omega (arith, rest.2, ap length p.values_value, length-replicate {A = ℕ} most_numbers 0));
+    }
 
-row_at : (c : After-slice_known-2-1) → let s = c in c.read_fields.new.1.1.1.1.0 ≡ row (fields_at s.args.bytes.now 0 (widths (head s.args.kind.value)))
+row_at : (c : After-slice_known-2-1) → let s = c in c.read_fields.new.out ≡ row (fields_at s.args.bytes.now 0 (widths (head s.args.kind.value)))
 row_at c =
     let s = c in
     let p = s.requires in
-    rw (part-at-2 c, p.at_value) at c.read_fields.ensures.out_after ∙ head-row s.args.kind.value p.value_value_2 s.args.bytes.now p.value_value p.values_value
+    rw (behind-at p.ws_value c.part_at-part.ensures p.value_value_2, p.at_value) at c.read_fields.ensures.out_after ∙ head-row s.args.kind.value p.value_value_2 s.args.bytes.now p.value_value p.values_value
 
 pub shape_of-values : goal.shape_of-values
 shape_of-values c =
@@ -50,7 +55,7 @@ shape_of-values c =
 pub returns : goal.returns
 returns c =
     let p = c.requires in
-    let t = rw (part-at-2 (goal.at.returns c).After-read_fields-arg-2-1) at c.read_fields.ensures.at_value in record { at_value_2 = omega (arith, t, p.at_value, (head-split c.args.kind.value p.value_value_2).1); values_after = row_at c }
+    let t = rw (behind-at p.ws_value c.part_at-part.ensures p.value_value_2) at c.read_fields.ensures.at_value in record { at_value_2 = omega (arith, t, p.at_value, (head-split c.args.kind.value p.value_value_2).1); values_after = row_at c }
 
 pub part_at-part-requires : goal.part_at-part-requires
 part_at-part-requires c = record { kind_in_bounds = kind-in _ c.requires.value_value_2; i_in_bounds = omega arith }

@@ -1,5 +1,5 @@
 -- With i lists taken, the row has the numbers before list i.
-use Prim.Native.Nat.{ℕ, ◌-◌, ◌*◌, ◌≤◌, ◌<◌}
+use Prim.Native.Nat.{ℕ, ◌*◌, ◌<◌}
 use mathlib.Core.Path.{◌≡◌, ap, ◌∙◌}
 use lib.ListN.{length}
 use Rattle.bits.specs.Table.{total, fields_at}
@@ -35,7 +35,13 @@ read_items-d-requires c =
     let h = c.list_at-list.ensures in
     let inside : l.i < length (lists k) = omega (arith, c.lists_of-n.ensures, c.loop-i-test.true) in
     let few = s.requires.bytes_len_bound in
-    let whole = whole-size bytes s.requires.bytes_value in record { fit = rw (s.requires.ws_value, h.fields (λ r. r.width), h.items, row-items w l.i l.invariant.3 l.i) (take-fits w l.i l.invariant.3 few whole inside l.invariant.2); bits_value = rw (s.requires.ws_value, h.fields (λ r. r.width), h.items, row-items w l.i l.invariant.3 l.i) h.bits; le_bits = rw (s.requires.ws_value, h.fields (λ r. r.width), h.items, row-items w l.i l.invariant.3 l.i) (omega (arith, h.bits, item-small k l.i inside)); ws_in_bounds = rw (s.requires.ws_value, h.fields (λ r. r.width), h.items, row-items w l.i l.invariant.3 l.i) (take-room w l.i l.invariant.3 few whole inside l.invariant.1) }
+    let whole = whole-size bytes s.requires.bytes_value in
+    record {
+      fit = rw (s.requires.ws_value, h.fields (λ r. r.width), h.items, row-items w l.i l.invariant.3 l.i) (take-fits w l.i l.invariant.3 few whole inside l.invariant.2);
+      bits_value = rw (s.requires.ws_value, h.fields (λ r. r.width)) h.bits;
+      le_bits = omega (arith, h.bits, item-small k l.i inside);
+      ws_in_bounds = rw (s.requires.ws_value, h.fields (λ r. r.width), h.items, row-items w l.i l.invariant.3 l.i) (take-room w l.i l.invariant.3 few whole inside l.invariant.1);
+    }
 
 -- what list i has
 inside-at : (c : After-struct_known-1) → c.loop-i.i < length (lists c.args.kind)
@@ -68,8 +74,8 @@ loop-i-preserved c =
     let t = rw (s.requires.ws_value, c.list_at-list.ensures.fields (λ r. r.width), items_at c) at c.read_items-d.ensures in (
       omega (arith, inside),
       omega (arith, l.invariant.1, numbers-at c, length-list k (head_numbers bytes) l.i),
-      omega (arith, t.0, l.invariant.2, total-list k (head_numbers bytes) l.i, total-times ws (items_in k (head_numbers bytes) l.i)),
-      take_row w l.i l.invariant.3 s.requires.bytes_len_bound (whole-size bytes s.requires.bytes_value) inside l.invariant.1 l.invariant.2 t.1,
+      omega (arith, t.at_value, l.invariant.2, total-list k (head_numbers bytes) l.i, total-times ws (items_in k (head_numbers bytes) l.i)),
+      take_row w l.i l.invariant.3 s.requires.bytes_len_bound (whole-size bytes s.requires.bytes_value) inside l.invariant.1 l.invariant.2 t.out_after,
     )
 
 whole_row : (c : After-loop-i) → c.loop-i.values ≡ row (numbers_of c.args.bytes.now)
