@@ -1,21 +1,19 @@
 -- Each test is the question put to the bytes, and each return is the first that fails.
 use mathlib.Core.Bool.{true}
 use mathlib.Core.Path.{◌≡◌, sym, ap, ◌∙◌}
-use borrow.Author.Tests.{not-true, not-false}
 use Rattle.bits.specs.Pack.{bytes_for}
 use Rattle.record_layouts.specs.Layout.{head, size_of}
 use Rattle.record_layouts.specs.Questions.{rules_of, numbers_of, permitted, is_filled}
 use Rattle.record_layouts.specs.QuestionLaws.{few_bits}
 use Rattle.record_unpack.specs.Reading.{fails-3, fails-4, fails-5, fails-none, refuses, fills, row-start, row-permits, row-stated, whole-stated, whole_long, whole-kind, whole-permitted, whole-head-permitted, whole-valid, whole-filled, whole-rise, whole-size, few-of, refused-of}
 use Rattle.record_numbers.specs.Accepted.{numbers-count}
-use borrow.Author.Rules.{rules}
 use native.Mathlib.Omega.{arith}
 use Rattle.record_parse.proofs.parse_whole.Goals as goal
 use Rattle.record_parse.proofs.parse_whole.Goals.{After-size_of-size, Else-not-head_permitted, Else-not-is_filled, Else-not-lists_permitted}
 
 -- the size, and the questions that let pass
-size_is : (c : After-size_of-size) → c.type_size.result ≡ size_of (rules_of c.args.bytes.now)
-size_is c = c.type_size.ensures ∙ ap bytes_for c.requires.shaped.bits
+size_is : (c : After-size_of-size) → c.size_of-size.result ≡ size_of (rules_of c.args.bytes.now)
+size_is c = c.size_of-size.ensures ∙ ap bytes_for c.requires.shaped.bits
 
 head_at : (c : Else-not-head_permitted) → permitted (head c.args.kind) (numbers_of c.args.bytes.now) ≡ true
 head_at c = let s = c in sym (row-permits s.requires.known 0 (row-start s.requires.known s.requires.values_value)) ∙ sym c.head_permitted.ensures ∙ c.if-not-head_permitted.false
