@@ -1,11 +1,9 @@
 -- With j numbers copied, the front of the buffer holds them and the rest is as it was.
 use Rattle.record_read.specs.Turns.{front-turn}
-use mathlib.Core.List.{◌++◌}
 use mathlib.Core.Path.{◌≡◌, refl}
-use Prim.Native.Nat.{◌-◌, ◌≤◌}
 use native.Mathlib.Numerals.{add-one}
 use native.Mathlib.Omega.{arith}
-use lib.ListN.{length, take, drop, length-set}
+use lib.ListN.{length-set}
 use Rattle.record_read.proofs.copy_front.Goals as goal
 
 pub loop-j-init : goal.loop-j-init

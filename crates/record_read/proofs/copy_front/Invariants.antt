@@ -1,11 +1,8 @@
 -- With j numbers copied, the front of the buffer holds them and the rest is as it was.
-use Rattle.record_read.specs.Turns.{front-turn}
 use mathlib.Core.List.{◌++◌}
-use mathlib.Core.Path.{◌≡◌, refl}
+use mathlib.Core.Path.{◌≡◌}
 use Prim.Native.Nat.{◌-◌, ◌≤◌}
-use native.Mathlib.Numerals.{add-one}
-use native.Mathlib.Omega.{arith}
-use lib.ListN.{length, take, drop, length-set}
+use lib.ListN.{length, take, drop}
 use Rattle.record_read.proofs.copy_front.Given as goal
 
 abbrev pub invariant-loop-j : goal.invariant-loop-j

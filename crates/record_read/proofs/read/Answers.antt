@@ -1,6 +1,5 @@
 -- What is refused leaves the buffer as it was; else the row has the numbers in front.
 use mathlib.Core.Path.{refl, sym, ap, ◌∙◌}
-use borrow.Author.Rules.{rules}
 use native.Mathlib.Omega.{arith}
 use lib.ListN.{length}
 use Rattle.record_layouts.specs.Questions.{numbers_of}
