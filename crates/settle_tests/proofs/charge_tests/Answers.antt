@@ -6,13 +6,13 @@ use Rattle.ids.specs.Sets.{get_or-replicate-same}
 use Rattle.limits.specs.Limits.{sellers}
 use Rattle.settle_table.specs.Places.{test_row}
 use Rattle.settle_table.specs.Rows.{aside_none, aside-more, row_same, row_first, row_more}
-use Rattle.settle_tests.specs.Entries.{unless, none-taken}
+use Rattle.settle_tests.specs.Entries.{none-taken}
 use Rattle.settle_tests.specs.Sums.{sums_width}
 use Rattle.settle_tests.proofs.charge_tests.Goals as goal
 
 pub returns-then-not-any_taken : goal.returns-then-not-any_taken
 returns-then-not-any_taken c =
-    let s = c in record { charged = row_same s.requires.row (λ j l. none-taken s.requires.valid_cells s.args.k j (sym c.any_taken.ensures ∙ unless _ c.if-not-any_taken.true-raw)); aside = aside_none }
+    let s = c in record { charged = row_same s.requires.row (λ j l. none-taken s.requires.valid_cells s.args.k j (sym c.any_taken.ensures ∙ c.if-not-any_taken.true)); aside = aside_none }
 
 pub sum_up-requires : goal.sum_up-requires
 sum_up-requires c = let s = c in record { valid_cells = s.requires.valid_cells; ready = s.requires.ready; sums_len = (refl, record { is = λ j l. get_or-replicate-same sums_width (0 + j) 0 }) }
