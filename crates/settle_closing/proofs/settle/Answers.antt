@@ -4,8 +4,8 @@ use Rattle.std.proofs.Common.{ap, ◌∙◌, arith}
 use Rattle.std.proofs.Math.ListN.{get_or}
 use Rattle.limits.specs.Limits.{registrations}
 use Rattle.year.specs.declared.Registration.{Registration}
-use Rattle.year.specs.Year.{no_registration, registration}
-use Rattle.year_cells.specs.Layout.{year_in, cell_registrations, ValidCells}
+use Rattle.year.specs.Year.{no_registration}
+use Rattle.year_cells.specs.Layout.{cell_registrations, ValidCells}
 use Rattle.settle_rates.specs.Entering.{begun_first}
 use Rattle.settle_closing.proofs.settle.Goals as goal
 

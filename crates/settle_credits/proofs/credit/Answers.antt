@@ -8,7 +8,6 @@ use Rattle.year.specs.Year.{listed}
 use Rattle.settle_charges.specs.declared.prices.Line.{Line}
 use Rattle.settle_charges.specs.Pricing.{line_at}
 use Rattle.settle_charges.specs.Charging.{line_of, line-is}
-use Rattle.settle_facts.specs.CellFacts.{facts}
 use Rattle.owed.specs.Facts.{Facts}
 use Rattle.owed_laws.specs.Limits.{limits}
 use Rattle.owed_laws.specs.Bounds.{D-le, e-le, e-sum, credit-le}
@@ -56,12 +55,12 @@ loop-i-preserved c =
     let h = c.loop-i.invariant in
     let t = c.loop-i-test.true in
     elim c.if-get-ne0.branch [
-      then-get-ne0 w ↦
-        let e = line h t w.line_at-line.ensures in
-        let g = rw e at w.share-share.ensures in
-        let r = credit-is h g c.days_to-days.ensures (rw e at w.limit-most.ensures) w.lesser-credit.ensures in
-        rw (w.work-is, w.allotment-is) (crediting-more h g t (mark-true _ (marked h t c.get.ensures) w.if-get-ne0.true) ((limits c.requires.valid_cells.sound).seller c.loop-i.i) r (rw e at w.add_at.ensures))
-    | else-get-ne0 w ↦ rw (w.work-is, w.allotment-is) (crediting-none h t (mark-false _ (marked h t c.get.ensures) w.if-get-ne0.false))
+      | then-get-ne0 w ↦
+          let e = line h t w.line_at-line.ensures in
+          let g = rw e at w.share-share.ensures in
+          let r = credit-is h g c.days_to-days.ensures (rw e at w.limit-most.ensures) w.lesser-credit.ensures in
+          rw (w.work-is, w.allotment-is) (crediting-more h g t (mark-true _ (marked h t c.get.ensures) w.if-get-ne0.true) ((limits c.requires.valid_cells.sound).seller c.loop-i.i) r (rw e at w.add_at.ensures))
+      | else-get-ne0 w ↦ rw (w.work-is, w.allotment-is) (crediting-none h t (mark-false _ (marked h t c.get.ensures) w.if-get-ne0.false))
     ]
 
 pub returns : goal.returns

@@ -1,11 +1,8 @@
 -- `settle_rates::average` meets its contract. The loop's invariant: the areas before a have their rates. Assumes nothing.
-use Prim.Native.Nat.{◌+◌, ◌-◌, ◌≤◌}
-use mathlib.Core.Path.{◌≡◌, ◌∙◌}
-use native.Mathlib.Omega.{arith}
-use borrow.Author.Rules.{rules}
+use Prim.Native.Nat.{◌-◌, ◌≤◌}
 use Rattle.limits.specs.Limits.{areas}
-use Rattle.settle_table.specs.Places.{area_kw_row, area_worth_row, area_rate_row}
-use Rattle.settle_table.specs.Rows.{Aside, Row, aside_none, aside-more, row_first, row_more}
+use Rattle.settle_table.specs.Places.{area_rate_row}
+use Rattle.settle_table.specs.Rows.{Aside, Row}
 use Rattle.settle_rates.specs.Rating.{average_in}
 use Rattle.settle_rates.proofs.average.Given as goal
 

@@ -1,13 +1,13 @@
 -- `settle_closing::events::bill_events` meets its contract. The loop's invariant: the events before ev are billed. Assumes nothing.
-use Prim.Native.Nat.{◌-◌, ◌≤◌}
+use Prim.Native.Nat.{◌-◌}
 use mathlib.Core.Path.{◌≡◌}
 use native.Mathlib.Omega.{arith}
 use Rattle.settle_charges.specs.Charging.{billed-all}
 use Rattle.settle_credits.specs.Crediting.{credit-all}
 use Rattle.settle_facts.specs.CellFacts.{facts}
-use Rattle.settle_table.specs.Places.{dispatch_count_row, spent_row, passed_places}
-use Rattle.settle_table.specs.Rows.{Aside, aside_none, aside_then, row_within}
-use Rattle.settle_closing.specs.Passes.{Run, run-first}
+use Rattle.settle_table.specs.Places.{dispatch_count_row, spent_row}
+use Rattle.settle_table.specs.Rows.{aside_none, aside_then, row_within}
+use Rattle.settle_closing.specs.Passes.{run-first}
 use Rattle.settle_closing.proofs.events.bill_events.Goals as goal
 
 pub count-requires : goal.count-requires

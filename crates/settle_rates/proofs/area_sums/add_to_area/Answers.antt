@@ -3,7 +3,6 @@ use Prim.Native.Nat.{◌+◌, ◌≤◌}
 use mathlib.Core.Path.{◌≡◌}
 use native.Mathlib.Omega.{arith}
 use native.Mathlib.Nat.{mul-le-mul}
-use borrow.Author.Rules.{rules}
 use Rattle.limits.specs.Limits.{nominated_limit, rate_limit}
 use Rattle.year.specs.Year.{area, committed}
 use Rattle.year.specs.Sound.{SoundRegistration}

@@ -2,7 +2,6 @@
 use Prim.Native.Nat.{◌<◌}
 use mathlib.Core.Path.{◌≡◌, ap, sym, ◌∙◌}
 use native.Mathlib.Omega.{arith}
-use borrow.Author.Rules.{rules}
 use borrow.Author.Tests.{lt-ltb, not-true, not-false}
 use Rattle.year.specs.Year.{known, field_rate}
 use Rattle.year.specs.Limits.{clearings-sound}

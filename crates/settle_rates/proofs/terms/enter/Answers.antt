@@ -2,7 +2,6 @@
 use Prim.Native.Nat.{◌≤◌}
 use native.Mathlib.Omega.{arith}
 use native.Mathlib.Nat.{mul-le-mul}
-use borrow.Author.Rules.{rules}
 use Rattle.limits.specs.Limits.{unforced_limit, rate_limit}
 use Rattle.year.specs.Year.{seller, area, zone, product, committed}
 use Rattle.year.specs.Sound.{SoundRegistration}
