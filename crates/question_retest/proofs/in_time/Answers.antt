@@ -1,11 +1,6 @@
 -- `question_retest::in_time` meets its contract. Assumes nothing.
-use borrow.Author.Rules.{rules}
 use mathlib.Core.Path.{sym}
 use Rattle.question_list.specs.Answers.{yes, no}
-use Rattle.year_tested.proofs.test_month.Reads as test-month-reads
-use Rattle.year_tested.proofs.test_taken.Reads as test-taken-reads
-use Rattle.question_list.proofs.may_test.Reads as may-test-reads
-use Rattle.year.proofs.group_of.Reads as group-of-reads
 use Rattle.question_retest.proofs.in_time.Goals as goal
 
 pub returns-then-not-may_test : goal.returns-then-not-may_test

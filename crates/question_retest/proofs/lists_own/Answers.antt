@@ -1,7 +1,5 @@
 -- `question_retest::lists_own` meets its contract. Assumes nothing.
-use borrow.Author.Rules.{rules}
 use mathlib.Core.Path.{sym}
-use Rattle.question_listings.proofs.every_listed.Reads as every-listed-reads
 use Rattle.question_retest.proofs.lists_own.Goals as goal
 
 pub returns-then-every_listed : goal.returns-then-every_listed

@@ -1,5 +1,4 @@
 -- `first_failed` meets its contract.
-use borrow.Author.Tests.{not-true, not-false}
 use Rattle.record_layouts.specs.Questions.{first_failed}
 use Rattle.question_setup.proofs.first_failed.Goals as goal
 

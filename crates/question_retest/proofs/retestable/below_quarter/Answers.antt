@@ -1,5 +1,4 @@
 -- `question_retest::retestable::below_quarter` meets its contract. Assumes nothing.
-use borrow.Author.Rules.{rules}
 use borrow.Author.Tests.{lt-ltb, le-ltb}
 use Rattle.owed.specs.Retests.{below_quarter}
 use Rattle.question_retest.proofs.retestable.below_quarter.Goals as goal

@@ -1,5 +1,4 @@
 -- `question_retest::retestable::may_retest` meets its contract. Assumes nothing.
-use borrow.Author.Rules.{rules}
 use mathlib.Core.Path.{sym, ◌∙◌}
 use Rattle.limits.specs.Limits.{registrations}
 use Rattle.year.specs.Limits.{committed-sum}
@@ -8,11 +7,6 @@ use Rattle.question_conditions.specs.declared.Selection.TheVariants.{Failed}
 use Rattle.question_conditions.specs.Selects.{selects}
 use Rattle.question_list.specs.Answers.{yes, no}
 use Rattle.owed.specs.Retests.{tested_kw, failed_kw, had_retest}
-use Rattle.year_tested.proofs.test_taken.Reads as test-taken-reads
-use Rattle.question_listings.proofs.any_selected.Reads as any-selected-reads
-use Rattle.question_listings.proofs.committed_kw.Reads as committed-kw-reads
-use Rattle.question_retest.proofs.retestable.below_quarter.Reads as below-quarter-reads
-use Rattle.year.proofs.group_of.Reads as group-of-reads
 use Rattle.question_retest.proofs.retestable.may_retest.Goals as goal
 
 pub returns-then-not-test_taken : goal.returns-then-not-test_taken
@@ -30,8 +24,7 @@ returns-then-any_selected c =
 
 pub below_quarter-requires : goal.below_quarter-requires
 below_quarter-requires c =
-    let s = c in
-    rw c.committed_kw-failed.ensures (committed-sum s.requires.valid_cells.sound.terms (selects (year_in s.args.year.now) (Failed c.group_of-group.result s.args.t.seller)) registrations)
+    rw c.committed_kw-failed.ensures (committed-sum c.requires.valid_cells.sound.terms (selects (year_in c.args.year.now) (Failed c.group_of-group.result c.args.t.seller)) registrations)
 
 pub returns : goal.returns
 unfolding had_retest failed_kw tested_kw
