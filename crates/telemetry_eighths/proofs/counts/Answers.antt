@@ -23,7 +23,9 @@ returns-else-eighths c = let x = c.args.x in fails x (le nought (mul binary32 x 
 
 pub truncating_f32_to_u64-n-requires : goal.truncating_f32_to_u64-n-requires
 unfolding of_bits
-truncating_f32_to_u64-n-requires c = castable (mul binary32 c.args.x eight) c.if-eighths.true c.if-eighths-2.true
+truncating_f32_to_u64-n-requires c =
+    let fits = castable (mul binary32 c.args.x eight) c.if-eighths.true c.if-eighths-2.true in
+    record { lower_bound = fits.0; upper_bound = fits.1 }
 
 pub int_to_float-result : goal.int_to_float-result
 unfolding of_bits in_float

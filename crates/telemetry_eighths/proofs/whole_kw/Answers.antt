@@ -11,4 +11,6 @@ returns c =
     cut ∙ kw-cast x c.requires
 
 pub truncating_f32_to_u64-requires : goal.truncating_f32_to_u64-requires
-truncating_f32_to_u64-requires c = kw-castable c.args.x c.requires
+truncating_f32_to_u64-requires c =
+    let fits = kw-castable c.args.x c.requires in
+    record { lower_bound = fits.0; upper_bound = fits.1 }

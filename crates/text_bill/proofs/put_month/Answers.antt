@@ -7,7 +7,7 @@ use Rattle.text_bill.proofs.put_month.Goals as goal
 
 pub returns : goal.returns
 unfolding month_line
-returns c = (
-  then c.put_byte-p.ensures (then c.put_number-p.ensures.pasted c.put_byte.ensures),
-  omega (arith, c.put_byte-p.ensures.next, c.put_number-p.ensures.upper_bound, c.put_byte.ensures.next),
-)
+returns c = record {
+  pasted = then c.put_byte-p.ensures (then c.put_number-p.ensures.pasted c.put_byte.ensures);
+  upper_bound = omega (arith, c.put_byte-p.ensures.next, c.put_number-p.ensures.upper_bound, c.put_byte.ensures.next);
+}
