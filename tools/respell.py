@@ -28,7 +28,7 @@ def part(word):
         return PARTS.get(word, word)
     if not re.fullmatch(r"[a-z][a-zA-Z0-9]*", word) or not re.search(r"[A-Z]", word):
         return word
-    return re.sub(r"(?<=[a-z0-9])(?=[A-Z])", "_", word).lower()
+    return re.sub(r"(?<=[a-z0-9])(?=[A-Z])|(?<=[A-Z])(?=[A-Z][a-z])", "_", word).lower()
 
 
 def respell(name):

@@ -17,7 +17,7 @@ use Rattle.owed_laws.specs.Cap.{spent-le}
 use Rattle.owed_laws.specs.Unlisted.{u-unlisted, off-unlisted, daily-none, charge-none}
 use Rattle.settle_shortfalls.specs.Sharing.{Shares, shares-aside}
 use Rattle.settle_table.specs.Columns.{Columns, columns-aside}
-use Rattle.settle_table.specs.Places.{dispatch_count_row, spent_row, compliance_row, credit_row, short_row, off_urow}
+use Rattle.settle_table.specs.Places.{dispatch_count_row, spent_row, compliance_row, credit_row, short_row, off_u_row}
 use Rattle.settle_table.specs.Rows.{Stored, Aside, Row, Renewed, Grown, none, aside_none, aside_then, aside-more, row-aside, row_same, renewed-first, renewed-kept, renewed-next, renewed-more, renewed-none, grown-first, grown-kept, grown-none, grown-more, grown-most}
 use Rattle.settle_charges.specs.declared.prices.Line.{Line}
 use Rattle.settle_charges.specs.Pricing.{line_at, daily_of}
@@ -27,7 +27,7 @@ pub record Given (F : Facts) (ev : ℕ) (w : List ℕ) : Type 0 where
   pub columns : Columns F registrations w
   pub dispatch_count : Row w dispatch_count_row registrations (owed.dispatch_count F)
   pub shares : Shares F ev w
-  pub off : Row w off_urow registrations (owed.off_u F ev)
+  pub off : Row w off_u_row registrations (owed.off_u F ev)
 
 -- the rows that its charges and credits are written to lie apart
 pub given-aside : {F : Facts} {ev p n : ℕ} {w v : List ℕ} → Given F ev w → Aside p n w v → spent_row ≤ p → p + n ≤ short_row → Given F ev v

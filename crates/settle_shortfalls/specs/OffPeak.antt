@@ -19,7 +19,7 @@ use Rattle.owed_laws.specs.Bounds.{short-le, shortfall-le}
 use Rattle.owed_laws.specs.Unlisted.{off-none}
 use Rattle.settle_shortfalls.specs.Sharing.{second_of, Shares, shares-aside}
 use Rattle.settle_table.specs.Columns.{Columns, columns-aside}
-use Rattle.settle_table.specs.Places.{amount_in, passed_in, divisions_in, carried_width, off_urow, off_short_row, off_over_row, test_row, off_peak_places}
+use Rattle.settle_table.specs.Places.{amount_in, passed_in, divisions_in, carried_width, off_u_row, off_short_row, off_over_row, test_row, off_peak_places}
 use Rattle.settle_table.specs.Rows.{Stored, Aside, Row, Renewed, none, mark, aside_none, aside-of, aside-more, aside_then, row_same, row_kept, row_within, row_first, row_more, renewed-first, renewed-aside, renewed-more, renewed-none}
 use Rattle.settle_shortfalls.specs.Sums.{Sums, Summed, sums_first, sums_none, sums-more, sums-all, summed_kept, shortfall-is}
 use Rattle.settle_shortfalls.specs.declared.off_peak.OffPeakEntry.{OffPeakEntry}
@@ -29,7 +29,7 @@ pub record Entries (F : Facts) (ev : ℕ) (w : List ℕ) : Type 0 where
   pub columns : Columns F registrations w
   pub shares : Shares F ev w
 
-pub entries-aside : {F : Facts} {ev p n : ℕ} {w v : List ℕ} → Entries F ev w → Aside p n w v → off_urow ≤ p → Entries F ev v
+pub entries-aside : {F : Facts} {ev p n : ℕ} {w v : List ℕ} → Entries F ev w → Aside p n w v → off_u_row ≤ p → Entries F ev v
 entries-aside h a l =
     record { columns = columns-aside h.columns a (lit≤ tt) (omega arith); shares = shares-aside h.shares a (λ k x y c d. omega arith) }
 
@@ -62,7 +62,7 @@ second-small {F} L ev i = cond-le (year.listed (F.event ev).listing i) (L.off_pe
 
 -- the off-peak u of its entries
 abbrev pub OffShares : Facts → ℕ → List ℕ → Type 0
-OffShares F ev w = Row w off_urow registrations (off_u F ev)
+OffShares F ev w = Row w off_u_row registrations (off_u F ev)
 
 -- how many divisions each seller's off-peak allotment made
 abbrev pub OffDivided : Facts → ℕ → List ℕ → Type 0
@@ -144,9 +144,9 @@ netted-more {F} {ev} {s} {v = v} h l p q f st =
 pub record Ready (F : Facts) (ev : ℕ) (w : List ℕ) : Type 0 where
   pub entries : Entries F ev w
   pub short : SellerAllotments F (measured F ev) (off_short F ev) (off_shortfall F ev) off_short_row 0 w
-  pub fresh : Row w off_urow registrations none
+  pub fresh : Row w off_u_row registrations none
 
-pub netted-all : {F : Facts} {ev : ℕ} {w : List ℕ} → Netted F ev sellers w → Row w off_urow registrations none → Ready F ev w
+pub netted-all : {F : Facts} {ev : ℕ} {w : List ℕ} → Netted F ev sellers w → Row w off_u_row registrations none → Ready F ev w
 netted-all h z =
     record { entries = h.weighed.entries; short = allotments-first h.weighed.sums.short h.shortfall h.weighed.fresh; fresh = z }
 
@@ -154,9 +154,9 @@ netted-all h z =
 pub record Sharing (F : Facts) (ev i : ℕ) (w₀ w : List ℕ) : Type 0 where
   pub upto : i ≤ registrations
   pub entries : Entries F ev w
-  pub aside : Aside off_urow off_peak_places w₀ w
+  pub aside : Aside off_u_row off_peak_places w₀ w
   pub short : SellerAllotments F (measured F ev) (off_short F ev) (off_shortfall F ev) off_short_row i w
-  pub u : Renewed w off_urow registrations (off_u F ev) none i
+  pub u : Renewed w off_u_row registrations (off_u F ev) none i
 
 pub sharing-first : {F : Facts} {ev : ℕ} {w : List ℕ} → Ready F ev w → Sharing F ev 0 w w
 sharing-first {F} {ev} r =
@@ -180,11 +180,11 @@ module _ {F : Facts} {ev i : ℕ} {w₀ w : List ℕ} (h : Sharing F ev i w₀ w
         allotments-asks h.short (L.seller i) short-is l
         (omega (arith, mul-le-mul (shortfall-le L (measured F ev) (year.second (F.event ev).listing) (year.deficit (F.event ev).listing) (F.seller i)) (of_seller-le F (F.seller i) nominated_limit (short-le L (measured F ev) (year.second (F.event ev).listing)))))
 
-    pub sharing-more : {m v : List ℕ} {u : ℕ} → Shared off_short_row (F.seller i) (entry_at F ev i).short.0 w m u → Stored (off_urow + i) u m v → Sharing F ev (i + 1) w₀ v
+    pub sharing-more : {m v : List ℕ} {u : ℕ} → Shared off_short_row (F.seller i) (entry_at F ev i).short.0 w m u → Stored (off_u_row + i) u m v → Sharing F ev (i + 1) w₀ v
     unfolding off_u
     sharing-more {m} {v} g st =
         let moved : Aside (off_short_row + passed_in) carried_width w m = shared-aside (L.seller i) g in
-        let stores : Aside off_urow off_peak_places w v = aside_then moved (aside-of st) (omega arith) (omega arith) (omega arith) (omega arith) in
+        let stores : Aside off_u_row off_peak_places w v = aside_then moved (aside-of st) (omega arith) (omega arith) (omega arith) (omega arith) in
         record {
           upto = omega arith;
           entries = entries-aside h.entries stores (lit≤ tt);
@@ -205,8 +205,8 @@ module _ (F : Facts) (ev : ℕ) (off : (F.event ev).dual ≡ false) where
       let none : of_seller F s (off_short F ev) ≡ 0 = sum-zero registrations (λ i l. rw (unmeasured i) (let le = cond-le (eqb (F.seller i) s) {x = 0} {b = 0} (lit≤ tt) in omega arith)) in
       rw none
 
-  pub measured-none : {w : List ℕ} → Row w off_urow off_peak_places none → OffShares F ev w × OffDivided F ev w
+  pub measured-none : {w : List ℕ} → Row w off_u_row off_peak_places none → OffShares F ev w × OffDivided F ev w
   measured-none r = (
-    row_same (row_within off_urow registrations r (omega arith) (omega arith)) (λ i l. sym (off-none F ev i (unmeasured i))),
+    row_same (row_within off_u_row registrations r (omega arith) (omega arith)) (λ i l. sym (off-none F ev i (unmeasured i))),
     row_same (row_within (off_short_row + divisions_in) sellers r (omega arith) (omega arith)) (λ s l. sym (none-divided s)),
   )

@@ -15,7 +15,7 @@ use Rattle.owed_laws.specs.Bounds.{short-le, over-le, shortfall-le, excess-le}
 use Rattle.owed_laws.specs.Unlisted.{u-unlisted, e-unlisted}
 use Rattle.year_cells.specs.Rows.{Off}
 use Rattle.settle_table.specs.Columns.{Columns, columns-aside}
-use Rattle.settle_table.specs.Places.{passed_in, divisions_in, carried_width, short_row, over_row, u_row, e_row, listed_row, second_row, off_urow, shared_places}
+use Rattle.settle_table.specs.Places.{passed_in, divisions_in, carried_width, short_row, over_row, u_row, e_row, listed_row, second_row, off_u_row, shared_places}
 use Rattle.settle_table.specs.Rows.{Stored, Aside, Row, Renewed, none, mark, aside_none, aside-more, aside_then, row-aside, row_within, renewed-first, renewed-kept, renewed-aside, renewed-more, renewed-none}
 use Rattle.settle_shortfalls.specs.declared.MeasuredEntry.{MeasuredEntry}
 use Rattle.settle_shortfalls.specs.Weighing.{entry_at, Ready}
@@ -32,7 +32,7 @@ pub record Shares (F : Facts) (ev : ℕ) (w : List ℕ) : Type 0 where
   pub second : Row w second_row registrations (second_of F ev)
 
 -- what is stored elsewhere
-pub shares-aside : {F : Facts} {ev p n : ℕ} {w v : List ℕ} → Shares F ev w → Aside p n w v → ((k : ℕ) → u_row ≤ k → k < off_urow → Off p n k) → Shares F ev v
+pub shares-aside : {F : Facts} {ev p n : ℕ} {w v : List ℕ} → Shares F ev w → Aside p n w v → ((k : ℕ) → u_row ≤ k → k < off_u_row → Off p n k) → Shares F ev v
 shares-aside h a o =
     record {
       u = row-aside h.u a (λ j l. o (u_row + j) (omega arith) (omega arith));

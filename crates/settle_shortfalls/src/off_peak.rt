@@ -3,7 +3,7 @@ ghost use Rattle.std.specs.Prelude.{◌≡◌, ◌<◌};
 ghost use Rattle.limits.specs.Limits.{registrations, sellers, event_limit};
 ghost use Rattle.year_cells.specs.Layout.{ValidCells};
 ghost use Rattle.settle_facts.specs.CellFacts.{facts};
-ghost use Rattle.settle_table.specs.Places.{off_urow, off_short_row, off_peak_places};
+ghost use Rattle.settle_table.specs.Places.{off_u_row, off_short_row, off_peak_places};
 ghost use Rattle.settle_table.specs.Rows.{Aside, Row, none};
 ghost use Rattle.settle_shortfalls.specs.OffPeak.{Entries, OffShares, OffDivided, entry_at, sum_places, Weighed, Netted, Ready};
 
@@ -92,7 +92,7 @@ fn share(year: &Cells, work: &mut Work, ev: usize)
     requires ready { Ready (facts year.now) ev work.old }
     ensures shares { OffShares (facts year.now) ev work.new }
     ensures divisions { OffDivided (facts year.now) ev work.new }
-    ensures aside { Aside off_urow off_peak_places work.old work.new }
+    ensures aside { Aside off_u_row off_peak_places work.old work.new }
 {
     let mut i: usize = 0;
     while i < REGISTRATIONS {
@@ -115,10 +115,10 @@ pub fn measure(year: &Cells, work: &mut Work, ev: usize)
     requires valid_cells { ValidCells year.now }
     requires ev_lt_event_limit { ev < event_limit }
     requires entries { Entries (facts year.now) ev work.old }
-    requires row { Row work.old off_urow off_peak_places none }
+    requires row { Row work.old off_u_row off_peak_places none }
     ensures shares { OffShares (facts year.now) ev work.new }
     ensures divisions { OffDivided (facts year.now) ev work.new }
-    ensures aside { Aside off_urow off_peak_places work.old work.new }
+    ensures aside { Aside off_u_row off_peak_places work.old work.new }
 {
     if settle_facts::is_dual(year, ev) {
         sums(year, work, ev);

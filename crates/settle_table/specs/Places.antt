@@ -75,11 +75,11 @@ abbrev pub second_row : ℕ
 second_row = listed_row + registrations
 
 -- what is measured off-peak: the off-peak u; a third allotment, of shortfalls by what entries are short; what they are over
-abbrev pub off_urow : ℕ
-off_urow = second_row + registrations
+abbrev pub off_u_row : ℕ
+off_u_row = second_row + registrations
 
 abbrev pub off_short_row : ℕ
-off_short_row = off_urow + registrations
+off_short_row = off_u_row + registrations
 
 abbrev pub off_over_row : ℕ
 off_over_row = off_short_row + allotment_width
@@ -113,13 +113,13 @@ abbrev pub allotment_places : ℕ
 allotment_places = u_row - short_row
 
 abbrev pub shared_places : ℕ
-shared_places = off_urow - short_row
+shared_places = off_u_row - short_row
 
 abbrev pub later_places : ℕ
 later_places = test_row - u_row
 
 abbrev pub off_peak_places : ℕ
-off_peak_places = test_row - off_urow
+off_peak_places = test_row - off_u_row
 
 abbrev pub event_places : ℕ
 event_places = test_row - short_row

@@ -10,7 +10,7 @@ use Rattle.owed.specs.Owed as owed
 use Rattle.owed.specs.Owed.{daily, spent, one_or_three, D}
 use Rattle.owed_laws.specs.Limits.{Limits, limits}
 use Rattle.owed_laws.specs.Bounds.{D-le, u-le, off-u-le, daily-le, charge-le}
-use Rattle.settle_table.specs.Places.{compliance_row, u_row, off_urow}
+use Rattle.settle_table.specs.Places.{compliance_row, u_row, off_u_row}
 use Rattle.settle_table.specs.Rows.{renewed-next}
 use Rattle.settle_charges.specs.declared.prices.Line.{Line}
 use Rattle.settle_charges.specs.Pricing.{line_at, daily_of}
@@ -23,7 +23,7 @@ module _ {F : Facts} {k ev i all : ℕ} {w₀ w : List ℕ} (h : Charging F k ev
   line : x ≡ line_of F ev i (spent F ev i)
   line = e ∙ line-is h.given l (renewed-next h.spent l)
 
-  daily-eq : {u off d : ℕ} {peak : Bool} → (not (eqb u 0) || not (eqb off 0)) ≡ true → u ≡ at w (u_row + i) → off ≡ at w (off_urow + i)
+  daily-eq : {u off d : ℕ} {peak : Bool} → (not (eqb u 0) || not (eqb off 0)) ≡ true → u ≡ at w (u_row + i) → off ≡ at w (off_u_row + i)
       → peak ≡ one_or_three (F.event ev).period → d ≡ daily_of peak x → d ≡ daily F ev (spent F ev i) i
   daily-eq {peak = peak} t a b p f =
       f ∙ ap (daily_of peak) line ∙ daily-is F ev i (any_some t (a ∙ h.given.shares.u.is i l) (b ∙ h.given.off.is i l)) _ p

@@ -1,7 +1,7 @@
 -- `settle_closing::events::bill_event` meets its contract: each pass finds what the one before it left. Assumes nothing.
 use native.Mathlib.Omega.{arith}
 use lib.Dec.{lit≤}
-use Rattle.settle_table.specs.Places.{dispatch_count_row, off_urow, off_peak_places, passed_places}
+use Rattle.settle_table.specs.Places.{dispatch_count_row, off_u_row, off_peak_places, passed_places}
 use Rattle.settle_table.specs.Rows.{aside_then, row-aside, row_within}
 use Rattle.settle_shortfalls.specs.Sharing.{shares-aside}
 use Rattle.settle_charges.specs.Charging.{given-aside}
@@ -22,7 +22,7 @@ measure-requires c =
     let g = c.weigh.ensures in
     let a = c.share.ensures in
     let h = run-aside (run-aside s.run_2 g.aside (lit≤ tt)) a.aside (lit≤ tt) in
-    let fresh = row-aside (row_within off_urow off_peak_places g.ready.fresh (omega arith) (omega arith)) a.aside (λ j l x y. omega arith) in record { valid_cells = s.valid_cells; ev_lt_event_limit = s.ev_lt_event_limit.0; entries = record { columns = h.columns; shares = a.shares }; row = fresh }
+    let fresh = row-aside (row_within off_u_row off_peak_places g.ready.fresh (omega arith) (omega arith)) a.aside (λ j l x y. omega arith) in record { valid_cells = s.valid_cells; ev_lt_event_limit = s.ev_lt_event_limit.0; entries = record { columns = h.columns; shares = a.shares }; row = fresh }
 
 pub charge-charges-requires : goal.charge-charges-requires
 charge-charges-requires c =

@@ -3,7 +3,7 @@ use mathlib.Core.Path.{sym, ◌∙◌}
 use native.Mathlib.Omega.{arith}
 use Rattle.limits.specs.Limits.{registrations}
 use Rattle.settle_facts.specs.CellFacts.{facts}
-use Rattle.settle_table.specs.Places.{off_urow, off_short_row, off_peak_places}
+use Rattle.settle_table.specs.Places.{off_u_row, off_short_row, off_peak_places}
 use Rattle.settle_table.specs.Rows.{aside_none, aside_then, row-aside, row_within}
 use Rattle.settle_shortfalls.specs.OffPeak.{sum_places, netted-all, measured-none}
 use Rattle.settle_shortfalls.proofs.off_peak.measure.Goals as goal
@@ -21,14 +21,14 @@ share-requires c =
     let s = c.requires in
     let a = c.sums.ensures in
     let n = c.nets.ensures in
-    let fresh = row_within off_urow registrations s.row (omega arith) (omega arith) in record { valid_cells = s.valid_cells; ev_lt_event_limit = s.ev_lt_event_limit; ready = netted-all n.netted (row-aside (row-aside fresh a.aside (λ j l x y. omega arith)) n.aside (λ j l x y. omega arith)) }
+    let fresh = row_within off_u_row registrations s.row (omega arith) (omega arith) in record { valid_cells = s.valid_cells; ev_lt_event_limit = s.ev_lt_event_limit; ready = netted-all n.netted (row-aside (row-aside fresh a.aside (λ j l x y. omega arith)) n.aside (λ j l x y. omega arith)) }
 
 pub returns-then-is_dual : goal.returns-then-is_dual
 returns-then-is_dual c =
     let a = c.sums.ensures in
     let n = c.nets.ensures in
     let u = c.share.ensures in
-    let sums = aside_then {q = off_urow} {m = off_peak_places} a.aside n.aside (omega arith) (omega arith) (omega arith) (omega arith) in record { shares = u.shares; divisions = u.divisions; aside = aside_then sums u.aside (omega arith) (omega arith) (omega arith) (omega arith) }
+    let sums = aside_then {q = off_u_row} {m = off_peak_places} a.aside n.aside (omega arith) (omega arith) (omega arith) (omega arith) in record { shares = u.shares; divisions = u.divisions; aside = aside_then sums u.aside (omega arith) (omega arith) (omega arith) (omega arith) }
 
 pub returns-else-is_dual : goal.returns-else-is_dual
 returns-else-is_dual c =
