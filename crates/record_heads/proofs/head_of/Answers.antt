@@ -1,5 +1,4 @@
 -- `head_of` meets its contract, by kind.
-use borrow.Author.Rules.{rules}
 use borrow.Author.Tests.{ne_eqb}
 use Rattle.record_heads.specs.Record.{head_of}
 use Rattle.record_heads.proofs.head_of.Goals as goal

@@ -1,13 +1,13 @@
 -- `record_listing::spread` meets its contract. The loop's invariant: the lists passed are in the row. Assumes nothing.
-use Prim.Native.Nat.{◌-◌, ◌≤◌, ◌<◌}
+use Prim.Native.Nat.{◌<◌}
 use mathlib.Core.Path.{◌≡◌}
 use native.Mathlib.Omega.{arith}
 use lib.ListN.{length}
 use Rattle.ids.specs.Ids.{at}
-use Rattle.record_layouts.specs.Layout.{lists, rules_to, place_of}
+use Rattle.record_layouts.specs.Layout.{lists, rules_to}
 use Rattle.record_layouts.specs.QuestionLaws.{kind-in}
 use Rattle.record_heads.specs.Record.{listing_to, listing_in}
-use Rattle.record_listing.specs.Spread.{Spreads, spread_none}
+use Rattle.record_listing.specs.Spread.{spread_none}
 use Rattle.record_listing.proofs.spread.Goals as goal
 use Rattle.record_listing.proofs.spread.Goals.{In-loop-i}
 

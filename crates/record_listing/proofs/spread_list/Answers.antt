@@ -1,5 +1,5 @@
 -- `record_listing::spread_list` meets its contract. The loop's invariant: the items passed are in the row. Assumes nothing.
-use Prim.Native.Nat.{ℕ, ◌+◌, ◌-◌, ◌≤◌, ◌<◌}
+use Prim.Native.Nat.{ℕ, ◌+◌, ◌-◌, ◌<◌}
 use mathlib.Core.Logic.{⊎_elim}
 use mathlib.Core.List.{List}
 use mathlib.Core.Path.{◌≡◌, sym, ◌∙◌}
@@ -16,7 +16,7 @@ use Rattle.record_layouts.specs.ListLaws.{length-list, item-some}
 use Rattle.record_heads.specs.Record.{with_items, listing_to}
 use Rattle.record_heads.specs.RecordLaws.{items_more, listing-more}
 use Rattle.record_listing.specs.Listed.{Permitted, EntryLimits, DeficitLimits, stated, item-as, item-there}
-use Rattle.record_listing.specs.Spread.{Spreads, spread-entry, spread-second, spread-deficit}
+use Rattle.record_listing.specs.Spread.{spread-entry, spread-second, spread-deficit}
 use Rattle.record_listing.proofs.spread_list.Goals as goal
 use Rattle.record_listing.proofs.spread_list.Goals.{After-part_at-part, In-loop-k, then-reduction-eq0, else-reduction-eq0, then-second-ne0, else-second-ne0}
 
@@ -134,20 +134,20 @@ loop-k-preserved c =
       rw (items_more k vs s.args.i (listing_to k vs s.args.i) l.k)
           (elim c.if-reduction-eq0.branch [
             | then-reduction-eq0 a ↦
-              let d = deficit x a.if-reduction-eq0.true in
-              let kept = spread-deficit l.invariant.2 (at vs l.p) (at vs (l.p + 1)) (lacks x a.if-reduction-eq0.true).0 in
-              elim c.if-second-ne0.branch [
-                | then-second-ne0 b ↦ absurd (b.if-second-ne0.true (n.3 ∙ rw d.none))
-                | else-second-ne0 b ↦ rw (b.row-is, a.row-is, d.keeps _ old, id-at x, ← l.invariant.1) kept
-              ]
+                let d = deficit x a.if-reduction-eq0.true in
+                let kept = spread-deficit l.invariant.2 (at vs l.p) (at vs (l.p + 1)) (lacks x a.if-reduction-eq0.true).0 in
+                elim c.if-second-ne0.branch [
+                  | then-second-ne0 b ↦ absurd (b.if-second-ne0.true (n.3 ∙ rw d.none))
+                  | else-second-ne0 b ↦ rw (b.row-is, a.row-is, d.keeps _ old, id-at x, ← l.invariant.1) kept
+                ]
             | else-reduction-eq0 a ↦
-              let e = entry x a.if-reduction-eq0.false in
-              let id = (reduces x a.if-reduction-eq0.false).0 in
-              let kept = spread-entry l.invariant.2 (at vs l.p) (at vs (l.p + _)) id in
-              elim c.if-second-ne0.branch [
-                | then-second-ne0 b ↦ rw (b.row-is, a.row-is, e.keeps _ old, ne_eqb (at rs 1) 0 (λ z. b.if-second-ne0.true (n.3 ∙ z)), id-at x, ← l.invariant.1, ← n.2, ← n.3) (spread-second kept (at vs l.p) (at vs (l.p + _)) id)
-                | else-second-ne0 b ↦ rw (b.row-is, a.row-is, e.keeps _ old, eq-eqb (at rs 1) 0 (sym n.3 ∙ b.if-second-ne0.false), id-at x, ← l.invariant.1, ← n.2) kept
-              ]
+                let e = entry x a.if-reduction-eq0.false in
+                let id = (reduces x a.if-reduction-eq0.false).0 in
+                let kept = spread-entry l.invariant.2 (at vs l.p) (at vs (l.p + _)) id in
+                elim c.if-second-ne0.branch [
+                  | then-second-ne0 b ↦ rw (b.row-is, a.row-is, e.keeps _ old, ne_eqb (at rs 1) 0 (λ z. b.if-second-ne0.true (n.3 ∙ z)), id-at x, ← l.invariant.1, ← n.2, ← n.3) (spread-second kept (at vs l.p) (at vs (l.p + _)) id)
+                  | else-second-ne0 b ↦ rw (b.row-is, a.row-is, e.keeps _ old, eq-eqb (at rs 1) 0 (sym n.3 ∙ b.if-second-ne0.false), id-at x, ← l.invariant.1, ← n.2) kept
+                ]
           ]),
     )
 
