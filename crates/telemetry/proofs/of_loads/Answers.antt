@@ -27,7 +27,7 @@ unfolding reduction_of
 returns-then-counts-2 c =
     let at = c in
     let kw : c.whole_kw.result ≡ _ = c.whole_kw.ensures ∙ ap (λ (n : ℕ). n / 8) c.less.ensures.exact in
-    rw (expected (goal.at.returns-then-counts-2 at).Then-counts, metered at) (c.within_limit.ensures ∙ ap within_limit kw)
+    rw (expected (goal.at.returns-then-counts-2 at).Then-counts, metered (goal.at.returns-then-counts-2 at).Then-counts-2) (c.within_limit.ensures ∙ ap within_limit kw)
 
 pub returns-else-counts-2 : goal.returns-else-counts-2
 unfolding reduction_of

@@ -1,5 +1,5 @@
 -- One comparison tells the patterns of a NaN, and each of these is read as `nan`.
-use Rattle.std.proofs.Common.{◌≡◌, ℕ, ◌%◌, ◌<◌, ◌≤◌, Bool, not, T, ltb, sym, refl, ◌∙◌, subst, not-le_of_lt, ltb→lt, lt→ltb, rules}
+use Rattle.std.proofs.Common.{◌≡◌, ℕ, ◌%◌, ◌<◌, ◌≤◌, Bool, not, T, ltb, sym, refl, ◌∙◌, subst, not-le_of_lt, ltb→lt, lt→ltb}
 use lib.Dec.{not_T}
 use lib.Ieee.{Float, nan, inf, fin, binary32, of_bits, nan_bits, is_nan, div}
 use lib.Ieee.Bits.{nan_bits_above, nan_bits_is}

@@ -1,6 +1,5 @@
 -- The number and the kW of the one answer.
 use mathlib.Core.Path.{ap, ◌∙◌}
-use borrow.Author.Rules.{rules}
 use Rattle.telemetry.specs.Reduction.{sample_number, kw_of}
 use Rattle.telemetry.proofs.answers.answer.Goals as goal
 
