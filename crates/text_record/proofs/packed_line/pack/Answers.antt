@@ -10,38 +10,36 @@ use Rattle.text_record.specs.Packs.{kept, line_number, kept-front, cut_record, w
 use Rattle.text_record.proofs.packed_line.pack.Goals as goal
 use Rattle.text_record.proofs.packed_line.pack.Goals.{After-slice_known-2-1}
 
-abbrev start : tie.After-slice-known2 → tie.Start
-start c = c.before.before.before.before.before.before.before.before.before.before.before
-
 -- the call's contract, with the numbers and the slice as they are lent
 wrote : (c : After-slice_known-2-1)
-    → (let w = c.write-answer in
-    let a = (start c).args in
-    Writes (kept a.line.now) (drop a.at a.out.now) w.result.number w.result.used w.new.1.0)
+    → Writes (kept c.args.line.now) (drop c.args.at c.args.out.now) c.write-answer.result.number c.write-answer.result.used c.write-answer.new.bytes
 wrote c =
     let d = c.decimals-n in
-    let a = (start c).args in
+    let a = c.args in
     let out = a.out.now in
-    let numbers : take d.result d.new.1.0 ≡ kept a.line.now = ap (take d.result) d.ensures.out_after ∙ kept-front a.line.now _ d.result d.ensures.value refl in
+    let numbers : take d.result d.new.out ≡ kept a.line.now = ap (take d.result) d.ensures.out_after ∙ kept-front a.line.now _ d.result d.ensures.value refl in
     let rest : take (length out - a.at) (drop a.at out) ≡ drop a.at out = take_all (length out - a.at) (drop a.at out) (omega (arith, length-drop a.at out)) in
     rw (numbers, rest) at c.write-answer.ensures
 
 pub returns-then-cut : goal.returns-then-cut
 unfolding line_number
 returns-then-cut c =
-    let p = c in record { number_value = rw c.if-cut.true refl; pasted = rw c.if-cut.true (cut_record p.args.line.now p.args.out.now p.args.at (omega arith)) }
+    record { number_value = rw c.if-cut.true refl; pasted = rw c.if-cut.true (cut_record c.args.line.now c.args.out.now c.args.at (omega arith)) }
 
 pub slice_bounds-write-end : goal.slice_bounds-write-end
 slice_bounds-write-end c =
     let d = c.decimals-n in
-    sym (length-take-le d.result d.new.1.0 (omega (arith, d.auto.1.0, d.ensures.value)))
+    sym (length-take-le d.result d.new.out (omega (arith, d.auto.out, d.ensures.value)))
 
 pub overflow_add-next : goal.overflow_add-next
 overflow_add-next c =
-    let p = start c in
-    omega (arith, (written-record p.args.line.now p.args.out.now p.args.at p.pre (wrote c)).within)
+    let a = c.args in
+    omega (arith, (written-record a.line.now a.out.now a.at c.requires (wrote c)).within)
 
 pub returns : goal.returns
 returns c =
-    let p = start c in
-    let a = p.args in record { number_value = rw c.if-cut.false (written-number a.line.now a.out.now a.at p.pre (wrote c)); pasted = rw c.if-cut.false (written-record a.line.now a.out.now a.at p.pre (wrote c)) }
+    let a = c.args in
+    record {
+      number_value = rw c.if-cut.false (written-number a.line.now a.out.now a.at c.requires (wrote c));
+      pasted = rw c.if-cut.false (written-record a.line.now a.out.now a.at c.requires (wrote c));
+    }
