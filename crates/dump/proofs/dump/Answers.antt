@@ -1,10 +1,13 @@
 -- What is consumed lies within the bytes that were lent.
-use Rattle.std.proofs.Common.{◌≡◌, ◌+◌, ◌-◌, ◌≤◌, arith, length, take, drop, length-drop, length-take-le}
+use Rattle.std.proofs.Common.{◌≡◌, ◌-◌, arith, length, take, drop, length-drop, length-take-le}
 use Rattle.record_layouts.specs.QuestionLaws.{consumed-within}
 use Rattle.dump.proofs.dump.Goals as goal
 
-pub loop-position-preserved : goal.loop-position-preserved
-loop-position-preserved g c = ?
-
 pub behind-window-requires : goal.behind-window-requires
-behind-window-requires g c = ?
+behind-window-requires g c =
+    let f = c.filled-window in
+    let w = f.result in
+    let rest = drop w.start f.new.buffer in
+    let bytes = take (w.end - w.start) rest in
+    let long : length bytes ≡ w.end - w.start = length-take-le (w.end - w.start) rest (rw length-drop (omega arith)) in
+    omega (arith, c.print-printed.ensures.number_value.1, consumed-within bytes)

@@ -1,12 +1,8 @@
 -- The window stays within the input buffer, and a line's room free in the output buffer.
 use mathlib.Core.Path.{◌≡◌}
 use Prim.Native.Nat.{◌+◌, ◌-◌, ◌^◌, ◌≤◌}
-use native.Mathlib.Omega.{arith}
-use lib.ListN.{length, take, drop, length-drop}
-use lib.Seq.{length-take-le}
-use borrow.Author.Rules.{rules}
+use lib.ListN.{length}
 use Rattle.text_record.specs.Line.{line_room}
-use Rattle.record_layouts.specs.QuestionLaws.{consumed-within}
 use Rattle.dump.proofs.dump.Given as goal
 
 abbrev pub invariant-loop-position : goal.invariant-loop-position

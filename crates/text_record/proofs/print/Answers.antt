@@ -2,7 +2,6 @@
 use mathlib.Core.Path.{refl, sym}
 use native.Mathlib.Omega.{arith}
 use lib.Seq.{length-take-le}
-use borrow.Author.Rules.{rules}
 use borrow.Author.Tests.{eq-eqb, ne_eqb}
 use Rattle.text_record.specs.Line.{record_line, count-few, count-within, values-front}
 use Rattle.text_record.proofs.print.Goals as goal
@@ -18,14 +17,14 @@ slice_bounds-values-end c = count-within c.args.bytes.now c.parse-record.ensures
 pub slice_bounds-numbers_line-end : goal.slice_bounds-numbers_line-end
 slice_bounds-numbers_line-end c =
     let p = c.parse-record in
-    sym (length-take-le p.result.count p.new.1.0 (count-within c.args.bytes.now p.ensures c.if-number-ne0.false))
+    sym (length-take-le p.result.count p.new.values (count-within c.args.bytes.now p.ensures c.if-number-ne0.false))
 
 pub numbers_line-next-requires : goal.numbers_line-next-requires
 numbers_line-next-requires c =
     let p = c.parse-record in
     let bytes = c.args.bytes.now in
     let zero = c.if-number-ne0.false in
-    omega (arith, count-few bytes p.ensures zero, length-take-le p.result.count p.new.1.0 (count-within bytes p.ensures zero))
+    omega (arith, count-few bytes p.ensures zero, length-take-le p.result.count p.new.values (count-within bytes p.ensures zero))
 
 pub returns : goal.returns
 unfolding record_line

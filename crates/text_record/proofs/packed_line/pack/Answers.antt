@@ -4,7 +4,6 @@ use mathlib.Core.Path.{◌≡◌, refl, sym, ap, ◌∙◌}
 use native.Mathlib.Omega.{arith}
 use lib.ListN.{length, take, drop, length-drop}
 use lib.Seq.{length-take-le, take_all}
-use borrow.Author.Rules.{rules}
 use Rattle.record_numbers.specs.Calls.{Writes}
 use Rattle.text_record.specs.Packs.{kept, line_number, kept-front, cut_record, written-number, written-record}
 use Rattle.text_record.proofs.packed_line.pack.Goals as goal
