@@ -8,8 +8,8 @@ use Rattle.year_cells.specs.Layout.{ValidCells}
 use Rattle.cases.proofs.cases.Given as goal
 
 abbrev pub invariant-loop : goal.invariant-loop
-invariant-loop l =
+invariant-loop g l =
     ValidCells l.year × (length l.buffer ≡ length l.initial.buffer) × (l.window.start ≤ l.window.end) × (l.window.end ≤ length l.buffer)
 
 abbrev pub decreases-loop : goal.decreases-loop
-decreases-loop l = 2 ^ 64 - l.counter
+decreases-loop g l = 2 ^ 64 - l.counter
