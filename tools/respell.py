@@ -16,8 +16,8 @@ KEPT = {"kW", "uint_Lawful", "uint_Makes", "uint_Tells", "shr_Tells", "shr_slice
 WORD = re.compile(r"(?<![A-Za-z0-9_'\\\-])[a-z][A-Za-z0-9_'\-]*")
 # Lemmas and local names that would get the name of a definition of the same file, by file: they get another first.
 APART = {
-    "crates/record_layouts/specs/LayoutLaws.antt": {"bits_most": "bits_most_lem"},
-    "crates/record_layouts/specs/QuestionLaws.antt": {"bits_most": "bits_most_lem"},
+    "crates/record_layouts/specs/LayoutLaws.antt": {"bits_most": "bits-most"},
+    "crates/record_layouts/specs/QuestionLaws.antt": {"bits_most": "bits-most"},
     "crates/record_layouts/specs/PartLaws.antt": {"fields_in": "fields_within"},
     "crates/year_cells/specs/Regions.antt": {"no_test": "test_none"},
 }

@@ -203,9 +203,9 @@ module _ (limit : Rule → ℕ) {n : ℕ} (e : highest (λ l. bytes_for (bits_mo
       let all : bytes_for (bits_most limit (layout_of k)) ≤ n = rw e at (highest-at (λ l. bytes_for (bits_most limit l)) layouts k refl) in
       omega (arith, here, all)
 
-pub bits_most_lem : (k : ℕ) (vs : List ℕ) → ((i : ℕ) → i < length (lists k) → items_in k vs i ≤ as_written (get_or (head k) (list_at k i).count no_rule))
+pub bits-most : (k : ℕ) (vs : List ℕ) → ((i : ℕ) → i < length (lists k) → items_in k vs i ≤ as_written (get_or (head k) (list_at k i).count no_rule))
     → total (widths (rules_for k vs)) ≤ 8 * longest_record
-bits_most_lem = bits-within as_written longest-is
+bits-most = bits-within as_written longest-is
 
 -- and none that is permitted is longer or has more numbers
 module _ (k : ℕ) (vs : List ℕ) (h : (i : ℕ) → i < length (lists k) → items_in k vs i ≤ as_permitted (get_or (head k) (list_at k i).count no_rule)) where

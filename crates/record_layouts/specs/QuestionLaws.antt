@@ -18,7 +18,7 @@ use Rattle.bits.specs.BitLaws.{field_lt, field_past}
 use Rattle.bits.specs.Table.{total, fields_at, laid}
 use Rattle.bits.specs.TableLaws.{fields-append, fields-at, length_fields}
 use Rattle.record_layouts.specs.Layout.{Rule, no_rule, Layout, bare, layouts, layout_of, head, lists, list_at, items_in, rules_to, rules_for, place_of, widths, size_of, longest_record, longest_permitted, most_numbers}
-use Rattle.record_layouts.specs.LayoutLaws.{every, every-at, count-in, items-count, width-at, widths-append, length-widths, rules-front, rules-long, rule-head, bits_most_lem, permitted-most, numbers-most}
+use Rattle.record_layouts.specs.LayoutLaws.{every, every-at, count-in, items-count, width-at, widths-append, length-widths, rules-front, rules-long, rule-head, bits-most, permitted-most, numbers-most}
 use Rattle.record_layouts.specs.Questions.{kind_of, head_numbers, rules_of, numbers_of, rules_by, is_kind, is_whole, permits, permitted, rises, ids_rise, row, consumed}
 
 drop-zeros : (n m : ℕ) → ◌≡◌ {A = List ℕ} (drop n (replicate m 0)) (replicate (m - n) 0)
@@ -144,7 +144,7 @@ counts-permitted k vs e i l = rw (items-count k vs i l) (permitted-at (head k) v
 -- so a record's bytes are no more than the longest's, and a permitted head makes for few enough numbers
 pub few_bits : (bytes : List ℕ) → total (widths (rules_of bytes)) ≤ 8 * longest_record
 unfolding rules_of head_numbers
-few_bits bytes = bits_most_lem (kind_of bytes) _ (counts-written bytes (kind_of bytes))
+few_bits bytes = bits-most (kind_of bytes) _ (counts-written bytes (kind_of bytes))
 
 pub permitted-bits : (k : ℕ) (vs : List ℕ) → permitted (head k) vs ≡ true → total (widths (rules_for k vs)) ≤ 8 * longest_permitted
 permitted-bits k vs e = permitted-most k vs (counts-permitted k vs e)

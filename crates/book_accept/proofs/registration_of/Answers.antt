@@ -1,6 +1,5 @@
 -- `book_accept::registration_of` meets its contract.
 use mathlib.Core.Path.{sym}
-use borrow.Author.Rules.{rules}
 use Rattle.book_accept.proofs.registration_of.Goals as goal
 
 pub returns : goal.returns

@@ -16,7 +16,6 @@ use Rattle.record_layouts.specs.PartLaws.{table-long, rules-few}
 use Rattle.record_unpack.specs.Reading.{head-split, head-rest, head-row, behind-is}
 use native.Mathlib.Omega.{arith}
 use Rattle.record_unpack.proofs.read_head.Goals as goal
-use Rattle.record_unpack.proofs.read_head.Goals.{After-slice_known-2-1}
 
 -- the part of the table behind the kind
 behind-at : {ws : List ℕ} {k : ℕ} {p : Part} → ws ≡ widths rules → Placed k 0 p → is_kind k ≡ true
@@ -38,24 +37,28 @@ read_fields-requires c =
       ws_in_bounds = rw (behind, length-set) (omega (arith, rest.2, ap length p.values_value, length-replicate {A = ℕ} most_numbers 0));
     }
 
-row_at : (c : After-slice_known-2-1) → let s = c in c.read_fields.new.out ≡ row (fields_at s.args.bytes.now 0 (widths (head s.args.kind.value)))
-row_at c =
-    let s = c in
-    let p = s.requires in
-    rw (behind-at p.ws_value c.part_at-part.ensures p.value_value_2, p.at_value) at c.read_fields.ensures.out_after ∙ head-row s.args.kind.value p.value_value_2 s.args.bytes.now p.value_value p.values_value
-
 pub shape_of-values : goal.shape_of-values
 shape_of-values c =
     let k = c.args.kind.value in
     let ws = widths (head k) in
     let bytes = c.args.bytes.now in
+    let p = c.requires in
+    let all : c.read_fields.new.out ≡ row (fields_at bytes 0 ws) =
+    rw (behind-at p.ws_value c.part_at-part.ensures p.value_value_2, p.at_value) at c.read_fields.ensures.out_after ∙ head-row k p.value_value_2 bytes p.value_value p.values_value in
     let few = length-row (fields_at bytes 0 ws) (omega (arith, length_fields bytes 0 ws, length-widths (head k), head_small k)) in
-    omega (arith, ap length (row_at c), few, ap length c.requires.values_value, length-replicate {A = ℕ} most_numbers 0)
+    omega (arith, ap length all, few, ap length c.requires.values_value, length-replicate {A = ℕ} most_numbers 0)
 
 pub returns : goal.returns
 returns c =
     let p = c.requires in
-    let t = rw (behind-at p.ws_value c.part_at-part.ensures p.value_value_2) at c.read_fields.ensures.at_value in record { at_value_2 = omega (arith, t, p.at_value, (head-split c.args.kind.value p.value_value_2).1); values_after = row_at c }
+    let k = c.args.kind.value in
+    let bytes = c.args.bytes.now in
+    let behind = behind-at p.ws_value c.part_at-part.ensures p.value_value_2 in
+    let t = rw behind at c.read_fields.ensures.at_value in
+    record {
+      at_value_2 = omega (arith, t, p.at_value, (head-split k p.value_value_2).1);
+      values_after = rw (behind, p.at_value) at c.read_fields.ensures.out_after ∙ head-row k p.value_value_2 bytes p.value_value p.values_value;
+    }
 
 pub part_at-part-requires : goal.part_at-part-requires
 part_at-part-requires c = record { kind_in_bounds = kind-in _ c.requires.value_value_2; i_in_bounds = omega arith }

@@ -14,7 +14,7 @@ use Rattle.record_layouts.specs.ListLaws.{length-list, total-list}
 use Rattle.record_unpack.specs.Reading.{row-start, row-stated, row-items, take-fits, take_count, take-room, take_row, row-all, all_are, head_few, whole-size}
 use native.Mathlib.Omega.{arith}
 use Rattle.record_unpack.proofs.read_lists.Goals as goal
-use Rattle.record_unpack.proofs.read_lists.Goals.{After-loop-i, After-struct_known-1}
+use Rattle.record_unpack.proofs.read_lists.Goals.{After-loop-i}
 
 pub loop-i-init : goal.loop-i-init
 unfolding rules_to
@@ -43,24 +43,17 @@ read_items-d-requires c =
       ws_in_bounds = rw (s.requires.ws_value, h.fields (λ r. r.width), h.items, row-items w l.i l.invariant.3 l.i) (take-room w l.i l.invariant.3 few whole inside l.invariant.1);
     }
 
--- what list i has
-inside-at : (c : After-struct_known-1) → c.loop-i.i < length (lists c.args.kind)
-inside-at c = omega (arith, c.lists_of-n.ensures, c.loop-i-test.true)
-
-items_at : (c : After-struct_known-1) → c.list_at-list.result.items ≡ items_in c.args.kind (head_numbers c.args.bytes.now) c.loop-i.i
-items_at c = let l = c.loop-i in c.list_at-list.ensures.items ∙ row-items c.requires.known l.i l.invariant.3 l.i
-
-numbers-at : (c : After-struct_known-1) → let k = c.args.kind in let i = c.loop-i.i in
-    c.list_at-list.result.numbers ≡ items_in k (head_numbers c.args.bytes.now) i * length (list_at k i).fields
-numbers-at c =
-    let l = c.loop-i in
-    c.list_at-list.ensures.numbers ∙ ap (λ (x : ℕ). x * length (list_at c.args.kind l.i).fields) (row-items c.requires.known l.i l.invariant.3 l.i)
+-- as many numbers as the items that the row states, times the fields of each
+product-by : {m x y : ℕ} (n : ℕ) → m ≡ x * n → x ≡ y → m ≡ y * n
+product-by n e f = e ∙ ap (λ (z : ℕ). z * n) f
 
 pub overflow_add-p : goal.overflow_add-p
 overflow_add-p c =
     let s = c in
     let l = c.loop-i in
-    omega (arith, l.invariant.1, numbers-at c, take_count s.requires.known l.i l.invariant.3 s.requires.bytes_len_bound (whole-size s.args.bytes.now s.requires.bytes_value) (inside-at c))
+    let inside : l.i < length (lists s.args.kind) = omega (arith, c.lists_of-n.ensures, c.loop-i-test.true) in
+    let numbers = product-by _ c.list_at-list.ensures.numbers (row-items s.requires.known l.i l.invariant.3 l.i) in
+    omega (arith, l.invariant.1, numbers, take_count s.requires.known l.i l.invariant.3 s.requires.bytes_len_bound (whole-size s.args.bytes.now s.requires.bytes_value) inside)
 
 pub loop-i-preserved : goal.loop-i-preserved
 loop-i-preserved c =
@@ -69,11 +62,13 @@ loop-i-preserved c =
     let w = s.requires.known in
     let bytes = s.args.bytes.now in
     let l = c.loop-i in
-    let inside = inside-at c in
+    let inside : l.i < length (lists k) = omega (arith, c.lists_of-n.ensures, c.loop-i-test.true) in
+    let same = row-items w l.i l.invariant.3 l.i in
+    let numbers = product-by _ c.list_at-list.ensures.numbers same in
     let ws = widths (list_at k l.i).fields in
-    let t = rw (s.requires.ws_value, c.list_at-list.ensures.fields (λ r. r.width), items_at c) at c.read_items-d.ensures in (
+    let t = rw (s.requires.ws_value, c.list_at-list.ensures.fields (λ r. r.width), c.list_at-list.ensures.items ∙ same) at c.read_items-d.ensures in (
       omega (arith, inside),
-      omega (arith, l.invariant.1, numbers-at c, length-list k (head_numbers bytes) l.i),
+      omega (arith, l.invariant.1, numbers, length-list k (head_numbers bytes) l.i),
       omega (arith, t.at_value, l.invariant.2, total-list k (head_numbers bytes) l.i, total-times ws (items_in k (head_numbers bytes) l.i)),
       take_row w l.i l.invariant.3 s.requires.bytes_len_bound (whole-size bytes s.requires.bytes_value) inside l.invariant.1 l.invariant.2 t.out_after,
     )

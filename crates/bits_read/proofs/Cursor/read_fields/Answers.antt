@@ -32,9 +32,6 @@ bounds-ws-i c =
     let l = c.loop-c in
     inside _ l.i _ _ _ l.invariant.0 l.invariant.1 s.requires.bits_value c.loop-c-test.true
 
-pub overflow_cast-w : goal.overflow_cast-w
-overflow_cast-w c = omega (arith, c.shared_slice_known-in-loop-c-1.given c.loop-c.i)
-
 pub cut-f-requires : goal.cut-f-requires
 cut-f-requires c =
     let s = c in

@@ -9,7 +9,7 @@ pub returns : goal.returns
 returns c =
     let xs = c.args.bytes.now in
     let i = c.args.i in
-    let b : (k : ℕ) → get_or xs k 0 < 2 ^ 8 = λ k. (c.shared_slice_known-1.given k).fits in
+    let b : (k : ℕ) → get_or xs k 0 < 2 ^ 8 = λ k. (c.type_inv.bytes k).fits in
     rw (
       c.wide.ensures,
       c.wide-2.ensures,

@@ -16,7 +16,7 @@ pub loop-i-preserved : goal.loop-i-preserved
 loop-i-preserved c =
     let a = c.args in
     let l = c.loop-i in
-    (omega arith, omega arith, rw c.wide.ensures (gather a.bytes.now a.first l.i l.acc (omega arith) (omega arith) (c.shared_slice_known-in-loop-i-1.given l.i).fits l.invariant.2))
+    (omega arith, omega arith, rw c.wide.ensures (gather a.bytes.now a.first l.i l.acc (omega arith) (omega arith) (c.type_inv.bytes l.i).fits l.invariant.2))
 
 pub returns : goal.returns
 returns c =

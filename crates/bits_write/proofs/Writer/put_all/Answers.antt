@@ -13,9 +13,6 @@ pub loop-i-init : goal.loop-i-init
 unfolding joined
 loop-i-init c = (omega arith, written_none _ _ c.requires.ready)
 
-pub overflow_cast-w : goal.overflow_cast-w
-overflow_cast-w c = omega (arith, c.shared_slice_known-in-loop-i-1.given c.loop-i.i)
-
 pub put-p-requires : goal.put-p-requires
 put-p-requires c =
     let s = c in

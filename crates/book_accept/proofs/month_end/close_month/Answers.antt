@@ -1,16 +1,10 @@
 -- `book_accept::month_end::close_month` meets its contract: what is billed are the amounts to date. Assumes nothing.
 use mathlib.Core.Path.{ap}
-use borrow.Author.Rules.{rules}
 use native.Mathlib.Omega.{arith}
 use Rattle.year.specs.declared.Terms.{Terms}
 use Rattle.year.specs.Sound.{SoundTerms, SoundAmounts}
 use Rattle.owed_laws.specs.Limits.{limits}
 use Rattle.owed_laws.specs.Totals.{sound-amounts}
-use Rattle.settle_closing.proofs.amounts_of.Reads as amounts-of-reads
-use Rattle.year_copies.proofs.terms_of.Reads as terms-of-reads
-use Rattle.year_copies.proofs.billed_of.Reads as billed-of-reads
-use Rattle.statement.proofs.write_statement.Reads as write-statement-reads
-use Rattle.year_steps.proofs.add_close.Reads as add-close-reads
 use Rattle.book_accept.proofs.month_end.close_month.Goals as goal
 use Rattle.book_accept.proofs.month_end.close_month.Goals.{After-billed_of-billed}
 
@@ -22,31 +16,30 @@ record AtHand (b : After-billed_of-billed) : Type 0 where
 
 at-hand : (b : After-billed_of-billed) → AtHand b
 at-hand b =
-    let start = b in
-    let s = start.requires.valid_cells.sound in
+    let s = b.requires.valid_cells.sound in
     record {
       terms = rw b.terms_of-terms.ensures s.terms;
-      owed = rw b.amounts_of-owed.ensures (sound-amounts (limits s) start.args.month);
+      owed = rw b.amounts_of-owed.ensures (sound-amounts (limits s) b.args.month);
       billed = rw b.billed_of-billed.ensures s.billed;
     }
 
 pub amounts_of-owed-requires : goal.amounts_of-owed-requires
-amounts_of-owed-requires c = let start = c in (start.requires.valid_cells, ap (λ (t : Terms). t.registrations) c.terms_of-terms.ensures, omega arith, omega arith)
+amounts_of-owed-requires c = (c.requires.valid_cells, ap (λ (t : Terms). t.registrations) c.terms_of-terms.ensures, omega arith, omega arith)
 
 pub write_statement-written-requires : goal.write_statement-written-requires
 write_statement-written-requires c =
-    let start = c in
-    let h = at-hand (goal.at.write_statement-written-requires c).After-billed_of-billed in record { sound_terms = h.terms; month_le_close_limit = omega (arith, start.requires); sound_amounts = search (h.owed, h.billed); sound_amounts_2 = h.billed; statement_limit_in_bounds = start.requires.statement_limit_in_bounds }
+    let h = at-hand (goal.at.write_statement-written-requires c).After-billed_of-billed in
+    record { sound_terms = h.terms; month_le_close_limit = omega (arith, c.requires); sound_amounts = h.owed; sound_amounts_2 = h.billed; statement_limit_in_bounds = c.requires.statement_limit_in_bounds }
 
 pub add_close-requires : goal.add_close-requires
 add_close-requires c =
-    let start = c in
-    let h = at-hand (goal.at.add_close-requires c).After-billed_of-billed in record { valid_cells = start.requires.valid_cells; year_bound = start.requires.year_bound; sound_amounts = search (h.owed, h.billed) }
+    let h = at-hand (goal.at.add_close-requires c).After-billed_of-billed in
+    record { valid_cells = c.requires.valid_cells; year_bound = c.requires.year_bound; sound_amounts = h.owed }
 
 pub returns : goal.returns
 returns c =
-    let b = c in
-    let terms = b.terms_of-terms.ensures in
-    let owed = b.amounts_of-owed.ensures in
+    let terms = c.terms_of-terms.ensures in
+    let owed = c.amounts_of-owed.ensures in
     let closed = c.add_close.ensures in
-    let written = c.write_statement-written.ensures in record { equals = rw owed at closed.equals; valid = closed.valid; leaves = rw (owed, terms, b.billed_of-billed.ensures) at written.leaves; writes = rw (owed, terms, b.billed_of-billed.ensures) at written.writes }
+    let written = c.write_statement-written.ensures in
+    record { equals = rw owed at closed.equals; valid = closed.valid; leaves = rw (owed, terms, c.billed_of-billed.ensures) at written.leaves; writes = rw (owed, terms, c.billed_of-billed.ensures) at written.writes }
