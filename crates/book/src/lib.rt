@@ -30,7 +30,7 @@ pub fn new_book() -> Cells
 // Takes a record. The buffer is for a close's statement: 354 bytes are enough.
 pub fn post(year: &mut Cells, bytes: &[u8], buffer: &mut [u8]) -> Posted
     requires { ValidCells year.old }
-    ensures posts { Takes year bytes buffer result }
+    ensures posts { Takes year bytes.now buffer result }
     ensures refused { (result.number ≡ 0 → ⊥) → year.new ≡ year.old }
     ensures valid { ValidCells year.new }
 {
