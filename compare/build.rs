@@ -16,12 +16,12 @@ fn main() {
 
 fn link_present() {
     let package = PathBuf::from(env::var_os("CARGO_MANIFEST_DIR").expect("cargo sets it"));
-    let folder = package.join("../target/staticlib");
+    let folder = package.join("../crates/piermint/out");
     let library = folder.join("libpiermint.a");
     println!("cargo::rerun-if-changed={}", library.display());
     if !library.is_file() {
         println!(
-            "cargo::error=target/staticlib/libpiermint.a is missing; run `rt staticlib piermint`"
+            "cargo::error=crates/piermint/out/libpiermint.a is missing; run `rt lib` in crates/piermint"
         );
     }
     println!("cargo::rustc-link-search=native={}", folder.display());

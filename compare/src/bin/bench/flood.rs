@@ -56,7 +56,7 @@ impl Flood {
         fs::write(work.records(), self.records())?;
         let bill = self.bill();
         let rust = std::env::current_exe()?.with_file_name("bill");
-        let rattle = Path::new(env!("CARGO_MANIFEST_DIR")).join("../target/bin/bill");
+        let rattle = Path::new(env!("CARGO_MANIFEST_DIR")).join("../crates/bill/out/bill");
         let mut best = Times::slowest();
         for _ in 0..ROUNDS {
             for (program, best) in [&rust, &rattle].into_iter().zip(&mut best.sides) {
