@@ -53,7 +53,7 @@ unfolding run answered gather
 had-run {rs = rs} h [] = rw (append-nil rs) h
 had-run {y} {rs} h (c ∷ cs) =
     let new = record_from (shown y c) in
-    rw (append_assoc rs new (accepted_in (answers (step y c) cs))) at (had-run (had-step h c) cs)
+    rw (append_assoc rs new (accepted_in (answers (step y c) cs))) at (had-run {y = step y c} (had-step h c) cs)
 
 pub had-retest : (cs : List Call) (p s : ℕ) → let rs = accepted_in (answers new_year cs) in had_retest (facts_of (recorded rs)) p s ≡ any_retest p s rs
 unfolding gather
