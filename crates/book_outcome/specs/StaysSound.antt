@@ -1,11 +1,11 @@
 -- Every call leaves a sound year sound.
-use Rattle.std.specs.Prelude.{ℕ, ◌+◌, ◌*◌, ◌<◌, Bool, not, ◌&&◌, ◌||◌, cond, List}
+use Rattle.std.specs.Prelude.{ℕ, ◌<◌, Bool, not, ◌&&◌, ◌||◌, cond, List}
 use Rattle.std.proofs.Math.Bool.{true, false}
 use Rattle.std.proofs.Math.Path.{◌≡◌, refl, subst}
 use Rattle.std.proofs.Common.{ap, ◌∙◌, arith, eqb-true}
 use Rattle.std.proofs.Math.Dec.{eqb}
 use Rattle.ids.specs.Tests.{and_parts, all-at}
-use Rattle.limits.specs.Limits.{registrations, test_groups}
+use Rattle.limits.specs.Limits.{registrations}
 use Rattle.record_layouts.specs.Questions.{first_failed, numbers_of, row}
 use Rattle.year.specs.declared.Listing.{Listing}
 use Rattle.year.specs.declared.Terms.{Terms}
