@@ -34,8 +34,8 @@ pub fn step(
 ) -> Answered
     requires valid_cells { ValidCells year.old }
     requires ready { Ready course bytes.now statement.old out.old }
-    ensures posts { Takes year bytes statement result.posted }
-    ensures prints { Prints year bytes statement out course result.next }
+    ensures posts { Takes year bytes.now statement result.posted }
+    ensures prints { Prints year bytes.now statement out course result.next }
     ensures counts { result.next.position ≡ course.position + 1 }
     ensures valid { ValidCells year.new }
 {

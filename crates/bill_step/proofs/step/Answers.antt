@@ -1,13 +1,14 @@
--- `bill_step::step` meets its contract: the kind is the first byte's high half, and what is printed is of the number and the buffer that the call leaves. Assumes nothing.
-use borrow.Author.Rules.{rules}
-use mathlib.Core.Path.{refl}
+-- The kind is the first byte's high half, and what is printed is of the number and the buffer that the call leaves.
+use Rattle.std.proofs.Common.{refl}
 use Rattle.bill_step.specs.AnswerLaws.{printed}
-use Rattle.book.proofs.post.Reads as post-reads
-use Rattle.text_bill.proofs.answer_lines.Reads as answer-lines-reads
 use Rattle.bill_step.proofs.step.Goals as goal
 
 pub returns : goal.returns
 returns c =
-    let l = c in
-    let p = l in
-    let posts = p.post.ensures.0 in record { posts = posts; prints = printed _ (p.shared_slice_known-2-1.given 0).fits posts l.answer_lines-at.ensures; counts = refl; valid = p.post.ensures.1.1 }
+    let p = c.post-posted.ensures in
+    record {
+      posts = p.posts;
+      prints = printed c.args.course.position (c.type_inv.bytes 0).fits p.posts c.answer_lines-at.ensures;
+      counts = refl;
+      valid = p.valid;
+    }

@@ -1,9 +1,7 @@
 -- The cells hold a sound year and the window stays within the buffer, from line to line.
 use mathlib.Core.Path.{◌≡◌}
 use Prim.Native.Nat.{◌-◌, ◌^◌, ◌≤◌}
-use native.Mathlib.Omega.{arith}
 use lib.ListN.{length}
-use borrow.Author.Rules.{rules}
 use Rattle.year_cells.specs.Layout.{ValidCells}
 use Rattle.cases.proofs.cases.Given as goal
 

@@ -1,7 +1,6 @@
 -- A field of 32 bits is a pattern.
 use Prim.Native.Nat.{◌^◌, ◌<◌}
 use native.Mathlib.Omega.{arith}
-use borrow.Author.Rules.{rules}
 use Rattle.bits.specs.BitLaws.{field_lt}
 use Rattle.cases.proofs.value_of.Goals as goal
 
