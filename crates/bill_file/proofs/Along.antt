@@ -13,7 +13,7 @@ use Rattle.record_file.specs.Walk.{ends, records_to}
 use Rattle.record_file.specs.WalkLaws.{records-none, records-first}
 use Rattle.book_recorded.specs.Recorded.{gather}
 use Rattle.claim_history.specs.Runs.{Call, statements}
-use Rattle.claim_history.specs.Taking.{call_number, step, answered, answers}
+use Rattle.claim_history.specs.Taking.{call_number, step, answered}
 use Rattle.claim_history.specs.Files.{calls_of, numbers, joined}
 use Rattle.claim_history.proofs.FileLaws.{ends-post, joined-first}
 use Rattle.bill_file.specs.Billed.{Bill, statement, behind, consumed_by, billed, Leaves}

@@ -52,9 +52,9 @@ abbrev pub Bills : List ℕ → List ℕ → List ℕ → ℕ → ℕ → ℕ �
 Bills file numbers statements = Leaves (billed new_year (calls (length numbers) file statements)) numbers statements
 
 -- a file billed, by what is lent: its totals, and the two buffers
-abbrev pub FileLeaves : Lent (List ℕ) → Lent (List ℕ) → Lent (List ℕ) → Totals → Type 0
+abbrev pub FileLeaves : List ℕ → Lent (List ℕ) → Lent (List ℕ) → Totals → Type 0
 FileLeaves records numbers statements r =
-    Bills records.entry.now numbers.entry.now statements.entry.now r.answered r.used r.written numbers.exit.now statements.exit.now
+    Bills records numbers.entry.now statements.entry.now r.answered r.used r.written numbers.exit.now statements.exit.now
 
 -- demand 3 of a file that is billed
 pub bill-demand3 : (file : List ℕ) (n : ℕ) (buffer : List ℕ) → Demand3 (answers new_year) (calls n file buffer)

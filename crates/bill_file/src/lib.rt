@@ -13,7 +13,7 @@ pub struct Totals {
 
 // Bills a record file from a new book: up to its end, an answer that ends it, or the end of the numbers.
 pub fn bill(records: &[u8], numbers: &mut [u64], statements: &mut [u8]) -> Totals
-    ensures { FileLeaves records numbers statements result }
+    ensures { FileLeaves records.now numbers statements result }
 {
     let mut year = book::new_book();
     let mut answered: usize = 0;

@@ -22,7 +22,7 @@ pub extern "C" fn piermint_read(
     count: &mut usize,
     used: &mut usize,
 ) -> u64
-    ensures { ReadLeaves bytes numbers result count used }
+    ensures { ReadLeaves bytes.now numbers result count used }
 {
     let read = record_read::read(bytes, numbers);
     *count = read.count;
@@ -33,7 +33,7 @@ pub extern "C" fn piermint_read(
 // Writes a record: its bytes go into the front of a lent buffer, and how many they are goes out. Answers as a read does.
 #[unsafe(no_mangle)]
 pub extern "C" fn piermint_write(numbers: &[u64], bytes: &mut [u8], used: &mut usize) -> u64
-    ensures { WriteLeaves numbers bytes result used }
+    ensures { WriteLeaves numbers.now bytes result used }
 {
     let wrote = record_write::write(numbers, bytes);
     *used = wrote.used;
@@ -60,7 +60,7 @@ pub extern "C" fn piermint_post(
     written: &mut usize,
 ) -> u64
     requires { ValidCells cells.old }
-    ensures posts { PostLeaves cells bytes buffer result used written }
+    ensures posts { PostLeaves cells bytes.now buffer result used written }
     ensures refused { (result ≡ 0 → ⊥) → cells.new ≡ cells.old }
     ensures valid { ValidCells cells.new }
 {
@@ -80,7 +80,7 @@ pub extern "C" fn piermint_bill(
     used: &mut usize,
     written: &mut usize,
 ) -> usize
-    ensures { BillLeaves records numbers statements result used written }
+    ensures { BillLeaves records.now numbers statements result used written }
 {
     let totals = bill_file::bill(records, numbers, statements);
     *used = totals.used;

@@ -1,6 +1,5 @@
 -- The answer to the value of the pattern.
 use mathlib.Core.Path.{◌≡◌}
-use borrow.Author.Rules.{rules}
 use lib.Ieee.{binary32, of_bits}
 use Rattle.piermint.proofs.piermint_direct_reduction.Goals as goal
 

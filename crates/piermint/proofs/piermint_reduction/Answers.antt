@@ -1,6 +1,5 @@
 -- The answer to the values of the two patterns.
 use mathlib.Core.Path.{◌≡◌}
-use borrow.Author.Rules.{rules}
 use lib.Ieee.{binary32, of_bits}
 use Rattle.piermint.proofs.piermint_reduction.Goals as goal
 
