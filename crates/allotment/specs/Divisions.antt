@@ -17,7 +17,7 @@ divisions-some parties {W} o = ap (λ b. cond b 0 parties) (ne_eqb W 0 o)
 -- one party more
 pub divisions-step : (parties W : ℕ) → divisions (parties + 1) W ≡ divisions parties W + divisions 1 W
 unfolding divisions
-divisions-step parties W = go (eqb W 0)
+divisions-step parties W = omega (arith, go (eqb W 0))
   where
     go : (b : Bool) → cond b 0 (parties + 1) ≡ cond b 0 parties + cond b 0 1
     go true = refl
@@ -25,7 +25,7 @@ divisions-step parties W = go (eqb W 0)
 
 pub divisions-le : (parties W : ℕ) → divisions parties W ≤ parties
 unfolding divisions
-divisions-le parties W = go (eqb W 0)
+divisions-le parties W = omega (arith, go (eqb W 0))
   where
     go : (b : Bool) → cond b 0 parties ≤ parties
     go true = omega arith

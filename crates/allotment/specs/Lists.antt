@@ -2,7 +2,7 @@
 use Rattle.std.specs.Prelude.{ℕ, zero, suc, ◌+◌, ◌*◌, ◌-◌, ◌/◌, Bool, ◌≡◌, length}
 use Rattle.std.proofs.Math.Bool.{true, false, cond}
 use mathlib.Core.List.{List, [], ◌∷◌, map}
-use Rattle.std.proofs.Math.Path.{refl, ap}
+use Rattle.std.proofs.Math.Path.{refl}
 use Rattle.std.proofs.Common.{sym, add-zero, zero-add, add_assoc}
 use native.Mathlib.Omega.{arith}
 use Rattle.std.proofs.Math.Nat.{sub_self}
@@ -31,21 +31,31 @@ unfolding sum sum_to
 sum-places [] = refl
 sum-places (x ∷ xs) = omega (arith, sum-places xs, sum-cons x xs (length xs))
 
+-- what goes along a list of weights by running sum, whatever it is
+record Running (a W : ℕ) (f : ℕ → List ℕ → List ℕ) : Type 0 where
+  none : (s : ℕ) → f s [] ≡ []
+  more : (s x : ℕ) (xs : List ℕ) → f s (x ∷ xs) ≡ (a * (s + x) / W - a * s / W) ∷ f (s + x) xs
+
+running_at : {a W : ℕ} {f : ℕ → List ℕ → List ℕ} → Running a W f → (ws : List ℕ) (s i : ℕ)
+    → at (f s ws) i ≡ a * (s + sum_to (suc i) (at ws)) / W - a * (s + sum_to i (at ws)) / W
+unfolding sum_to
+running_at {a} {W} r [] s i = rw (r.none s) (sym (rw (add-zero (sum_to i (at []))) (sub_self (a * (s + sum_to i (at [])) / W))))
+running_at r (x ∷ xs) s zero = rw (r.more s x xs, zero-add x, add-zero s)
+running_at r (x ∷ xs) s (suc i) =
+    rw (r.more s x xs, sum-cons x xs (suc i), sum-cons x xs i, ← add_assoc s x (sum_to (suc i) (at xs)), ← add_assoc s x (sum_to i (at xs)))
+    (running_at r xs (s + x) i)
+
 shares_at : (a W : ℕ) (ws : List ℕ) (s i : ℕ)
     → at (shares a W s ws) i ≡ a * (s + sum_to (suc i) (at ws)) / W - a * (s + sum_to i (at ws)) / W
-unfolding shares sum_to
-shares_at a W [] s i = sym (rw (add-zero (sum_to i (at []))) (sub_self (a * (s + sum_to i (at [])) / W)))
-shares_at a W (x ∷ xs) s zero = rw (zero-add x, add-zero s)
-shares_at a W (x ∷ xs) s (suc i) =
-    rw (sum-cons x xs (suc i), sum-cons x xs i, ← add_assoc s x (sum_to (suc i) (at xs)), ← add_assoc s x (sum_to i (at xs)))
-    (shares_at a W xs (s + x) i)
+unfolding shares
+shares_at a W = running_at {f = shares a W} (record { none = λ s. refl; more = λ s x xs. refl })
 
 -- each share along the list is the share by place
 pub allot-at : (a : ℕ) (ws : List ℕ) (i : ℕ) → at (allot a ws) i ≡ share (length ws) (at ws) a i
-unfolding allot share
+unfolding allot shares share
 allot-at a ws i =
-    rw (← (sum-places ws))
-    (rw (zero-add (sum_to (suc i) (at ws)), zero-add (sum_to i (at ws))) at (shares_at a (sum ws) ws 0 i))
+    let each = running_at {f = shares a (sum ws)} (record { none = λ s. refl; more = λ s x xs. refl }) ws 0 i in
+    rw (← (sum-places ws)) (rw (zero-add (sum_to (suc i) (at ws)), zero-add (sum_to i (at ws))) at each)
 
 -- parties of any type, of which p picks some
 module _ {E : Type 0} (p : E → Bool) where
@@ -73,17 +83,22 @@ module _ {E : Type 0} (p : E → Bool) (w : E → ℕ) where
       go true h = omega arith
       go false h = omega arith
 
-  filter-shares : (a W : ℕ) (es : List E) (s : ℕ) → shares a W s (map w (filter p es)) ≡ beside p es (shares a W s (others0 es))
-  unfolding shares filter beside
-  filter-shares a W [] s = refl
-  filter-shares a W (x ∷ xs) s = go (p x) (filter-shares a W xs)
+  filter-running : {a W : ℕ} {f : ℕ → List ℕ → List ℕ} → Running a W f → (es : List E) (s : ℕ) → f s (map w (filter p es)) ≡ beside p es (f s (others0 es))
+  unfolding filter beside
+  filter-running r [] s = r.none s
+  filter-running {a} {W} {f} r (x ∷ xs) s = rw (r.more s (cond (p x) (w x) 0) (others0 xs)) (go (p x) (filter-running r xs))
     where
-      go : (b : Bool) → ((s : ℕ) → shares a W s (map w (filter p xs)) ≡ beside p xs (shares a W s (others0 xs)))
-          → shares a W s (map w (cond b (x ∷ filter p xs) (filter p xs)))
-          ≡ cond b ((a * (s + cond b (w x) 0) / W - a * s / W) ∷ beside p xs (shares a W (s + cond b (w x) 0) (others0 xs))) (beside p xs (shares a W (s + cond b (w x) 0) (others0 xs)))
-      go true h = ap (λ (r : List ℕ). (a * (s + w x) / W - a * s / W) ∷ r) (h (s + w x))
+      go : (b : Bool) → ((s : ℕ) → f s (map w (filter p xs)) ≡ beside p xs (f s (others0 xs)))
+          → f s (map w (cond b (x ∷ filter p xs) (filter p xs)))
+          ≡ cond b ((a * (s + cond b (w x) 0) / W - a * s / W) ∷ beside p xs (f (s + cond b (w x) 0) (others0 xs))) (beside p xs (f (s + cond b (w x) 0) (others0 xs)))
+      go true h = rw (r.more s (w x) (map w (filter p xs)), h (s + w x))
       go false h = rw (add-zero s) (h s)
 
+  filter-shares : (a W : ℕ) (es : List E) (s : ℕ) → shares a W s (map w (filter p es)) ≡ beside p es (shares a W s (others0 es))
+  unfolding shares
+  filter-shares a W = filter-running {f = shares a W} (record { none = λ s. refl; more = λ s x xs. refl })
+
   pub filter-allot : (a : ℕ) (es : List E) → allot a (map w (filter p es)) ≡ beside p es (allot a (others0 es))
-  unfolding allot
-  filter-allot a es = rw (filter-sum es) (filter-shares a (sum (others0 es)) es 0)
+  unfolding allot shares
+  filter-allot a es =
+      rw (filter-sum es) (filter-running {f = shares a (sum (others0 es))} (record { none = λ s. refl; more = λ s x xs. refl }) es 0)

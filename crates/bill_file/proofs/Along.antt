@@ -15,7 +15,7 @@ use Rattle.book_recorded.specs.Recorded.{gather}
 use Rattle.claim_history.specs.Runs.{Call, statements}
 use Rattle.claim_history.specs.Taking.{call_number, step, answered}
 use Rattle.claim_history.specs.Files.{calls_of, numbers, joined}
-use Rattle.claim_history.specs.FileLaws.{ends-post, joined-first}
+use Rattle.claim_history.proofs.FileLaws.{ends-post, joined-first}
 use Rattle.bill_file.specs.Billed.{Bill, statement, behind, consumed_by, billed, Leaves}
 use Rattle.bill_file.proofs.Front.{Front, front-none, set-over, front-more, front-all}
 

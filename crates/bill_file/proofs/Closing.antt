@@ -9,9 +9,9 @@ use Rattle.year.specs.Sound.{Sound}
 use Rattle.book_outcome.specs.Outcome.{buffer_after, written_after}
 use Rattle.claim_history.specs.Runs.{Call}
 use Rattle.claim_history.specs.Taking.{closes, buffered}
-use Rattle.claim_history.specs.Closes.{close-buffer, close-written, other-leaves}
+use Rattle.claim_history.proofs.Closes.{close-buffer, close-written, other-leaves}
 use Rattle.claim_history.specs.Files.{statement_in}
-use Rattle.claim_history.specs.FileLaws.{close-statement}
+use Rattle.claim_history.proofs.FileLaws.{close-statement}
 use Rattle.bill_file.specs.Billed.{statement}
 
 module _ (y : Year) (c : Call) (S : Sound y) where

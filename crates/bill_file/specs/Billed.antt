@@ -9,7 +9,7 @@ use Rattle.claim_history.specs.Runs.{Call, statements}
 use Rattle.claim_history.specs.Taking.{closes, buffered, answers}
 use Rattle.claim_history.specs.Claim.{Demand3}
 use Rattle.claim_history.specs.Files.{calls_of, numbers, statement_in, joined}
-use Rattle.claim_history.specs.Proof.{demand3}
+use Rattle.claim_history.proofs.Theorem.{demand3}
 use Rattle.book.specs.Takes.{Lent}
 use Rattle.bill_file.specs.declared.Totals.{Totals}
 

@@ -8,7 +8,7 @@ use Rattle.claim_history.specs.Runs.{Call}
 use Rattle.claim_history.specs.Taking.{call_number, buffered, step, answers}
 use Rattle.claim_history.specs.Claim.{Demand3}
 use Rattle.claim_history.specs.Files.{calls_of}
-use Rattle.claim_history.specs.Proof.{demand3}
+use Rattle.claim_history.proofs.Theorem.{demand3}
 use Rattle.text_bill.specs.Text.{answer_lines, room, statement_room}
 use Rattle.bill_step.specs.declared.Course.{Course}
 

@@ -12,7 +12,7 @@ use Rattle.record_file.specs.Window.{Alike, cut-alike, same_kind, same-consumed}
 use Rattle.claim_history.specs.Runs.{Call}
 use Rattle.claim_history.specs.Taking.{call_number, buffered, step}
 use Rattle.claim_history.specs.Files.{calls_of}
-use Rattle.claim_history.specs.FileLaws.{same_post, same-year, same-buffer, ends-post}
+use Rattle.claim_history.proofs.FileLaws.{same_post, same-year, same-buffer, ends-post}
 use Rattle.text_bill.specs.Text.{answer_lines}
 use Rattle.text.specs.Pasted.{Pasted}
 use Rattle.bill_step.specs.Answer.{answer_text, text_of}

@@ -1,11 +1,11 @@
 -- Every call leaves a sound year sound.
-use Rattle.std.specs.Prelude.{ℕ, ◌+◌, ◌*◌, ◌<◌, Bool, not, ◌&&◌, ◌||◌, cond, List}
+use Rattle.std.specs.Prelude.{ℕ, ◌<◌, Bool, not, ◌&&◌, ◌||◌, cond, List}
 use Rattle.std.proofs.Math.Bool.{true, false}
 use Rattle.std.proofs.Math.Path.{◌≡◌, refl, subst}
 use Rattle.std.proofs.Common.{ap, ◌∙◌, arith, eqb-true}
 use Rattle.std.proofs.Math.Dec.{eqb}
 use Rattle.ids.specs.Tests.{and_parts, all-at}
-use Rattle.limits.specs.Limits.{registrations, test_groups}
+use Rattle.limits.specs.Limits.{registrations}
 use Rattle.record_layouts.specs.Questions.{first_failed, numbers_of, row}
 use Rattle.year.specs.declared.Listing.{Listing}
 use Rattle.year.specs.declared.Terms.{Terms}
@@ -38,8 +38,8 @@ own-group : {T : Terms} → SoundTerms T → (l : Listing) (z p : ℕ) → every
 unfolding every_listed in_group
 own-group {T} s l z p e i m t =
     let here : in_group T z p i ≡ true = rw t at (all-at (size T) (λ j. not (listed l j) || in_group T z p j) e i (omega (arith, size_is s))) in
-    let test_groups = (and_parts (known T i) (eqb (zone T i) z && eqb (product T i) p) here).1 in
-    let both = and_parts (eqb (zone T i) z) (eqb (product T i) p) test_groups in
+    let group = (and_parts (known T i) (eqb (zone T i) z && eqb (product T i) p) here).1 in
+    let both = and_parts (eqb (zone T i) z) (eqb (product T i) p) group in
     omega (arith, eqb-true (zone T i) z both.0, eqb-true (product T i) p both.1)
 
 module _ {y : Year} (s : Sound y) where

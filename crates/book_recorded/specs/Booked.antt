@@ -1,5 +1,5 @@
 -- The year that the book keeps after a list of accepted records has just what they say.
-use Rattle.std.specs.Prelude.{ℕ, zero, suc, ◌-◌, ◌*◌, ◌<◌, Bool, true, false, cond, ◌≡◌, refl, length, get_or, replicate}
+use Rattle.std.specs.Prelude.{ℕ, zero, suc, ◌+◌, ◌-◌, ◌*◌, ◌<◌, Bool, true, false, cond, ◌≡◌, refl, eqb, length, get_or, replicate}
 use mathlib.Core.List.{List, [], ◌∷◌, ◌++◌, append_assoc, append-nil}
 use Rattle.std.proofs.Common.{sym}
 use Rattle.std.proofs.Math.Path.{fun_ext}
@@ -7,6 +7,7 @@ use Rattle.ids.specs.Ids.{tabulate}
 use Rattle.ids.specs.Sets.{get_or-replicate-same}
 use Rattle.limits.specs.Limits.{registrations, event_limit}
 use Rattle.year.specs.declared.Listing.{Listing}
+use Rattle.year.specs.declared.Clearings.{Clearings}
 use Rattle.year.specs.declared.Event.{Event}
 use Rattle.year.specs.declared.Amounts.{Amounts}
 use Rattle.year.specs.declared.Year.{Year}
@@ -69,16 +70,22 @@ facts-booked rs =
     let event = fun_ext (padded es (event_limit - length es)) in
     cc
 
+-- what f and g say of the clearings, summed, with one clearing more, if it is the registration's
+sums-more : (f g : ClearingHead → ℕ) (cs : List ClearingHead) (b : Bool) (c : ClearingHead)
+    → ◌≡◌ {A = Clearings} (let ds = cs ++ cond b (c ∷ []) [] in record { count = length ds; value = sum_over f ds; kw = sum_over g ds })
+    (cond b (record { count = length cs + 1; value = sum_over f cs + f c; kw = sum_over g cs + g c }) (record { count = length cs; value = sum_over f cs; kw = sum_over g cs }))
+sums-more f g cs true c = cc (length_more cs c, sum_more f cs c, sum_more g cs c)
+sums-more f g cs false c = rw (append-nil cs)
+
 -- one clearing more, if it is the registration's
 summed-more : (cs : List ClearingHead) (b : Bool) (c : ClearingHead) → summed (cs ++ cond b (c ∷ []) []) ≡ cond b (cleared_by (summed cs) c.price c.kw) (summed cs)
 unfolding summed
-summed-more cs true c = cc (length_more cs c, sum_more (λ c. c.price * c.kw) cs c, sum_more (λ c. c.kw) cs c)
-summed-more cs false c = rw (append-nil cs)
+summed-more = sums-more (λ c. c.price * c.kw) (λ c. c.kw)
 
 module _ (rs : List Record) (l : Listing) where
   pub booked-more : (h : Head) → ((e : EventHead) → h ≡ head.Event e → (booked rs).accepted < event_limit)
       → year_by (booked rs) l h ≡ booked (rs ++ record { head = h; listing = l } ∷ [])
-  unfolding year_by booked recorded terms_in clearings_in events_in tests_in retests_in
+  unfolding year_by booked recorded summed terms_in clearings_in events_in tests_in retests_in
   booked-more (head.Opening o) room = simp (gather-more, billed-more, append-nil, some_more, last_more)
   booked-more (head.Registration r) room = simp (gather-more, billed-more, append-nil, last-alone, set-table)
   booked-more (head.Lse j) room = simp (gather-more, billed-more, append-nil, last-alone, set-table)
@@ -87,8 +94,11 @@ module _ (rs : List Record) (l : Listing) where
   booked-more (head.Test t) room = simp (gather-more, billed-more, append-nil, some_more, last-alone, set-table)
   booked-more (head.Close c) room = simp (gather-more, billed-more, append-nil, some_more, last_more, facts-booked) (simp length_more)
   booked-more (head.Clearing c) room =
-      rw (set-changed registrations (λ i. summed (gather (clearing_for i) rs)) c.registration no_clearings (λ x. cleared_by x c.price c.kw))
-      (simp (gather-more, billed-more, append-nil, summed-more))
+      let cs : ℕ → List ClearingHead = λ i. gather (clearing_for i) rs in
+      let mine : ℕ → Bool = eqb c.registration in
+      let more : (i : ℕ) → summed (cs i ++ cond (mine i) (c ∷ []) []) ≡ cond (mine i) (cleared_by (summed (cs i)) c.price c.kw) (summed (cs i)) = λ i. sums-more (λ c. c.price * c.kw) (λ c. c.kw) (cs i) (mine i) c in
+      rw (set-changed registrations (λ i. summed (cs i)) c.registration no_clearings (λ x. cleared_by x c.price c.kw))
+      (simp (gather-more, billed-more, append-nil, more))
   booked-more (head.Retest t) room =
       rw (over-table registrations (λ i. last_or no_retest (gather (retest_for i) rs)) no_retest (listed l) (retest_by l))
       (simp (gather-more, billed-more, append-nil, last-alone))

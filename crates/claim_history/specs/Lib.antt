@@ -1,28 +1,8 @@
--- Demand 3: the claim, and its proof.
+-- Demand 3: the claim, and what it is made of.
 pub mod Runs
 pub mod Claim
 pub mod Taking
 pub mod Admitted
-pub mod YearFollowsRecords
-pub mod StepCases
-pub mod Columns
-pub mod ReadColumns
-pub mod Blank
-pub mod Billed
-pub mod StepInvariants
-pub mod Closes
-pub mod Telescope
-pub mod Balanced
-pub mod AtClose
-pub mod Answers
-pub mod Same
-pub mod Alike
-pub mod Blind
-pub mod OwnRetests
-pub mod Paired
-pub mod TwoRuns
-pub mod Independence
-pub mod Proof
 pub mod NotEmpty
+pub mod Columns
 pub mod Files
-pub mod FileLaws

@@ -7,7 +7,7 @@ use Rattle.ids.specs.Tables.{is-tabulate}
 use Rattle.limits.specs.Limits.{nominated_limit}
 use Rattle.record_layouts.specs.Layout.{size_of}
 use Rattle.record_numbers.specs.Reductions.{is_reduction, with_reductions}
-use Rattle.record_numbers.specs.Replaced.{writes}
+use Rattle.record_numbers.proofs.Replaced.{writes}
 use Rattle.record_layouts.specs.Questions.{numbers_of, rules_of, consumed}
 use Rattle.record_numbers.specs.Calls.{bytes_by}
 use Rattle.record_numbers.specs.Accepted.{not-failed}

@@ -1,3 +1,2 @@
 -- Question 20's "this seller's retest already", read off the accepted records.
 pub mod Retried
-pub mod HadRetest

@@ -1,5 +1,5 @@
 -- What an accepted record makes of 'has this seller had a retest of that zone and product', which question 20 reads off the registrations: it is so from its retest of that on.
-use Rattle.std.specs.Prelude.{ℕ, ◌*◌, ◌<◌, Bool, not, ◌&&◌, ◌||◌, ◌≡◌, ltb, get_or}
+use Rattle.std.specs.Prelude.{ℕ, ◌*◌, ◌<◌, Bool, not, ◌&&◌, ◌||◌, List, ◌≡◌, ltb, length, get_or}
 use Rattle.std.proofs.Math.Bool.{true, false, beq, cond, and-false, or-true, or-false}
 use Rattle.std.proofs.Math.Logic.{inl, inr}
 use Rattle.std.proofs.Math.Path.{refl, sym}
@@ -29,14 +29,15 @@ use Rattle.record_heads.specs.declared.Head.{Head}
 use Rattle.record_heads.specs.declared.Head.TheVariants as head
 use Rattle.record_heads.specs.declared.TestHead.{TestHead}
 use Rattle.record_heads.specs.declared.RetestHead.{RetestHead}
-use Rattle.record_heads.specs.Record.{for_retest}
+use Rattle.record_heads.specs.Record.{Record, for_retest}
 use Rattle.record_heads.specs.RecordLaws.{retest-or-not}
 use Rattle.question_conditions.specs.Entries.{lists_exactly}
 use Rattle.book_recorded.specs.After.{recorded_test, year_by}
+use Rattle.book_recorded.specs.Recorded.{gather, alone}
 use Rattle.question_list.specs.Questions.{month_begun, q20, q21}
 use Rattle.question_list.specs.Admitted.{Admitted, test-free, retest-started}
-use Rattle.claim_history.specs.StepInvariants.{StepInvariants, never}
-use Rattle.claim_history.specs.StepCases.{StepCases, terms, event, test, close, retest}
+use Rattle.claim_history.proofs.StepInvariants.{StepInvariants, never}
+use Rattle.claim_history.proofs.StepCases.{StepCases, terms, event, test, close, retest}
 
 -- is a retest seller s's in the zone and product of group p, and is a record such a retest
 abbrev is_at : ℕ → ℕ → RetestHead → Bool
@@ -44,6 +45,10 @@ is_at p s t = eqb (test_group t.zone t.product) p && eqb t.seller s
 
 abbrev pub is_retest_at : ℕ → ℕ → Head → Bool
 is_retest_at p s = for_retest (is_at p s) (λ h. false)
+
+-- is a retest of seller s's in the zone and product of group p among these
+abbrev pub any_retest : ℕ → ℕ → List Record → Bool
+any_retest p s rs = ltb 0 (length (gather (λ r. alone (is_retest_at p s r.head) r) rs))
 
 same_bool : (a b : Bool) → (a ≡ true → b ≡ true) → (b ≡ true → a ≡ true) → a ≡ b
 same_bool true b f g = sym (f refl)

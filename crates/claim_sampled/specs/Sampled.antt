@@ -5,7 +5,7 @@ use Rattle.ids.specs.Ids.{at}
 use Rattle.ids.specs.Tables.{tabulate-same}
 use Rattle.limits.specs.Limits.{nominated_limit}
 use Rattle.record_numbers.specs.Reductions.{is_reduction, with_reductions}
-use Rattle.record_numbers.specs.Replaced.{writes}
+use Rattle.record_numbers.proofs.Replaced.{writes}
 use Rattle.record_numbers.specs.Calls.{bytes_by, write_number}
 use Rattle.year.specs.Year.{new_year}
 use Rattle.claim_history.specs.Runs.{Call}

@@ -13,9 +13,9 @@ use Rattle.record_numbers.specs.Reductions.{reduces_in, is_reduction, with_reduc
 use Rattle.claim_history.specs.Runs.{Call, Answered, is_accepted, is_closing, accepted_in, Variant}
 use Rattle.claim_history.specs.Taking.{shown, answers, run}
 use Rattle.claim_history.specs.Claim.{AtClose}
-use Rattle.claim_history.specs.YearFollowsRecords.{answers-more}
+use Rattle.claim_history.proofs.YearFollowsRecords.{answers-more}
 use Rattle.claim_history.specs.NotEmpty.{chosen, variant-one}
-use Rattle.claim_history.specs.Proof.{demand3}
+use Rattle.claim_history.proofs.Theorem.{demand3}
 use Rattle.bill_step.specs.Answer.{calls as calls_in}
 use Rattle.claim_year_a.specs.YearA.{blank, parties, june_test, bill}
 use Rattle.claim_year_a_figures.specs.Figures.{with_third, test_of_three}

@@ -73,10 +73,12 @@ module _ (R : Listing → Listing → Type 0) (vs ws : List ℕ) (first : at ws 
 
 -- a record's numbers in a row make the same record
 pub record-row : (vs : List ℕ) → record_of (row vs) ≡ record_of vs
+unfolding head_of
 record-row vs =
     let same : (j : ℕ) → at (row vs) j ≡ at vs j = at_row vs in
+    let heads : head_of (row vs) ≡ head_of vs = rw (same 0, same 1, same 2, same 3, same 4, same 5, same 6, same 7) in
     cc (
-      same_head vs (row vs) (same 0) (λ j l. same j),
+      heads,
       listing-keeps (λ l n. n ≡ l) vs (row vs) (same 0) (λ j l. same j)
           (λ i m l h a b e. rw (e, fun_ext (λ f. same (item_at (at vs 0) vs i m + f)))) refl,
     )

@@ -207,14 +207,21 @@ pub bits-most : (k : ℕ) (vs : List ℕ) → ((i : ℕ) → i < length (lists k
     → total (widths (rules_for k vs)) ≤ 8 * longest_record
 bits-most = bits-within as_written longest-is
 
+-- nor does one have more numbers
+module _ (limit : Rule → ℕ) {n : ℕ} (e : highest (numbers_most limit) layouts ≡ n) (k : ℕ) (vs : List ℕ)
+    (h : (i : ℕ) → i < length (lists k) → items_in k vs i ≤ limit (get_or (head k) (list_at k i).count no_rule)) where
+  pub numbers-within : length (rules_for k vs) ≤ n
+  unfolding rules_for numbers_most most_to
+  numbers-within =
+      let here = size-to limit length refl length-append k vs h (length (lists k)) (omega arith) in
+      let all : numbers_most limit (layout_of k) ≤ n = rw e at (highest-at (numbers_most limit) layouts k refl) in
+      le_trans here all
+
 -- and none that is permitted is longer or has more numbers
 module _ (k : ℕ) (vs : List ℕ) (h : (i : ℕ) → i < length (lists k) → items_in k vs i ≤ as_permitted (get_or (head k) (list_at k i).count no_rule)) where
   pub permitted-most : total (widths (rules_for k vs)) ≤ 8 * longest_permitted
   permitted-most = bits-within as_permitted longest-permitted-is k vs h
 
   pub numbers-most : length (rules_for k vs) ≤ most_numbers
-  unfolding rules_for numbers_most most_to
-  numbers-most =
-      let here = size-to as_permitted length refl length-append k vs h (length (lists k)) (omega arith) in
-      let all : numbers_most as_permitted (layout_of k) ≤ most_numbers = rw most-numbers-is at (highest-at (numbers_most as_permitted) layouts k refl) in
-      le_trans here all
+  unfolding highest numbers_most most_to
+  numbers-most = numbers-within as_permitted refl k vs h

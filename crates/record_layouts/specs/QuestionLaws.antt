@@ -17,8 +17,8 @@ use Rattle.ids.specs.Tests.{and_parts, all_same, all-at}
 use Rattle.bits.specs.BitLaws.{field_lt, field_past}
 use Rattle.bits.specs.Table.{total, fields_at, laid}
 use Rattle.bits.specs.TableLaws.{fields-append, fields-at, length_fields}
-use Rattle.record_layouts.specs.Layout.{Rule, no_rule, Layout, bare, layouts, layout_of, head, lists, list_at, items_in, rules_to, rules_for, place_of, widths, size_of, longest_record, longest_permitted, most_numbers}
-use Rattle.record_layouts.specs.LayoutLaws.{every, every-at, count-in, items-count, width-at, widths-append, length-widths, rules-front, rules-long, rule-head, bits-most, permitted-most, numbers-most}
+use Rattle.record_layouts.specs.Layout.{Rule, no_rule, Layout, bare, layouts, layout_of, head, lists, list_at, items_in, rules_to, rules_for, place_of, widths, size_of, most_to, numbers_most, as_permitted, highest, longest_record, longest_permitted, most_numbers}
+use Rattle.record_layouts.specs.LayoutLaws.{every, every-at, count-in, items-count, width-at, widths-append, length-widths, rules-front, rules-long, rule-head, bits-most, permitted-most, numbers-within}
 use Rattle.record_layouts.specs.Questions.{kind_of, head_numbers, rules_of, numbers_of, rules_by, is_kind, is_whole, permits, permitted, rises, ids_rise, row, consumed}
 
 drop-zeros : (n m : ℕ) → ◌≡◌ {A = List ℕ} (drop n (replicate m 0)) (replicate (m - n) 0)
@@ -153,7 +153,8 @@ pub stated-bits : (k : ℕ) (vs : List ℕ) → permitted (head k) vs ≡ true �
 stated-bits k vs e = omega (arith, permitted-bits k vs e)
 
 pub few-numbers : (k : ℕ) (vs : List ℕ) → permitted (head k) vs ≡ true → length (rules_for k vs) ≤ most_numbers
-few-numbers k vs e = numbers-most k vs (counts-permitted k vs e)
+unfolding highest numbers_most most_to
+few-numbers k vs e = numbers-within as_permitted refl k vs (counts-permitted k vs e)
 
 -- the first of more numbers
 pub fields-front : (bytes : List ℕ) (rs more : List Rule) (j : ℕ) → j < length rs → at (fields_at bytes 0 (widths (rs ++ more))) j ≡ at (fields_at bytes 0 (widths rs)) j

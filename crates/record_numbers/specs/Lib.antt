@@ -5,4 +5,3 @@ pub mod RoundTrip
 pub mod Reductions
 pub mod Figures
 pub mod ReductionLaws
-pub mod Replaced

@@ -1,6 +1,6 @@
 -- What it is to be n eighths, which `counts` and `eighths_of` say by a test and a number. A fraction of n eighths is rounded to itself: so a value that counts times 8, and a number below 8 × 131,072
 -- divided by 8, are exact.
-use Rattle.std.specs.Prelude.{◌≡◌, ℕ, ◌+◌, ◌*◌, ◌/◌, ◌%◌, ◌^◌, ◌<◌, Bool, true, false, not, ◌&&◌, ◌||◌, pos, ◌==◌, nat_lt, refl, Float}
+use Rattle.std.specs.Prelude.{◌≡◌, ℕ, ◌+◌, ◌*◌, ◌/◌, ◌%◌, ◌^◌, ◌<◌, Bool, true, false, not, ◌&&◌, ◌||◌, ℤ, pos, ◌==◌, nat_lt, refl, Float}
 use Rattle.std.proofs.Common.{sym, ap, ◌∙◌, mul_assoc, mul_right_comm, mul-one, mul-pos, mul-div_cancel, div-add-mod', add-zero, zero-mul, lt_of_lt_of_le, arith, true≢false, lit<, lit≤, pow-add, pow_mono, shl_lt, eqb-true, ltb-true, eq-eqb, lt-ltb}
 use Rattle.std.proofs.Math.Nat.{mul-mod_left, eq_of_mul-eq-mul_right}
 use Rattle.std.specs.Bool.{beq}
@@ -106,18 +106,28 @@ eighths-is nan n p = absurd p
 eighths-is (inf s) n p = absurd p
 eighths-is (fin s m e) n p = ap (λ (a : ℕ). a / down e) p.0 ∙ mul-div_cancel n (down_pos e)
 
+-- what `counts` asks of a finite value of n eighths
+asked : (s : Bool) (m : ℕ) (e : ℤ) (n : ℕ) → Is (fin s m e) n → n < edge → ((m * up e * 8 % down e == 0) ≡ true) × ((plus s m ≡ true) × (nat_lt (m * up e * 8 / down e) edge ≡ true))
+asked s m e n p N =
+    let q : m * up e * 8 / down e ≡ n = ap (λ (z : ℕ). z / down e) p.0 ∙ mul-div_cancel n (down_pos e) in
+    let r : m * up e * 8 % down e ≡ 0 = ap (λ (z : ℕ). z % down e) p.0 ∙ mul-mod_left n (down e) in
+    (eq-eqb (m * up e * 8 % down e) 0 r, (plus-of s m (up e) n (down e) (up_pos e) p.0 p.1, lt-ltb (m * up e * 8 / down e) edge (omega (arith, q, N))))
+
 pub to-counts : (x : Float) (n : ℕ) → Is x n → n < edge → counts x ≡ true
 unfolding counts
 to-counts nan n p N = absurd p
 to-counts (inf s) n p N = absurd p
-to-counts (fin s m e) n p N =
-    let a = m * up e * 8 in
-    let q : a / down e ≡ n = ap (λ (z : ℕ). z / down e) p.0 ∙ mul-div_cancel n (down_pos e) in
-    let r : a % down e ≡ 0 = ap (λ (z : ℕ). z % down e) p.0 ∙ mul-mod_left n (down e) in
-    rw (eq-eqb (a % down e) 0 r, plus-of s m (up e) n (down e) (up_pos e) p.0 p.1) (lt-ltb (a / down e) edge (omega (arith, q, N)))
+to-counts (fin s m e) n p N = let t = asked s m e n p N in rw (t.0, t.1.0) t.1.1
 
 -- each number of eighths below the bound is that of a value that counts
 pub each : (n : ℕ) → n < edge → (counts (round binary32 false n 8) ≡ true) × (eighths_of (round binary32 false n 8) ≡ n)
-each n N =
-    let p : Is (round binary32 false n 8) n = rounded false n 8 n (lit< tt) (omega arith) refl (λ g. absurd (true≢false (sym g))) in
-    (to-counts (round binary32 false n 8) n p N, eighths-is (round binary32 false n 8) n p)
+unfolding counts
+each n N = (go (round binary32 false n 8) p, eighths-is (round binary32 false n 8) n p)
+  where
+    p : Is (round binary32 false n 8) n
+    p = rounded false n 8 n (lit< tt) (omega arith) refl (λ g. absurd (true≢false (sym g)))
+
+    go : (x : Float) → Is x n → counts x ≡ true
+    go nan p = absurd p
+    go (inf s) p = absurd p
+    go (fin s m e) p = let t = asked s m e n p N in rw (t.0, t.1.0) t.1.1

@@ -22,4 +22,5 @@ convert-scaled {f} {r} a hf hr = omega (arith, product_le a hf hr)
 
 -- one registration's
 pub convert-le : {f r a : ℕ} → f ≤ factor_limit → r ≤ factor_limit → a ≤ nominated_limit → convert f r a ≤ unforced_limit
-convert-le {a = a} hf hr ha = omega (arith, convert-scaled a hf hr)
+unfolding convert
+convert-le {a = a} hf hr ha = omega (arith, product_le a hf hr)

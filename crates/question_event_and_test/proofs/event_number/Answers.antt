@@ -1,6 +1,6 @@
 -- `question_event_and_test::event_number` meets its contract: each test answers the question that is next for an event. Assumes nothing.
-use mathlib.Core.Path.{◌≡◌, sym}
-use Rattle.std.specs.Prelude.{ℕ, Bool, true}
+use mathlib.Core.Path.{◌≡◌, sym, ap}
+use Rattle.std.specs.Prelude.{ℕ, Bool, true, not}
 use borrow.Author.Tests.{lt-ltb, le-ltb}
 use Rattle.record_layouts.specs.Questions.{first_failed}
 use Rattle.ids.specs.Ids.{at}
@@ -41,7 +41,7 @@ returns-then-not-entries_pass c =
     let l = listing_at (at c.args.listing.now) in
     let e = c.args.e in
     let both = opens y e c.open_number-first.ensures c.if-first-ne0.false in
-    λ room. rw (both.0, both.1, no (ten y l e c.entries_pass.ensures) c.if-not-entries_pass.true-raw)
+    λ room. rw (both.0, both.1, no (ten y l e c.entries_pass.ensures) (ap not c.if-not-entries_pass.true))
 
 pub returns-then-not-may_call : goal.returns-then-not-may_call
 unfolding first_failed questions q7 q9 q17
@@ -50,7 +50,7 @@ returns-then-not-may_call c =
     let l = listing_at (at c.args.listing.now) in
     let e = c.args.e in
     let both = opens y e c.open_number-first.ensures c.if-first-ne0.false in
-    λ room. rw (both.0, both.1, yes (ten y l e c.entries_pass.ensures) c.if-not-entries_pass.false-raw, no (eleven y l e c.may_call.ensures) c.if-not-may_call.true-raw)
+    λ room. rw (both.0, both.1, yes (ten y l e c.entries_pass.ensures) (ap not c.if-not-entries_pass.false), no (eleven y l e c.may_call.ensures) (ap not c.if-not-may_call.true))
 
 pub returns-then-events_accepted-lt-EVENT_LIMIT : goal.returns-then-events_accepted-lt-EVENT_LIMIT
 unfolding first_failed questions q7 q9 q17 q20 q21 q12 q13 q14 q15 q16
@@ -59,7 +59,7 @@ returns-then-events_accepted-lt-EVENT_LIMIT c =
     let l = listing_at (at c.args.listing.now) in
     let e = c.args.e in
     let both = opens y e c.open_number-first.ensures c.if-first-ne0.false in
-    λ room. rw (both.0, both.1, yes (ten y l e c.entries_pass.ensures) c.if-not-entries_pass.false-raw, yes (eleven y l e c.may_call.ensures) c.if-not-may_call.false-raw, sym c.events_accepted.ensures, lt-ltb _ _ c.if-events_accepted-lt-EVENT_LIMIT.true)
+    λ room. rw (both.0, both.1, yes (ten y l e c.entries_pass.ensures) (ap not c.if-not-entries_pass.false), yes (eleven y l e c.may_call.ensures) (ap not c.if-not-may_call.false), sym c.events_accepted.ensures, lt-ltb _ _ c.if-events_accepted-lt-EVENT_LIMIT.true)
 
 pub returns-else-events_accepted-lt-EVENT_LIMIT : goal.returns-else-events_accepted-lt-EVENT_LIMIT
 unfolding first_failed questions q7 q9 q17 q20 q21 q12
@@ -68,4 +68,4 @@ returns-else-events_accepted-lt-EVENT_LIMIT c =
     let l = listing_at (at c.args.listing.now) in
     let e = c.args.e in
     let both = opens y e c.open_number-first.ensures c.if-first-ne0.false in
-    λ room. rw (both.0, both.1, yes (ten y l e c.entries_pass.ensures) c.if-not-entries_pass.false-raw, yes (eleven y l e c.may_call.ensures) c.if-not-may_call.false-raw, sym c.events_accepted.ensures, le-ltb _ _ c.if-events_accepted-lt-EVENT_LIMIT.false)
+    λ room. rw (both.0, both.1, yes (ten y l e c.entries_pass.ensures) (ap not c.if-not-entries_pass.false), yes (eleven y l e c.may_call.ensures) (ap not c.if-not-may_call.false), sym c.events_accepted.ensures, le-ltb _ _ c.if-events_accepted-lt-EVENT_LIMIT.false)

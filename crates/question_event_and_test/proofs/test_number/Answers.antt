@@ -1,6 +1,6 @@
 -- `question_event_and_test::test_number` meets its contract: each test answers the question that is next for a test. Assumes nothing.
-use mathlib.Core.Path.{◌≡◌, sym, ◌∙◌}
-use Rattle.std.specs.Prelude.{ℕ, Bool, true}
+use mathlib.Core.Path.{◌≡◌, sym, ◌∙◌, ap}
+use Rattle.std.specs.Prelude.{ℕ, Bool, true, not}
 use Rattle.record_layouts.specs.Questions.{first_failed}
 use Rattle.ids.specs.Ids.{at}
 use Rattle.year_cells.specs.Layout.{listing_at, year_in}
@@ -45,7 +45,7 @@ returns-then-not-entries_pass c =
     let l = listing_at (at c.args.listing.now) in
     let t = c.args.t in
     let both = opens y t c.open_number-first.ensures c.if-first-ne0.false in
-    λ room. rw (both.0, both.1, no (ten y l t c.entries_pass.ensures) c.if-not-entries_pass.true-raw)
+    λ room. rw (both.0, both.1, no (ten y l t c.entries_pass.ensures) (ap not c.if-not-entries_pass.true))
 
 pub returns-then-not-may_test : goal.returns-then-not-may_test
 unfolding first_failed questions q7 q9 q17
@@ -54,7 +54,7 @@ returns-then-not-may_test c =
     let l = listing_at (at c.args.listing.now) in
     let t = c.args.t in
     let both = opens y t c.open_number-first.ensures c.if-first-ne0.false in
-    λ room. rw (both.0, both.1, yes (ten y l t c.entries_pass.ensures) c.if-not-entries_pass.false-raw, no (eleven y l t c.may_test.ensures) c.if-not-may_test.true-raw)
+    λ room. rw (both.0, both.1, yes (ten y l t c.entries_pass.ensures) (ap not c.if-not-entries_pass.false), no (eleven y l t c.may_test.ensures) (ap not c.if-not-may_test.true))
 
 pub returns-then-test_taken : goal.returns-then-test_taken
 unfolding first_failed questions q7 q9 q17 q20 q21 q12 q13
@@ -63,7 +63,7 @@ returns-then-test_taken c =
     let l = listing_at (at c.args.listing.now) in
     let t = c.args.t in
     let both = opens y t c.open_number-first.ensures c.if-first-ne0.false in
-    λ room. rw (both.0, both.1, yes (ten y l t c.entries_pass.ensures) c.if-not-entries_pass.false-raw, yes (eleven y l t c.may_test.ensures) c.if-not-may_test.false-raw, sym (rw c.group_of-group.ensures at c.test_taken.ensures), c.if-test_taken.true)
+    λ room. rw (both.0, both.1, yes (ten y l t c.entries_pass.ensures) (ap not c.if-not-entries_pass.false), yes (eleven y l t c.may_test.ensures) (ap not c.if-not-may_test.false), sym (rw c.group_of-group.ensures at c.test_taken.ensures), c.if-test_taken.true)
 
 pub returns-then-lists_exactly : goal.returns-then-lists_exactly
 unfolding first_failed questions q7 q9 q17 q20 q21 q12 q13 q15 q16
@@ -72,7 +72,7 @@ returns-then-lists_exactly c =
     let l = listing_at (at c.args.listing.now) in
     let t = c.args.t in
     let both = opens y t c.open_number-first.ensures c.if-first-ne0.false in
-    λ room. rw (both.0, both.1, yes (ten y l t c.entries_pass.ensures) c.if-not-entries_pass.false-raw, yes (eleven y l t c.may_test.ensures) c.if-not-may_test.false-raw, sym (rw c.group_of-group.ensures at c.test_taken.ensures), c.if-test_taken.false, sym (fourteen y l t c.lists_exactly.ensures) ∙ c.if-lists_exactly.true)
+    λ room. rw (both.0, both.1, yes (ten y l t c.entries_pass.ensures) (ap not c.if-not-entries_pass.false), yes (eleven y l t c.may_test.ensures) (ap not c.if-not-may_test.false), sym (rw c.group_of-group.ensures at c.test_taken.ensures), c.if-test_taken.false, sym (fourteen y l t c.lists_exactly.ensures) ∙ c.if-lists_exactly.true)
 
 pub returns-else-lists_exactly : goal.returns-else-lists_exactly
 unfolding first_failed questions q7 q9 q17 q20 q21 q12 q13
@@ -81,4 +81,4 @@ returns-else-lists_exactly c =
     let l = listing_at (at c.args.listing.now) in
     let t = c.args.t in
     let both = opens y t c.open_number-first.ensures c.if-first-ne0.false in
-    λ room. rw (both.0, both.1, yes (ten y l t c.entries_pass.ensures) c.if-not-entries_pass.false-raw, yes (eleven y l t c.may_test.ensures) c.if-not-may_test.false-raw, sym (rw c.group_of-group.ensures at c.test_taken.ensures), c.if-test_taken.false, sym (fourteen y l t c.lists_exactly.ensures) ∙ c.if-lists_exactly.false)
+    λ room. rw (both.0, both.1, yes (ten y l t c.entries_pass.ensures) (ap not c.if-not-entries_pass.false), yes (eleven y l t c.may_test.ensures) (ap not c.if-not-may_test.false), sym (rw c.group_of-group.ensures at c.test_taken.ensures), c.if-test_taken.false, sym (fourteen y l t c.lists_exactly.ensures) ∙ c.if-lists_exactly.false)

@@ -1,6 +1,6 @@
 -- `question_retest::retest_number` meets its contract: each test answers the question that is next for a retest. Assumes nothing.
-use mathlib.Core.Path.{◌≡◌, sym, ◌∙◌}
-use Rattle.std.specs.Prelude.{ℕ, Bool, true}
+use mathlib.Core.Path.{◌≡◌, sym, ◌∙◌, ap}
+use Rattle.std.specs.Prelude.{ℕ, Bool, true, not}
 use Rattle.record_layouts.specs.Questions.{first_failed}
 use Rattle.ids.specs.Ids.{at}
 use Rattle.year.specs.declared.Listing.{Listing}
@@ -49,7 +49,7 @@ returns-then-not-lists_own c =
     let l = listing_at (at c.args.listing.now) in
     let t = c.args.t in
     let both = opens y t c.open_number-first.ensures c.if-first-ne0.false in
-    λ room. rw (both.0, both.1, no (ten y l t c.lists_own.ensures) c.if-not-lists_own.true-raw)
+    λ room. rw (both.0, both.1, no (ten y l t c.lists_own.ensures) (ap not c.if-not-lists_own.true))
 
 pub returns-then-not-in_time : goal.returns-then-not-in_time
 unfolding first_failed questions q7 q9 q17
@@ -58,7 +58,7 @@ returns-then-not-in_time c =
     let l = listing_at (at c.args.listing.now) in
     let t = c.args.t in
     let both = opens y t c.open_number-first.ensures c.if-first-ne0.false in
-    λ room. rw (both.0, both.1, yes (ten y l t c.lists_own.ensures) c.if-not-lists_own.false-raw, no (eleven y l t c.in_time.ensures) c.if-not-in_time.true-raw)
+    λ room. rw (both.0, both.1, yes (ten y l t c.lists_own.ensures) (ap not c.if-not-lists_own.false), no (eleven y l t c.in_time.ensures) (ap not c.if-not-in_time.true))
 
 pub returns-then-not-may_retest : goal.returns-then-not-may_retest
 unfolding first_failed questions q7 q9 q17
@@ -67,7 +67,7 @@ returns-then-not-may_retest c =
     let l = listing_at (at c.args.listing.now) in
     let t = c.args.t in
     let both = opens y t c.open_number-first.ensures c.if-first-ne0.false in
-    λ room. rw (both.0, both.1, yes (ten y l t c.lists_own.ensures) c.if-not-lists_own.false-raw, yes (eleven y l t c.in_time.ensures) c.if-not-in_time.false-raw, no (twenty y t c.may_retest.ensures) c.if-not-may_retest.true-raw)
+    λ room. rw (both.0, both.1, yes (ten y l t c.lists_own.ensures) (ap not c.if-not-lists_own.false), yes (eleven y l t c.in_time.ensures) (ap not c.if-not-in_time.false), no (twenty y t c.may_retest.ensures) (ap not c.if-not-may_retest.true))
 
 pub returns-then-lists_exactly : goal.returns-then-lists_exactly
 unfolding first_failed questions q7 q9 q17 q12 q13 q14 q15 q16
@@ -76,7 +76,7 @@ returns-then-lists_exactly c =
     let l = listing_at (at c.args.listing.now) in
     let t = c.args.t in
     let both = opens y t c.open_number-first.ensures c.if-first-ne0.false in
-    λ room. rw (both.0, both.1, yes (ten y l t c.lists_own.ensures) c.if-not-lists_own.false-raw, yes (eleven y l t c.in_time.ensures) c.if-not-in_time.false-raw, yes (twenty y t c.may_retest.ensures) c.if-not-may_retest.false-raw, sym (twenty-one y l t (rw c.group_of-group.ensures at c.lists_exactly.ensures)) ∙ c.if-lists_exactly.true)
+    λ room. rw (both.0, both.1, yes (ten y l t c.lists_own.ensures) (ap not c.if-not-lists_own.false), yes (eleven y l t c.in_time.ensures) (ap not c.if-not-in_time.false), yes (twenty y t c.may_retest.ensures) (ap not c.if-not-may_retest.false), sym (twenty-one y l t (rw c.group_of-group.ensures at c.lists_exactly.ensures)) ∙ c.if-lists_exactly.true)
 
 pub returns-else-lists_exactly : goal.returns-else-lists_exactly
 unfolding first_failed questions q7 q9 q17
@@ -85,4 +85,4 @@ returns-else-lists_exactly c =
     let l = listing_at (at c.args.listing.now) in
     let t = c.args.t in
     let both = opens y t c.open_number-first.ensures c.if-first-ne0.false in
-    λ room. rw (both.0, both.1, yes (ten y l t c.lists_own.ensures) c.if-not-lists_own.false-raw, yes (eleven y l t c.in_time.ensures) c.if-not-in_time.false-raw, yes (twenty y t c.may_retest.ensures) c.if-not-may_retest.false-raw, sym (twenty-one y l t (rw c.group_of-group.ensures at c.lists_exactly.ensures)) ∙ c.if-lists_exactly.false)
+    λ room. rw (both.0, both.1, yes (ten y l t c.lists_own.ensures) (ap not c.if-not-lists_own.false), yes (eleven y l t c.in_time.ensures) (ap not c.if-not-in_time.false), yes (twenty y t c.may_retest.ensures) (ap not c.if-not-may_retest.false), sym (twenty-one y l t (rw c.group_of-group.ensures at c.lists_exactly.ensures)) ∙ c.if-lists_exactly.false)

@@ -3,7 +3,7 @@ use Rattle.std.proofs.Common.{ℕ, ◌^◌, ◌<◌, ◌≤◌, pos, ap, ◌∙�
 use lib.Ieee.{binary32, of_bits, mul, div, of_int, lt, le, eq, in_float}
 use Rattle.telemetry_eighths.specs.Eighths.{edge}
 use Rattle.telemetry_eighths.specs.Values.{nought, eight, bound}
-use Rattle.telemetry_eighths.specs.Casts.{castable, cut-lt, passes-low, passes-high, told, fails}
+use Rattle.telemetry_eighths.proofs.Casts.{castable, cut-lt, passes-low, passes-high, told, fails}
 use Rattle.telemetry_eighths.proofs.counts.Goals as goal
 
 -- the literals 0.0, 8.0 and 1048576.0 stand in the goals by their patterns, which are `nought`, `eight` and `bound` under `unfolding of_bits`

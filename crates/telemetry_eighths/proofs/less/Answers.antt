@@ -2,7 +2,7 @@
 use Rattle.std.proofs.Common.{◌<◌, sym, refl, ◌∙◌, arith, ltb-false, ltb-true}
 use lib.Ieee.{Float, of_bits, binary32}
 use Rattle.telemetry_eighths.specs.Eighths.{counts, eighths_of, Less}
-use Rattle.telemetry_eighths.specs.Differences.{sub-exact, lt-counts}
+use Rattle.telemetry_eighths.proofs.Differences.{sub-exact, lt-counts}
 use Rattle.telemetry_eighths.proofs.less.Goals as goal
 
 none : (x y : Float) → eighths_of x < eighths_of y → Less x y (of_bits binary32 0)

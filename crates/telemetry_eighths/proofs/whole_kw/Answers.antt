@@ -1,7 +1,7 @@
 -- The cast drops the fraction, which is the eighths.
 use Rattle.std.proofs.Common.{◌≡◌, ◌∙◌}
 use lib.Ieee.{to_unsigned}
-use Rattle.telemetry_eighths.specs.Casts.{kw-castable, kw-cast}
+use Rattle.telemetry_eighths.proofs.Casts.{kw-castable, kw-cast}
 use Rattle.telemetry_eighths.proofs.whole_kw.Goals as goal
 
 pub returns : goal.returns

@@ -1,5 +1,6 @@
 -- `question_retest::retestable::may_retest` meets its contract. Assumes nothing.
-use mathlib.Core.Path.{sym, ◌∙◌}
+use Rattle.std.specs.Prelude.{not}
+use mathlib.Core.Path.{sym, ◌∙◌, ap}
 use Rattle.limits.specs.Limits.{registrations}
 use Rattle.year.specs.Limits.{committed-sum}
 use Rattle.year_cells.specs.Layout.{year_in}
@@ -12,7 +13,7 @@ use Rattle.question_retest.proofs.retestable.may_retest.Goals as goal
 pub returns-then-not-test_taken : goal.returns-then-not-test_taken
 returns-then-not-test_taken c =
     let taken = rw c.group_of-group.ensures at c.test_taken.ensures in
-    rw (no taken c.if-not-test_taken.true-raw)
+    rw (no taken (ap not c.if-not-test_taken.true))
 
 pub returns-then-any_selected : goal.returns-then-any_selected
 unfolding had_retest
@@ -20,7 +21,7 @@ returns-then-any_selected c =
     let group = c.group_of-group.ensures in
     let taken = rw group at c.test_taken.ensures in
     let had = rw group at c.any_selected.ensures in
-    rw (yes taken c.if-not-test_taken.false-raw, sym had ∙ c.if-any_selected.true)
+    rw (yes taken (ap not c.if-not-test_taken.false), sym had ∙ c.if-any_selected.true)
 
 pub below_quarter-requires : goal.below_quarter-requires
 below_quarter-requires c =
@@ -34,4 +35,4 @@ returns c =
     let had = rw group at c.any_selected.ensures in
     let failed = rw group at c.committed_kw-failed.ensures in
     let tested = rw group at c.committed_kw-tested.ensures in
-    rw (yes taken c.if-not-test_taken.false-raw, sym had ∙ c.if-any_selected.false, sym failed, sym tested) c.below_quarter.ensures
+    rw (yes taken (ap not c.if-not-test_taken.false), sym had ∙ c.if-any_selected.false, sym failed, sym tested) c.below_quarter.ensures

@@ -23,12 +23,12 @@ use Rattle.book_accept.specs.Leaves.{buffer_with, written_with}
 use Rattle.book_outcome.specs.Outcome.{record_in, buffer_after, written_after}
 use Rattle.claim_history.specs.Runs.{Call, is_accepted, is_closing}
 use Rattle.claim_history.specs.Taking.{accepts, closes, buffered, step}
-use Rattle.claim_history.specs.YearFollowsRecords.{step_by}
+use Rattle.claim_history.proofs.YearFollowsRecords.{step_by}
 use Rattle.claim_history.specs.Admitted.{accepted-admitted}
 use Rattle.claim_history.specs.Columns.{Column, party, column, line_in}
-use Rattle.claim_history.specs.ReadColumns.{reads}
-use Rattle.claim_history.specs.StepInvariants.{never}
-use Rattle.claim_history.specs.StepCases.{StepCases, terms, event, test, close, retest, does}
+use Rattle.claim_history.proofs.ReadColumns.{reads}
+use Rattle.claim_history.proofs.StepInvariants.{never}
+use Rattle.claim_history.proofs.StepCases.{StepCases, terms, event, test, close, retest, does}
 
 -- a close is what passes for one
 is-close : {h : Head} → StepCases h → is_close h ≡ true → (c : CloseHead) × (h ≡ Close c)

@@ -12,7 +12,7 @@ use Rattle.record_heads.specs.declared.Head.{Head}
 use Rattle.record_heads.specs.Record.{Record, is_retest_of}
 use Rattle.record_heads.specs.RecordLaws.{other-retests}
 use Rattle.question_list.specs.Questions.{q6, q7, q8, q9, q10, q17, q11, q20, q21, q12, q13, q14, q15, questions}
-use Rattle.claim_history.specs.Same.{Same, same-facts, same-dispatched}
+use Rattle.claim_history.proofs.Same.{Same, same-facts, same-dispatched}
 
 module _ {s : ℕ} {y z : Year} (h : Same s y z) where
   taken : (k : ℕ) → (get_or y.tests k no_test).taken ≡ (get_or z.tests k no_test).taken

@@ -14,9 +14,9 @@ use Rattle.record_heads.specs.Record.{Record, with_item, record_of}
 use Rattle.record_heads.specs.RecordLaws.{same_head, listing-keeps}
 use Rattle.record_listing.specs.Listed.{Permitted, item-as}
 use Rattle.record_numbers.specs.Reductions.{with_reductions}
-use Rattle.record_numbers.specs.Replaced.{kept-head, kept_field, kept-other, kept-id}
+use Rattle.record_numbers.proofs.Replaced.{kept-head, kept_field, kept-other, kept-id}
 use Rattle.claim_history.specs.Runs.{is_own}
-use Rattle.claim_history.specs.Same.{SameListing, listing-refl}
+use Rattle.claim_history.proofs.Same.{SameListing, listing-refl}
 
 pub record Alike (T : Terms) (s : ℕ) (r q : Record) : Type 0 where
   pub heads : r.head ≡ q.head

@@ -28,10 +28,10 @@ use Rattle.book_outcome.specs.Outcome.{record_in, year_after}
 use Rattle.book_outcome.specs.StaysSound.{sound-after}
 use Rattle.claim_history.specs.Runs.{Call, is_accepted}
 use Rattle.claim_history.specs.Taking.{accepts, step, run}
-use Rattle.claim_history.specs.YearFollowsRecords.{step_by}
+use Rattle.claim_history.proofs.YearFollowsRecords.{step_by}
 use Rattle.claim_history.specs.Admitted.{accepted-admitted}
-use Rattle.claim_history.specs.StepCases.{Knows, StepCases, terms, event, test, close, retest, does, event-open, event-knows, test-open, test-knows, close_open, close-obliged}
-use Rattle.claim_history.specs.Billed.{Billed, billed-none, billed-amounts}
+use Rattle.claim_history.proofs.StepCases.{Knows, StepCases, terms, event, test, close, retest, does, event-open, event-knows, test-open, test-knows, close_open, close-obliged}
+use Rattle.claim_history.proofs.Billed.{Billed, billed-none, billed-amounts}
 
 -- sound; opened before the first event, test or close; nothing billed before them; every listed registration known; what is billed balances
 pub record StepInvariants (y : Year) : Type 0 where

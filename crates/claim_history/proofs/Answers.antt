@@ -11,7 +11,7 @@ use Rattle.question_list.specs.Questions.{month_begun, q6, q7, q8, q9, q10, q17,
 use Rattle.book_outcome.specs.Outcome.{record_in, post_number}
 use Rattle.claim_history.specs.Runs.{Call, Answered, accepted_in}
 use Rattle.claim_history.specs.Taking.{shown, step, answered, answers, run}
-use Rattle.claim_history.specs.YearFollowsRecords.{run-years}
+use Rattle.claim_history.proofs.YearFollowsRecords.{run-years}
 
 pub answers-each : (y : Year) (H : List Call) → map (λ x. x.call) (answers y H) ≡ H
 unfolding answered

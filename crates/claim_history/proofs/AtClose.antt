@@ -18,13 +18,13 @@ use Rattle.book_recorded.specs.Booked.{booked, facts-booked}
 use Rattle.claim_history.specs.Runs.{Call, accepted_in, statements, so_far}
 use Rattle.claim_history.specs.Taking.{closes, shown, answers, run}
 use Rattle.claim_history.specs.Claim.{AtClose}
-use Rattle.claim_history.specs.YearFollowsRecords.{run-append, answers-more, run-years}
+use Rattle.claim_history.proofs.YearFollowsRecords.{run-append, answers-more, run-years}
 use Rattle.claim_history.specs.Columns.{Column, pays, tests, gets, receives, party, party-below, owes, amounts-at, line_in}
-use Rattle.claim_history.specs.Billed.{Billed, none-at}
-use Rattle.claim_history.specs.StepInvariants.{StepInvariants, kept_new, kept_run, kept_step}
-use Rattle.claim_history.specs.Closes.{close-step, close-month, close-buffer}
-use Rattle.claim_history.specs.Telescope.{telescopes}
-use Rattle.claim_history.specs.Balanced.{balanced}
+use Rattle.claim_history.proofs.Billed.{Billed, none-at}
+use Rattle.claim_history.proofs.StepInvariants.{StepInvariants, kept_new, kept_run, kept_step}
+use Rattle.claim_history.proofs.Closes.{close-step, close-month, close-buffer}
+use Rattle.claim_history.proofs.Telescope.{telescopes}
+use Rattle.claim_history.proofs.Balanced.{balanced}
 
 module _ (cs : List Call) (c : Call) (e : closes (run new_year cs) c ≡ true) where
   abbrev there : Year

@@ -27,9 +27,9 @@ use Rattle.question_list.specs.Admitted.{retest-own}
 use Rattle.book_outcome.specs.Outcome.{record_in}
 use Rattle.claim_history.specs.Runs.{Call}
 use Rattle.claim_history.specs.Taking.{step, accepts}
-use Rattle.claim_history.specs.YearFollowsRecords.{step_by}
+use Rattle.claim_history.proofs.YearFollowsRecords.{step_by}
 use Rattle.claim_history.specs.Admitted.{accepted-admitted}
-use Rattle.claim_history.specs.Same.{SameRetests}
+use Rattle.claim_history.proofs.Same.{SameRetests}
 
 -- is it a retest of seller s's
 abbrev pub is_own_retest : ℕ → Call → Bool

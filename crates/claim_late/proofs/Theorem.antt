@@ -20,8 +20,8 @@ use Rattle.book_outcome.specs.Outcome.{record_in, number_under, post_number, yea
 use Rattle.book_outcome.specs.Numbers.{same_number}
 use Rattle.claim_history.specs.Runs.{Call, record_from}
 use Rattle.claim_history.specs.Taking.{call_number, buffered, shown, step, answered, answers}
-use Rattle.claim_history.specs.YearFollowsRecords.{step-booked}
-use Rattle.claim_history.specs.TwoRuns.{PairedCalls, none, both, two_runs}
+use Rattle.claim_history.proofs.YearFollowsRecords.{step-booked}
+use Rattle.claim_history.proofs.TwoRuns.{PairedCalls, none, both, two_runs}
 use Rattle.claim_late.specs.Late.{is_late, comes_late, none_late, shown_under, step_under, answers_under, AsBefore}
 
 -- of a record that is no late event the two rules ask the same

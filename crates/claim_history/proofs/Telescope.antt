@@ -8,8 +8,8 @@ use Rattle.book_recorded.specs.Recorded.{gather, alone}
 use Rattle.claim_history.specs.Runs.{Call, statements, so_far}
 use Rattle.claim_history.specs.Taking.{closes, buffered, step, answered, answers, run}
 use Rattle.claim_history.specs.Columns.{Column, party, column, line_in}
-use Rattle.claim_history.specs.StepInvariants.{StepInvariants, kept_step, frozen}
-use Rattle.claim_history.specs.Closes.{close-step, close-line, other-same}
+use Rattle.claim_history.proofs.StepInvariants.{StepInvariants, kept_step, frozen}
+use Rattle.claim_history.proofs.Closes.{close-step, close-line, other-same}
 
 -- one statement says by how much what is billed moves
 says : (c : Column) (i : ℕ) {y : Year} → StepInvariants y → (d : Call) → closes y d ≡ true → party c y.terms i ≡ true

@@ -6,9 +6,9 @@ use Rattle.book_outcome.specs.Outcome.{post_number}
 use Rattle.claim_history.specs.Runs.{Call, Answered, is_closing, accepted_in}
 use Rattle.claim_history.specs.Claim.{AtClose, Demand3}
 use Rattle.claim_history.specs.Taking.{answers}
-use Rattle.claim_history.specs.AtClose.{at-close}
-use Rattle.claim_history.specs.Answers.{answers-each, Split, split, numbered}
-use Rattle.claim_history.specs.Independence.{accepted-alike, charged-alike}
+use Rattle.claim_history.proofs.AtClose.{at-close}
+use Rattle.claim_history.proofs.Answers.{answers-each, Split, split, numbered}
+use Rattle.claim_history.proofs.Independence.{accepted-alike, charged-alike}
 
 module _ {before : List Answered} {x : Answered} (s : Split new_year before x) where
   number_is : x.number ≡ post_number (recorded (accepted_in before)) x.call.bytes (length x.call.buffer)

@@ -16,7 +16,7 @@ use Rattle.owed_laws.specs.Limits.{limits}
 use Rattle.owed_laws.specs.Balance.{balance}
 use Rattle.owed_laws.specs.Parties.{Known}
 use Rattle.claim_history.specs.Columns.{Column, pays, tests, gets, receives, party, column, owes, amounts-at}
-use Rattle.claim_history.specs.Blank.{owes-none}
+use Rattle.claim_history.proofs.Blank.{owes-none}
 
 abbrev pub sum_in : Column → Amounts → ℕ
 sum_in c a = sum_to parties (at (column c a))

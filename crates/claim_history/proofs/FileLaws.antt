@@ -27,7 +27,7 @@ use Rattle.record_file.specs.Walk.{ends}
 use Rattle.record_file.specs.Window.{Alike, same_number, same_numbers}
 use Rattle.claim_history.specs.Runs.{Call, statements}
 use Rattle.claim_history.specs.Taking.{closes, buffered, step, answered, answers}
-use Rattle.claim_history.specs.Closes.{close-month, close-buffer}
+use Rattle.claim_history.proofs.Closes.{close-month, close-buffer}
 use Rattle.claim_history.specs.Files.{statement_in, joined}
 
 -- a window answers as the whole rest of a file does

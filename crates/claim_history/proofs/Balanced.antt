@@ -13,7 +13,7 @@ use Rattle.statement.specs.ReadBack.{sumℤ, charges_in, credits_in}
 use Rattle.statement.specs.Starts.{less, Starts}
 use Rattle.statement.specs.ReadBackLaws.{charges-read, credits-read}
 use Rattle.claim_history.specs.Columns.{Column, pays, tests, gets, receives, party, column}
-use Rattle.claim_history.specs.Billed.{Billed, sum_in}
+use Rattle.claim_history.proofs.Billed.{Billed, sum_in}
 
 four : (a b c d : ℤ) → (a +ℤ b) +ℤ (c +ℤ d) ≡ (a +ℤ c) +ℤ (b +ℤ d)
 four a b c d =

@@ -14,15 +14,11 @@ use Rattle.book_recorded.specs.Booked.{facts-booked}
 use Rattle.book_outcome.specs.Outcome.{record_in}
 use Rattle.claim_history.specs.Runs.{Call, record_from, accepted_in}
 use Rattle.claim_history.specs.Taking.{shown, step, answered, answers, run, accepts}
-use Rattle.claim_history.specs.YearFollowsRecords.{step_by, run-years}
+use Rattle.claim_history.proofs.YearFollowsRecords.{step_by, run-years}
 use Rattle.claim_history.specs.Admitted.{accepted-admitted}
-use Rattle.claim_history.specs.StepCases.{does}
-use Rattle.claim_history.specs.StepInvariants.{StepInvariants, never, kept_new, accepted-sound, kept_step}
-use Rattle.claim_retried.specs.Retried.{is_retest_at, InTest, none-had, blank, had_by}
-
--- is a retest of seller s's in the zone and product of group p among these
-abbrev pub any_retest : ℕ → ℕ → List Record → Bool
-any_retest p s rs = ltb 0 (length (gather (λ r. alone (is_retest_at p s r.head) r) rs))
+use Rattle.claim_history.proofs.StepCases.{does}
+use Rattle.claim_history.proofs.StepInvariants.{StepInvariants, never, kept_new, accepted-sound, kept_step}
+use Rattle.claim_retried.specs.Retried.{is_retest_at, any_retest, InTest, none-had, blank, had_by}
 
 -- of a year after these records
 record Had (y : Year) (rs : List Record) : Type 0 where
@@ -53,7 +49,7 @@ unfolding run answered gather
 had-run {rs = rs} h [] = rw (append-nil rs) h
 had-run {y} {rs} h (c ∷ cs) =
     let new = record_from (shown y c) in
-    rw (append_assoc rs new (accepted_in (answers (step y c) cs))) at (had-run (had-step h c) cs)
+    rw (append_assoc rs new (accepted_in (answers (step y c) cs))) at (had-run {y = step y c} (had-step h c) cs)
 
 pub had-retest : (cs : List Call) (p s : ℕ) → let rs = accepted_in (answers new_year cs) in had_retest (facts_of (recorded rs)) p s ≡ any_retest p s rs
 unfolding gather

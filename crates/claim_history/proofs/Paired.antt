@@ -12,7 +12,7 @@ use Rattle.book_outcome.specs.Outcome.{record_in}
 use Rattle.claim_history.specs.Runs.{Call, Varied, refused, accepted}
 use Rattle.claim_history.specs.Taking.{shown}
 use Rattle.claim_history.specs.Admitted.{accepted-record}
-use Rattle.claim_history.specs.Alike.{Alike, alike_refl, alike-replaced}
+use Rattle.claim_history.proofs.Alike.{Alike, alike_refl, alike-replaced}
 
 -- what questions 1 and 3 say of a record's numbers
 pub permitted-numbers : (bytes : List ℕ) → Accepted bytes → Permitted (numbers_of bytes)

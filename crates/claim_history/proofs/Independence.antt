@@ -9,7 +9,7 @@ use Rattle.ids.specs.Ids.{at}
 use Rattle.record_layouts.specs.Questions.{first_failed}
 use Rattle.year.specs.declared.Listing.{Listing}
 use Rattle.year.specs.declared.Year.{Year}
-use Rattle.year.specs.Year.{new_year, listed}
+use Rattle.year.specs.Year.{new_year}
 use Rattle.owed.specs.Facts.{facts_of}
 use Rattle.owed.specs.Owed.{amounts}
 use Rattle.record_heads.specs.declared.Head.{Head}
@@ -26,17 +26,17 @@ use Rattle.book_outcome.specs.Numbers.{same_post}
 use Rattle.claim_history.specs.Runs.{Call, Answered, is_accepted, is_closing, acceptances, Variant, done, next}
 use Rattle.claim_history.specs.Taking.{buffered, shown, step, answered, answers, accepts, closes}
 use Rattle.claim_history.specs.Claim.{charge_line, charge_lines}
-use Rattle.claim_history.specs.YearFollowsRecords.{step_by, step-booked}
+use Rattle.claim_history.proofs.YearFollowsRecords.{step_by, step-booked}
 use Rattle.claim_history.specs.Admitted.{accepted-admitted}
-use Rattle.claim_history.specs.StepCases.{StepCases, terms, event, test, close, retest, does}
+use Rattle.claim_history.proofs.StepCases.{StepCases, terms, event, test, close, retest, does}
 use Rattle.claim_history.specs.Columns.{Column, pays, tests, column, line_in}
-use Rattle.claim_history.specs.StepInvariants.{StepInvariants, kept_new, kept_step}
-use Rattle.claim_history.specs.Closes.{close-line}
-use Rattle.claim_history.specs.Same.{SameListing, same-single, Same, same_new, same-terms, same-event, same_test, same-retests, same-retest, same-close}
-use Rattle.claim_history.specs.Blind.{years-blind}
-use Rattle.claim_history.specs.OwnRetests.{is_own_retest, own-retest}
-use Rattle.claim_history.specs.Paired.{Paired, paired}
-use Rattle.claim_history.specs.TwoRuns.{PairedCalls, none, both, two_runs}
+use Rattle.claim_history.proofs.StepInvariants.{StepInvariants, kept_new, kept_step}
+use Rattle.claim_history.proofs.Closes.{close-line}
+use Rattle.claim_history.proofs.Same.{SameListing, same-single, Same, same_new, same-terms, same-event, same_test, same-retests, same-retest, same-close}
+use Rattle.claim_history.proofs.Blind.{years-blind}
+use Rattle.claim_history.proofs.OwnRetests.{is_own_retest, own-retest}
+use Rattle.claim_history.proofs.Paired.{Paired, paired}
+use Rattle.claim_history.proofs.TwoRuns.{PairedCalls, none, both, two_runs}
 
 -- the relation: two years that are the same for all sellers but s, along two runs
 record Related (s : ℕ) (y z : Year) : Type 0 where

@@ -1,0 +1,21 @@
+-- The proof of demand 3: its laws, each behind those that it cites.
+pub mod YearFollowsRecords
+pub mod StepCases
+pub mod ReadColumns
+pub mod Blank
+pub mod Billed
+pub mod StepInvariants
+pub mod Closes
+pub mod Telescope
+pub mod Balanced
+pub mod AtClose
+pub mod Answers
+pub mod Same
+pub mod Alike
+pub mod Blind
+pub mod OwnRetests
+pub mod Paired
+pub mod TwoRuns
+pub mod Independence
+pub mod Theorem
+pub mod FileLaws

@@ -1,0 +1,2 @@
+-- The proof that a list without late events is answered as before.
+pub mod Theorem

@@ -1,0 +1,2 @@
+-- The proof of when a seller has had a retest.
+pub mod HadRetest
