@@ -53,6 +53,7 @@ fn of_loads(l: Loads) -> Reduced
 }
 
 // The answer with these kW, unless they are too much for an entry.
+#[tactic(auto, unfolding(crate::specs::Reduction::within_limit))]
 fn within_limit(kw: u64) -> Reduced
     ensures { result ≡ within_limit kw }
 {

@@ -128,6 +128,6 @@ each n N = (go (round binary32 false n 8) p, eighths-is (round binary32 false n 
     p = rounded false n 8 n (lit< tt) (omega arith) refl (λ g. absurd (true≢false (sym g)))
 
     go : (x : Float) → Is x n → counts x ≡ true
-    go nan p = absurd p
-    go (inf s) p = absurd p
-    go (fin s m e) p = let t = asked s m e n p N in rw (t.0, t.1.0) t.1.1
+    go nan q = absurd q
+    go (inf s) q = absurd q
+    go (fin s m e) q = let t = asked s m e n q N in rw (t.0, t.1.0) t.1.1

@@ -48,6 +48,7 @@ pub fn whole_kw(x: f32) -> u64
 }
 
 // The value of a bit pattern, a NaN's too, at which `f32::from_bits` is undefined.
+#[tactic(auto, using(crate::proofs::Patterns::nan_of, crate::proofs::Patterns::no_nan))]
 pub fn from_pattern(bits: u32) -> f32
     ensures { result ≡ from_bits binary32 bits }
 {

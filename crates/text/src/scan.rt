@@ -70,6 +70,7 @@ fn word_end(line: &[u8], at: usize) -> usize
 }
 
 // Does it stand between words?
+#[tactic(auto, unfolding(crate::specs::Words::separates))]
 fn is_separator(b: u8) -> bool
     ensures { result ≡ separates b }
 {
@@ -96,6 +97,7 @@ fn decimal(word: &[u8]) -> u64
 }
 
 // A number with one more character behind it.
+#[tactic(auto, unfolding(crate::specs::Words::further))]
 fn then(v: u64, b: u8) -> u64
     ensures { result ≡ further v b }
 {

@@ -12,6 +12,7 @@ pub struct Gathered {
 }
 
 // Makes room for so many bytes more: where less is left, what is gathered is written. With room for the whole buffer all is written.
+#[tactic(auto, unfolding(crate::specs::Room::place_for))]
 pub fn with_room<W: Write>(output: &mut W, out: &[u8], at: usize, room: usize) -> Gathered
     requires at_in_bounds { at ≤ length out.now }
     requires room_in_bounds { room ≤ length out.now }

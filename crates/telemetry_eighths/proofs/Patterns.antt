@@ -3,9 +3,8 @@ use Rattle.std.proofs.Common.{◌≡◌, ℕ, ◌%◌, ◌<◌, ◌≤◌, Bool,
 use lib.Dec.{not_T}
 use lib.Ieee.{Float, nan, inf, fin, binary32, of_bits, nan_bits, is_nan, div}
 use lib.Ieee.Bits.{nan_bits_above, nan_bits_is}
-use Rattle.telemetry_eighths.proofs.from_pattern.Goals as goal
 
-no_nan : (n : ℕ) → n % 0x8000_0000 ≤ 0x7f80_0000 → T (not (nan_bits binary32 n))
+pub no_nan : (n : ℕ) → n % 0x8000_0000 ≤ 0x7f80_0000 → T (not (nan_bits binary32 n))
 no_nan n h =
     subst (λ (b : Bool). T (not b)) (sym (nan_bits_above binary32 n))
     (not_T (ltb 0x7f80_0000 (n % 0x8000_0000)) (λ t. not-le_of_lt (ltb→lt 0x7f80_0000 (n % 0x8000_0000) t) h))
@@ -23,8 +22,5 @@ quotient : div binary32 (of_bits binary32 0) (of_bits binary32 0) ≡ nan
 unfolding div of_bits
 quotient = refl
 
-pub returns-then-bits-gt2139095040 : goal.returns-then-bits-gt2139095040
-returns-then-bits-gt2139095040 c = quotient ∙ is-nan c.args.bits c.if-bits-gt2139095040.true
-
-pub float_from_bits-result : goal.float_from_bits-result
-float_from_bits-result c = no_nan c.args.bits c.if-bits-gt2139095040.false
+pub nan_of : (n : ℕ) → 0x7f80_0000 < n % 0x8000_0000 → div binary32 (of_bits binary32 0) (of_bits binary32 0) ≡ of_bits binary32 n
+nan_of n h = quotient ∙ is-nan n h
