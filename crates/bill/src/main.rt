@@ -6,7 +6,7 @@ ghost use Rattle.text_bill.specs.Text.{room};
 ghost use Rattle.record_layouts.specs.Layout.{longest_record};
 
 use bill_step::Course;
-use std::env;
+use std::env::FillError;
 use std::fs::File;
 use std::io::{self, Read, Write};
 use std::process::ExitCode;
@@ -68,24 +68,43 @@ fn bill_argument(rt: &impl Runtime, name: &str) -> bool {
     }
 }
 
-// Bills what the arguments name, one after another; answers whether all is read and written.
-fn run(rt: &impl Runtime) -> io::Result<bool> {
-    let arguments = env::args(rt)?;
-    if arguments.len() < 2 {
-        return Ok(bill_input(rt, &mut rt.reader()));
-    }
-    for name in arguments.skip(1) {
-        if !bill_argument(rt, &name) {
-            return Ok(false);
+// Bills the input that argument `i` names, whose bytes these are; answers whether all is read and written.
+fn bill_bytes(rt: &impl Runtime, i: usize, name: &[u8]) -> bool {
+    match str::from_utf8(name) {
+        Ok(name) => bill_argument(rt, name),
+        Err(_) => {
+            let _ = eprintln!(rt; "argument {i}: a name that is no UTF-8");
+            false
         }
     }
-    Ok(true)
 }
 
-fn main(rt: HostRuntime) -> io::Result<ExitCode> {
-    if run(&rt)? {
-        Ok(ExitCode::SUCCESS)
+// Bills what the arguments name, one after another; answers whether all is read and written.
+fn run(rt: &impl Runtime) -> bool {
+    let mut name = [0u8; 4096];
+    for i in 1..usize::MAX {
+        match rt.arg(i, &mut name) {
+            Ok(length) => {
+                if !bill_bytes(rt, i, &name[..length]) {
+                    return false;
+                }
+            }
+            Err(FillError::NotPresent) => {
+                return i > 1 || bill_input(rt, &mut rt.reader());
+            }
+            Err(FillError::TooLong) => {
+                let _ = eprintln!(rt; "argument {i}: a name of more than 4096 bytes");
+                return false;
+            }
+        }
+    }
+    true
+}
+
+fn main(rt: HostRuntime) -> ExitCode {
+    if run(&rt) {
+        ExitCode::SUCCESS
     } else {
-        Ok(ExitCode::FAILURE)
+        ExitCode::FAILURE
     }
 }

@@ -6,7 +6,7 @@ ghost use Rattle.std.specs.Prelude.{◌≤◌, length};
 ghost use Rattle.record_layouts.specs.Layout.{longest_record};
 ghost use Rattle.text_record.specs.Line.{line_room};
 
-use std::env;
+use std::env::FillError;
 use std::fs::File;
 use std::io::{self, Read, Write};
 use std::process::ExitCode;
@@ -66,24 +66,43 @@ fn dump_argument(rt: &impl Runtime, name: &str) -> bool {
     }
 }
 
-// Prints what the arguments name, one after another; answers whether all is read and written.
-fn run(rt: &impl Runtime) -> io::Result<bool> {
-    let arguments = env::args(rt)?;
-    if arguments.len() < 2 {
-        return Ok(dump_input(rt, &mut rt.reader()));
-    }
-    for name in arguments.skip(1) {
-        if !dump_argument(rt, &name) {
-            return Ok(false);
+// Prints the input that argument `i` names, whose bytes these are; answers whether all is read and written.
+fn dump_bytes(rt: &impl Runtime, i: usize, name: &[u8]) -> bool {
+    match str::from_utf8(name) {
+        Ok(name) => dump_argument(rt, name),
+        Err(_) => {
+            let _ = eprintln!(rt; "argument {i}: a name that is no UTF-8");
+            false
         }
     }
-    Ok(true)
 }
 
-fn main(rt: HostRuntime) -> io::Result<ExitCode> {
-    if run(&rt)? {
-        Ok(ExitCode::SUCCESS)
+// Prints what the arguments name, one after another; answers whether all is read and written.
+fn run(rt: &impl Runtime) -> bool {
+    let mut name = [0u8; 4096];
+    for i in 1..usize::MAX {
+        match rt.arg(i, &mut name) {
+            Ok(length) => {
+                if !dump_bytes(rt, i, &name[..length]) {
+                    return false;
+                }
+            }
+            Err(FillError::NotPresent) => {
+                return i > 1 || dump_input(rt, &mut rt.reader());
+            }
+            Err(FillError::TooLong) => {
+                let _ = eprintln!(rt; "argument {i}: a name of more than 4096 bytes");
+                return false;
+            }
+        }
+    }
+    true
+}
+
+fn main(rt: HostRuntime) -> ExitCode {
+    if run(&rt) {
+        ExitCode::SUCCESS
     } else {
-        Ok(ExitCode::FAILURE)
+        ExitCode::FAILURE
     }
 }
