@@ -1,7 +1,7 @@
 #!/usr/bin/env python3
 """Brings the repository's own definitions and lemmas to snake case: sumTo becomes sum_to, in specs/, proofs/ and the clauses and comments of src/.
 
-usage: tools/respell.py [FOLDER]    once, at the top of a checkout (or FOLDER), after /opt/rattle/port/port.py
+usage: tools/respell.py [FOLDER]    once, at the top of a checkout (or FOLDER), after the toolchain's port.py
 Types, modules and constructors keep their capital; names of Rust code are in snake case already. It says which names fall together with one that a file has.
 """
 import os
