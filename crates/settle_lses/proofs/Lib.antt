@@ -1,0 +1,2 @@
+-- A turn of the loop.
+pub mod Turn
