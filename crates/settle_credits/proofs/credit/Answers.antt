@@ -1,29 +1,12 @@
 -- `settle_credits::credit` meets its contract. The loop's invariant: the entries before i are credited. Assumes nothing.
-use Rattle.std.specs.Prelude.{ℕ, ◌+◌, ◌<◌, ◌≡◌, refl, List}
-use Rattle.std.proofs.Common.{◌∙◌, arith}
-use Rattle.ids.specs.Ids.{at}
+use Rattle.std.specs.Prelude.{◌≡◌, refl}
+use Rattle.std.proofs.Common.{arith}
 use Rattle.limits.specs.Limits.{registrations}
-use Rattle.allotment.specs.declared.Allotment.{Allotment}
-use Rattle.year.specs.Year.{listed}
-use Rattle.settle_charges.specs.declared.prices.Line.{Line}
-use Rattle.settle_charges.specs.Pricing.{line_at}
-use Rattle.settle_charges.specs.Charging.{line_of, line-is}
-use Rattle.owed.specs.Facts.{Facts}
 use Rattle.owed_laws.specs.Limits.{limits}
 use Rattle.owed_laws.specs.Bounds.{D-le, e-le, e-sum, credit-le}
-use Rattle.settle_table.specs.Places.{spent_row, listed_row}
-use Rattle.settle_table.specs.Rows.{mark, mark-true, mark-false}
-use Rattle.settle_credits.specs.Crediting.{Crediting, excesses, crediting-first, crediting-none, crediting-more, crediting-all, crediting-divisions, credit-most, asks, credit-is}
+use Rattle.settle_credits.specs.Crediting.{excesses, crediting-first, crediting-all, crediting-divisions, credit-most, asks, credit-is}
+use Rattle.settle_credits.proofs.Turn.{line, turned}
 use Rattle.settle_credits.proofs.credit.Goals as goal
-use Rattle.settle_credits.proofs.credit.Goals.{then-get-ne0, else-get-ne0}
-
--- an entry's line and its mark, as the rules have them
-module _ {F : Facts} {k ev i : ℕ} {w₀ w : List ℕ} {a : Allotment} (h : Crediting F k ev i w₀ w a) (l : i < registrations) where
-  line : {x : Line} → x ≡ line_at w i → x ≡ line_of F ev i (at w (spent_row + i))
-  line e = e ∙ line-is h.given l refl
-
-  marked : {x : ℕ} → x ≡ at w (listed_row + i) → x ≡ mark (listed (F.event ev).listing i)
-  marked e = e ∙ h.given.shares.listed.is i l
 
 pub sum-total-requires : goal.sum-total-requires
 sum-total-requires c =
@@ -52,16 +35,7 @@ add_at-requires c =
 
 pub loop-i-preserved : goal.loop-i-preserved
 loop-i-preserved c =
-    let h = c.loop-i.invariant in
-    let t = c.loop-i-test.true in
-    elim c.if-get-ne0.branch [
-      | then-get-ne0 w ↦
-          let e = line h t w.line_at-line.ensures in
-          let g = rw e at w.share-share.ensures in
-          let r = credit-is h g c.days_to-days.ensures (rw e at w.limit-most.ensures) w.lesser-credit.ensures in
-          rw (w.work-is, w.allotment-is) (crediting-more h g t (mark-true _ (marked h t c.get.ensures) w.if-get-ne0.true) ((limits c.requires.valid_cells.sound).seller c.loop-i.i) r (rw e at w.add_at.ensures))
-      | else-get-ne0 w ↦ rw (w.work-is, w.allotment-is) (crediting-none h t (mark-false _ (marked h t c.get.ensures) w.if-get-ne0.false))
-    ]
+    turned c.loop-i.invariant c.loop-i-test.true (limits c.requires.valid_cells.sound) c.days_to-days.ensures refl (grind arith)
 
 pub returns : goal.returns
 returns c =
