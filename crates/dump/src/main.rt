@@ -6,11 +6,11 @@ ghost use Rattle.std.specs.Prelude.{◌≤◌, length};
 ghost use Rattle.record_layouts.specs.Layout.{longest_record};
 ghost use Rattle.text_record.specs.Line.{line_room};
 
-use std::env::FillError;
 use std::fs::File;
 use std::io::{self, Read, Write};
 use std::process::ExitCode;
 use std::rt::Runtime;
+use text_stream::Argument;
 
 // Prints one record after another, up to the end or a number that ends the file; answers whether all is read and written.
 // A failed read or write ends it with nothing more written. No contract can name what is read or written: that
@@ -66,34 +66,18 @@ fn dump_argument(rt: &impl Runtime, name: &str) -> bool {
     }
 }
 
-// Prints the input that argument `i` names, whose bytes these are; answers whether all is read and written.
-fn dump_bytes(rt: &impl Runtime, i: usize, name: &[u8]) -> bool {
-    match str::from_utf8(name) {
-        Ok(name) => dump_argument(rt, name),
-        Err(_) => {
-            let _ = eprintln!(rt; "argument {i}: a name that is no UTF-8");
-            false
-        }
-    }
-}
-
 // Prints what the arguments name, one after another; answers whether all is read and written.
 fn run(rt: &impl Runtime) -> bool {
-    let mut name = [0u8; 4096];
+    let mut buffer = [0u8; 4096];
     for i in 1..usize::MAX {
-        match rt.arg(i, &mut name) {
-            Ok(length) => {
-                if !dump_bytes(rt, i, &name[..length]) {
+        match text_stream::read_argument(rt, i, &mut buffer) {
+            Argument::Name(name) => {
+                if !dump_argument(rt, name) {
                     return false;
                 }
             }
-            Err(FillError::NotPresent) => {
-                return i > 1 || dump_input(rt, &mut rt.reader());
-            }
-            Err(FillError::TooLong) => {
-                let _ = eprintln!(rt; "argument {i}: a name of more than 4096 bytes");
-                return false;
-            }
+            Argument::Absent => return i > 1 || dump_input(rt, &mut rt.reader()),
+            Argument::Refused => return false,
         }
     }
     true

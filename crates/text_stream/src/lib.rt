@@ -6,8 +6,10 @@ ghost use Rattle.std.proofs.Math.Seq.{paste};
 ghost use Rattle.text.specs.Find.{Ends};
 ghost use Rattle.text_stream.specs.Filled.{Behind, Filled, LineWithin};
 
+mod arguments;
 mod output;
 
+pub use arguments::{Argument, read_argument};
 pub use output::{finish, with_room};
 use std::io::Read;
 
