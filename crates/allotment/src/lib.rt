@@ -49,15 +49,13 @@ impl Allotment {
         }
         let passed = self.passed + weight;
         let quotient = self.amount * passed / self.total;
-        let divisions = self.divisions + 1;
         Share {
             value: quotient - self.quotient,
             next: Allotment {
-                amount: self.amount,
-                total: self.total,
                 passed,
                 quotient,
-                divisions,
+                divisions: self.divisions + 1,
+                ..self
             },
         }
     }

@@ -11,15 +11,14 @@ pub struct Totals {
     pub written: usize,
 }
 
-// Bills a record file from a new book: up to its end, an answer that ends it, or the end of the numbers.
+// Bills a record file from a new book: up to its end, an answer that ends it, or the end of the numbers. The index is the count of answers.
 pub fn bill(records: &[u8], numbers: &mut [u64], statements: &mut [u8]) -> Totals
     ensures { FileLeaves records.now numbers statements result }
 {
     let mut year = book::new_book();
-    let mut answered: usize = 0;
     let mut used: usize = 0;
     let mut written: usize = 0;
-    while answered < numbers.len() {
+    for answered in 0..numbers.len() {
         if used == records.len() {
             return Totals {
                 answered,
@@ -28,21 +27,20 @@ pub fn bill(records: &[u8], numbers: &mut [u64], statements: &mut [u8]) -> Total
             };
         }
         let posted = book::post(&mut year, &records[used..], &mut statements[written..]);
-        let number = posted.number;
+        let number = book::number_of(posted);
         numbers[answered] = number;
-        answered += 1;
-        used += posted.used;
-        written += posted.written;
+        used += book::used_of(posted);
+        written += book::written_of(posted);
         if record_file::ends(number) {
             return Totals {
-                answered,
+                answered: answered + 1,
                 used,
                 written,
             };
         }
     }
     Totals {
-        answered,
+        answered: numbers.len(),
         used,
         written,
     }

@@ -38,20 +38,6 @@ gather xs f i acc l m b e =
     rw n (in_a_row xs (8 * f) (8 * (i - f)) 8 acc (get_or xs i 0) (omega arith) e (rw at (sym (byte-field xs i b))))
 
 -- four bytes
-module _ (a b c d : ℕ) (ha : a < 2 ^ 8) (hb : b < 2 ^ 8) (hc : c < 2 ^ 8) (hd : d < 2 ^ 8) where
-  pub quad : bit_or (bit_or (bit_or ((a * 2 ^ 24) % 2 ^ 64) ((b * 2 ^ 16) % 2 ^ 64)) ((c * 2 ^ 8) % 2 ^ 64)) d ≡ ((a * 2 ^ 8 + b) * 2 ^ 8 + c) * 2 ^ 8 + d
-  quad =
-      let two : bit_or (a * 2 ^ 24) (b * 2 ^ 16) ≡ (a * 2 ^ 8 + b) * 2 ^ 16 = or_shifted a 24 (b * 2 ^ 16) (omega arith) ∙ omega arith in
-      let three : bit_or ((a * 2 ^ 8 + b) * 2 ^ 16) (c * 2 ^ 8) ≡ ((a * 2 ^ 8 + b) * 2 ^ 8 + c) * 2 ^ 8 = or_shifted (a * 2 ^ 8 + b) 16 (c * 2 ^ 8) (omega arith) ∙ omega arith in
-      rw (
-        shl_exact {a = a} 8 24 64 ha (omega arith),
-        shl_exact {a = b} 8 16 64 hb (omega arith),
-        shl_exact {a = c} 8 8 64 hc (omega arith),
-        two,
-        three,
-      )
-      (or_shifted ((a * 2 ^ 8 + b) * 2 ^ 8 + c) 8 d hd)
-
 pub quad-field : (xs : List ℕ) (i : ℕ) → ((k : ℕ) → get_or xs k 0 < 2 ^ 8)
     → field_at xs (8 * i) 32 ≡ ((get_or xs i 0 * 2 ^ 8 + get_or xs (i + 1) 0) * 2 ^ 8 + get_or xs (i + 2) 0) * 2 ^ 8 + get_or xs (i + 3) 0
 quad-field xs i b =

@@ -43,7 +43,7 @@ impl Cursor {
     {
         let end = self.at + width;
         Field {
-            value: value,
+            value,
             next: Cursor { at: end },
         }
     }
@@ -66,7 +66,7 @@ impl Cursor {
         self.field(words::cut(word, self.at, width), width)
     }
 
-    // The fields of the widths ws from here on, so many bits, which lie in one word of eight bytes, into out from a place on; the cursor behind them. It goes through the word, whose bits it counts from the first on, up to their end.
+    // The fields of the widths ws from here on, so many bits, which lie in one word of eight bytes, into out from a place on; the cursor behind them. The word is read once, and each field cut out of it.
     pub fn read_fields(
         self,
         bytes: &[u8],
@@ -84,18 +84,12 @@ impl Cursor {
         let first = self.at / 8;
         let word = words::ahead(bytes, first);
         let mut c = Cursor { at: self.at % 8 };
-        let end = c.at + bits;
-        let mut i = 0;
-        while c.at != end {
-            let w = ws[i] as usize;
-            let f = c.cut(word, w);
+        for (i, w) in ws.iter().enumerate() {
+            let f = c.cut(word, *w as usize);
             out[to + i] = f.value;
             c = f.next;
-            i += 1;
         }
-        Cursor {
-            at: 8 * first + c.at,
-        }
+        Cursor { at: self.at + bits }
     }
 
     // The fields of items from here on, each with fields of the widths ws, into out from a place on; the cursor behind them.
@@ -116,11 +110,9 @@ impl Cursor {
     {
         let mut c = self;
         let mut at = to;
-        let mut k = 0;
-        while k < items.count {
+        for k in 0..items.count {
             c = c.read_fields(bytes, ws, items.bits, out, at);
             at += ws.len();
-            k += 1;
         }
         c
     }

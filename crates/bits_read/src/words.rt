@@ -2,29 +2,21 @@
 ghost use Rattle.std.specs.Prelude.{◌≡◌, ◌+◌, ◌-◌, ◌*◌, ◌/◌, ◌%◌, ◌^◌, ◌≤◌, ◌<◌, length};
 ghost use Rattle.bits.specs.Bits.{field_at};
 
-fn wide(b: u8) -> u64
-    ensures { result ≡ b }
-{
-    b as u64
-}
-
-// The four bytes from i on: as the compiler sees, one load.
-fn four(bytes: &[u8], i: usize) -> u64
-    requires { i + 4 ≤ length bytes.now }
-    ensures { result ≡ field_at bytes.now (8 * i) 32 }
-{
-    (wide(bytes[i]) << 24)
-        | (wide(bytes[i + 1]) << 16)
-        | (wide(bytes[i + 2]) << 8)
-        | wide(bytes[i + 3])
-}
-
-// The eight bytes from i on.
+// The eight bytes from i on: as the compiler sees, one load.
 fn eight(bytes: &[u8], i: usize) -> u64
     requires { i + 8 ≤ length bytes.now }
     ensures { result ≡ field_at bytes.now (8 * i) 64 }
 {
-    (four(bytes, i) << 32) | four(bytes, i + 4)
+    u64::from_be_bytes([
+        bytes[i],
+        bytes[i + 1],
+        bytes[i + 2],
+        bytes[i + 3],
+        bytes[i + 4],
+        bytes[i + 5],
+        bytes[i + 6],
+        bytes[i + 7],
+    ])
 }
 
 // The bytes from first up to last, at most eight.
@@ -34,11 +26,9 @@ fn gathered(bytes: &[u8], first: usize, last: usize) -> u64
     requires last_in_bounds { last ≤ length bytes.now }
     ensures { result ≡ field_at bytes.now (8 * first) (8 * (last - first)) }
 {
-    let mut i = first;
     let mut acc: u64 = 0;
-    while i < last {
-        acc = (acc << 8) | wide(bytes[i]);
-        i += 1;
+    for byte in &bytes[first..last] {
+        acc = (acc << 8) | u64::from(*byte);
     }
     acc
 }

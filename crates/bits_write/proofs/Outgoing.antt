@@ -1,48 +1,89 @@
--- A word goes out byte by byte, from its top: what each byte leaves as it was.
-use mathlib.Core.Path.{◌≡◌, refl, ◌∙◌}
-use mathlib.Core.List.{List}
-use Prim.Native.Nat.{ℕ, ◌+◌, ◌*◌, ◌/◌, ◌%◌, ◌^◌, ◌≤◌, ◌<◌}
-use native.Mathlib.Nat.{zero-add, mod-lt, mod-eq_of_lt}
+-- The lowest bytes of a number, the highest of them first, spell it.
+use mathlib.Core.List.{List, ◌++◌}
+use mathlib.Core.Path.{◌≡◌, refl, ap, ◌∙◌}
+use Prim.Native.Nat.{ℕ, zero, suc, ◌+◌, ◌-◌, ◌*◌, ◌/◌, ◌%◌, ◌^◌, ◌≤◌, ◌<◌}
+use native.Mathlib.Nat.{zero-add, add-zero, suc-add, mod-lt, mod-eq_of_lt}
 use native.Mathlib.Omega.{arith}
-use lib.ListN.{length, get_or, set, length-set}
+use lib.ListN.{length, get_or, take, drop, length-append, get_or-append}
 use lib.Pow.{pow_pos, pow-add, mod-pow-add}
-use lib.Seq.{get_or-set_same, get_or-set_other}
-use Rattle.bits.specs.Bits.{bit_at, field_at}
-use Rattle.bits.specs.BitLaws.{field-split, field-cong, byte-field}
+use Rattle.std.specs.Int.{byte_at, bytes_high_first}
+use Rattle.std.proofs.Common.{length-drop, length-take-le, get_or-drop, take_all}
+use Rattle.std.proofs.lemmas.List.{take_at, get_or-append_right}
+use Rattle.bits.specs.Bits.{number, field_at}
+use Rattle.bits.specs.BitLaws.{field-split, byte-field, agree-take, agree-field}
+use Rattle.bits_write.specs.Held.{Out}
 
--- all but the lowest left of the n bits of a word have gone out, into the bytes from start up to at
-pub record Going (old new : List ℕ) (start at word n left : ℕ) : Type 0 where
-  pub long : length new ≡ length old
-  pub from : start ≤ at
-  pub place : 8 * at + left ≡ 8 * start + n
-  pub spells : field_at new 0 (8 * at) * 2 ^ left + word % 2 ^ left ≡ field_at old 0 (8 * start) * 2 ^ n + word
-  pub after : (i : ℕ) → at ≤ i → get_or new i 0 ≡ get_or old i 0
+bytes-pow : (k : ℕ) → 256 ^ k ≡ 2 ^ (8 * k)
+bytes-pow zero = refl
+bytes-pow (suc k) = let e : 8 * suc k ≡ 8 * k + 8 = omega arith in rw (e, pow-add 2 (8 * k) 8, ← bytes-pow k) (omega arith)
 
-pub out_none : (xs : List ℕ) (at word n : ℕ) → word < 2 ^ n → Going xs xs at at word n n
-out_none xs at word n h =
-    record { long = refl; from = omega arith; place = refl; spells = rw (mod-eq_of_lt h); after = λ i l. refl }
+byte-is : (k v : ℕ) → byte_at k v ≡ v / 2 ^ (8 * k) % 2 ^ 8
+byte-is zero v = omega arith
+byte-is (suc k) v = rw (← bytes-pow (suc k))
 
--- the numbers before and after a byte b, with K = 2 ^ k
-same_number : (f b m K r : ℕ) → f * (2 ^ 8 * K) + (b * K + m) ≡ r → (f * 2 ^ 8 + b) * K + m ≡ r
-same_number f b m K r e = omega arith
+bytes-long : (n v : ℕ) → length (bytes_high_first n v) ≡ n
+bytes-long zero v = refl
+bytes-long (suc n) v = omega (arith, bytes-long n v)
 
-pub out-more : {old cur : List ℕ} {start at word n left : ℕ} (k : ℕ) → left ≡ 8 + k → at < length cur → Going old cur start at word n left
-    → Going old (set cur at (word / 2 ^ k % 2 ^ 8)) start (at + 1) word n k
-unfolding bit_at
-out-more {old} {cur} {start} {at} {word} {n} {left} k e h f =
-    let b = word / 2 ^ k % 2 ^ 8 in
-    let new = set cur at b in
-    let here : get_or new at 0 ≡ b = get_or-set_same cur at b 0 h in
-    let small : get_or new at 0 < 2 ^ 8 = rw here (mod-lt (word / 2 ^ k) (pow_pos 8)) in
-    let kept : field_at new 0 (8 * at) ≡ field_at cur 0 (8 * at) =
-    field-cong new cur 0 (8 * at) (λ q l m. rw (get_or-set_other cur at (q / 8) b 0 (λ z. omega arith))) in
-    let next : 8 * (at + 1) ≡ 8 * at + 8 = omega arith in
-    let more : field_at new 0 (8 * (at + 1)) ≡ field_at cur 0 (8 * at) * 2 ^ 8 + b =
-    rw (next, field-split new 0 (8 * at) 8, zero-add (8 * at), byte-field new at small, here, kept) in
-    record {
-      long = length-set cur at b ∙ f.long;
-      from = omega (arith, f.from);
-      place = omega (arith, f.place);
-      spells = rw more (same_number (field_at cur 0 (8 * at)) b (word % 2 ^ k) (2 ^ k) _ (rw (e, mod-pow-add word 8 k, pow-add 2 8 k) at f.spells));
-      after = λ i l. get_or-set_other cur at i b 0 (λ z. omega arith) ∙ f.after i (omega arith);
-    }
+-- behind k bytes are the lowest n
+bytes-behind : (k n v : ℕ) → drop k (bytes_high_first (k + n) v) ≡ bytes_high_first n v
+bytes-behind zero n v = rw zero-add
+bytes-behind (suc k) n v = rw suc-add (bytes-behind k n v)
+
+-- the last n of a word's eight bytes
+pub last_bytes : (n v : ℕ) → n ≤ 8 → take (8 - (8 - n)) (drop (8 - n) (bytes_high_first 8 v)) ≡ bytes_high_first n v
+last_bytes n v l =
+    let all : 8 - n + n ≡ 8 = omega arith in
+    let left : 8 - (8 - n) ≡ n = omega arith in
+    let behind = rw all at (bytes-behind (8 - n) n v) in
+    let whole = take_all n (bytes_high_first n v) (omega (arith, bytes-long n v)) in
+    rw left (ap (take n) behind ∙ whole)
+
+spelt : (n v at : ℕ) (xs : List ℕ) → ((i : ℕ) → i < n → get_or xs (at + i) 0 ≡ get_or (bytes_high_first n v) i 0) → field_at xs (8 * at) (8 * n) ≡ v % 2 ^ (8 * n)
+unfolding number
+spelt zero v at xs h = omega arith
+spelt (suc n) v at xs h =
+    let head : get_or xs at 0 ≡ v / 2 ^ (8 * n) % 2 ^ 8 = rw (add-zero at) at (h 0 (omega arith)) ∙ byte-is n v in
+    let small : get_or xs at 0 < 2 ^ 8 = rw head (mod-lt (v / 2 ^ (8 * n)) (pow_pos 8)) in
+    let rest = spelt n v (at + 1) xs (λ i l. let p : at + 1 + i ≡ at + suc i = omega arith in rw p (h (suc i) (omega arith))) in
+    let long : 8 * suc n ≡ 8 + 8 * n = omega arith in
+    let next : 8 * at + 8 ≡ 8 * (at + 1) = omega arith in
+    rw (long, field-split xs (8 * at) 8 (8 * n), byte-field xs at small, head, next, rest, mod-pow-add v 8 (8 * n))
+
+-- they are laid over n bytes from a place on
+module _ (old : List ℕ) (at n v : ℕ) (room : at + n ≤ length old) (small : v < 2 ^ (8 * n)) where
+  abbrev front : List ℕ
+  front = take at old
+
+  abbrev behind : List ℕ
+  behind = drop n (drop at old)
+
+  abbrev new : List ℕ
+  new = front ++ (bytes_high_first n v ++ behind)
+
+  front-long : length front ≡ at
+  front-long = length-take-le at old (omega arith)
+
+  inside : (i : ℕ) → i < n → get_or new (at + i) 0 ≡ get_or (bytes_high_first n v) i 0
+  inside i l =
+      let j : at + i - at ≡ i = omega arith in
+      get_or-append_right front (bytes_high_first n v ++ behind) at (at + i) 0 front-long (omega arith) ∙ rw j (get_or-append (bytes_high_first n v) behind 0 i (omega (arith, bytes-long n v)))
+
+  kept : field_at new 0 (8 * at) ≡ field_at old 0 (8 * at)
+  kept = agree-field (agree-take new old at (take_at front (bytes_high_first n v ++ behind) at front-long)) 0 (8 * at) (omega arith) (omega arith)
+
+  after : (i : ℕ) → at + n ≤ i → get_or new i 0 ≡ get_or old i 0
+  after i l =
+      let j : at + (n + (i - at - n)) ≡ i = omega arith in
+      get_or-append_right front (bytes_high_first n v ++ behind) at i 0 front-long (omega arith)
+      ∙ get_or-append_right (bytes_high_first n v) behind n (i - at) 0 (bytes-long n v) (omega arith)
+      ∙ get_or-drop n (drop at old) (i - at - n) 0 ∙ get_or-drop at old (n + (i - at - n)) 0 ∙ ap (λ (k : ℕ). get_or old k 0) j
+
+  pub gone : Out old new at n v
+  gone =
+      let e : 8 * (at + n) ≡ 8 * at + 8 * n = omega arith in
+      record {
+        long = omega (arith, length-append front (bytes_high_first n v ++ behind), length-append (bytes_high_first n v) behind, bytes-long n v, length-drop n (drop at old), length-drop at old, front-long);
+        spells = rw (e, field-split new 0 (8 * at) (8 * n), kept, zero-add (8 * at), spelt n v at new inside, mod-eq_of_lt small);
+        after = after;
+      }

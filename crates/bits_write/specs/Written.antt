@@ -1,5 +1,5 @@
 -- What a writer writes: a number bit by bit, its whole words to a list of bytes, and the bits behind them held back.
-use Rattle.std.specs.Prelude.{◌≡◌, List, [], ◌∷◌, ℕ, ◌+◌, ◌-◌, ◌*◌, ◌^◌, ◌≤◌, ◌<◌, length, get_or}
+use Rattle.std.specs.Prelude.{◌≡◌, List, [], ◌∷◌, ℕ, ◌+◌, ◌-◌, ◌*◌, ◌^◌, ◌≤◌, length, get_or}
 use Rattle.bits_write.specs.declared.Writer.{Writer}
 use Rattle.bits.specs.Bits.{field_at}
 use Rattle.bits.specs.Table.{total, times}
@@ -18,22 +18,10 @@ written_bits p = 8 * p.at + p.waiting
 abbrev pub written : List ℕ → Writer → ℕ
 written xs p = field_at xs 0 (8 * p.at) * 2 ^ p.waiting + p.rest
 
--- n bytes from a place on are a number's, and those behind them are as they were
-pub record Out (old new : List ℕ) (at n v : ℕ) : Type 0 where
-  pub long : length new ≡ length old
-  pub spells : field_at new 0 (8 * (at + n)) ≡ field_at old 0 (8 * at) * 2 ^ (8 * n) + v
-  pub after : (i : ℕ) → at + n ≤ i → get_or new i 0 ≡ get_or old i 0
-
--- less than a word of eight bytes is held back
-pub record Ready (p : Writer) : Type 0 where
-  pub part : p.waiting < 64
-  pub small : p.rest < 2 ^ p.waiting
-
 -- the writer p has gone on to q, by the w bits of v; the bytes from its next one on are as they were
 pub record Wrote (old new : List ℕ) (p q : Writer) (w v : ℕ) : Type 0 where
   pub long : length new ≡ length old
   pub onward : p.at ≤ q.at
-  pub ready : Ready q
   pub ends : written_bits q ≡ written_bits p + w
   pub spells : written new q ≡ written old p * 2 ^ w + v
   pub after : (i : ℕ) → q.at ≤ i → get_or new i 0 ≡ get_or old i 0

@@ -11,7 +11,7 @@ use Rattle.bits.specs.TableLaws.{total-append, valid-split}
 use Rattle.bits.specs.ItemLaws.{length-item, times_more, times-split}
 use Rattle.bits.specs.Pack.{bytes_for, encode, filling}
 use Rattle.bits.specs.PackLaws.{encode-unique}
-use Rattle.bits_write.specs.Written.{joined, written_bits, written, Ready, Wrote, Finished}
+use Rattle.bits_write.specs.Written.{joined, written_bits, written, Wrote, Finished}
 
 joined-lt : (ws vs : List ℕ) → Valid ws vs → joined ws vs < 2 ^ total ws
 unfolding joined
@@ -76,8 +76,8 @@ joined-fields xs p (w ∷ ws) (v ∷ vs) a e f =
     let rest : field_at xs (p + w) t ≡ joined ws vs = sym (low (field_at xs p w) t l) ∙ ap (λ (x : ℕ). x % 2 ^ t) both ∙ low v t m in
     rw (first, joined-fields xs (p + w) ws vs a.1 (omega arith) rest)
 
-pub written_none : (xs : List ℕ) (p : Writer) → Ready p → Wrote xs xs p p 0 0
-written_none xs p r = record { long = refl; onward = omega arith; ready = r; ends = omega arith; spells = omega arith; after = λ i l. refl }
+pub written_none : (xs : List ℕ) (p : Writer) → Wrote xs xs p p 0 0
+written_none xs p = record { long = refl; onward = omega arith; ends = omega arith; spells = omega arith; after = λ i l. refl }
 
 -- one number after another
 pub written-join : {old cur new : List ℕ} {p q r : Writer} {a u b v : ℕ} → Wrote old cur p q a u → Wrote cur new q r b v → Wrote old new p r (a + b) (u * 2 ^ b + v)
@@ -85,7 +85,6 @@ written-join {old} {cur} {new} {p} {q} {r} {a} {u} {b} {v} f g =
     record {
       long = g.long ∙ f.long;
       onward = omega (arith, f.onward, g.onward);
-      ready = g.ready;
       ends = omega (arith, f.ends, g.ends);
       spells = g.spells ∙ ap (λ (x : ℕ). x * 2 ^ b + v) f.spells ∙ rw (pow-add 2 a b) (omega arith);
       after = λ i l. g.after i l ∙ f.after i (omega (arith, g.onward));

@@ -3,62 +3,75 @@
 
 ghost use Rattle.std.specs.Prelude.{◌≡◌};
 ghost use Rattle.year.specs.Year.{new_year};
-ghost use Rattle.year_cells.specs.Layout.{year_in, ValidCells};
-ghost use Rattle.book.specs.Takes.{Takes};
+ghost use Rattle.year_cells.specs.Layout.{year_in};
+ghost use Rattle.refusals.specs.Numbers.{number_of};
+ghost use Rattle.book.specs.Takes.{Takes, used_of, written_of};
 
 use book_accept::accept;
-use question_number::number_of;
-use year_cells::{Cells, LISTING_WIDTH};
+use question_number::ask;
+use refusals::Refused;
+use year_cells::{LISTING_WIDTH, YearCells};
 
-// A call's answer: 0 or the number of the question that failed, the bytes consumed, and the bytes of the statement that
-// it left in the buffer, 0 where it left none.
+// What taking a record did: the bytes consumed, and the bytes of the statement that it left in the buffer, 0 where it
+// left none.
 #[derive(Clone, Copy)]
 pub struct Posted {
-    pub number: u64,
     pub used: usize,
     pub written: usize,
 }
 
-// A new book, which has no year.
-pub fn new_book() -> Cells
-    ensures equals { year_in result ≡ new_year }
-    ensures valid { ValidCells result }
+// The number of a call's answer: 0, or that of the question that failed.
+pub fn number_of(answer: Result<Posted, Refused>) -> u64
+    ensures { result ≡ number_of answer }
 {
-    year_cells::new_year()
+    match answer {
+        Ok(_) => 0,
+        Err(refused) => refused.refusal.number(),
+    }
+}
+
+// The bytes that a call consumed, by its answer.
+pub fn used_of(answer: Result<Posted, Refused>) -> usize
+    ensures { result ≡ used_of answer }
+{
+    match answer {
+        Ok(posted) => posted.used,
+        Err(refused) => refused.used,
+    }
+}
+
+// The bytes of the statement that a call left, by its answer.
+pub fn written_of(answer: Result<Posted, Refused>) -> usize
+    ensures { result ≡ written_of answer }
+{
+    match answer {
+        Ok(posted) => posted.written,
+        Err(_) => 0,
+    }
+}
+
+// A new book, which has no year.
+pub fn new_book() -> YearCells
+    ensures { year_in result.cells ≡ new_year }
+{
+    YearCells::new()
 }
 
 // Takes a record. The buffer is for a close's statement: 354 bytes are enough.
-pub fn post(year: &mut Cells, bytes: &[u8], buffer: &mut [u8]) -> Posted
-    requires { ValidCells year.old }
+pub fn post(year: &mut YearCells, bytes: &[u8], buffer: &mut [u8]) -> Result<Posted, Refused>
     ensures posts { Takes year bytes.now buffer result }
-    ensures refused { (result.number ≡ 0 → ⊥) → year.new ≡ year.old }
-    ensures valid { ValidCells year.new }
+    ensures refused { (number_of result ≡ 0 → ⊥) → year.new.cells ≡ year.old.cells }
 {
     let mut values = [0u64; record_numbers::NUMBERS];
-    let parsed = record_parse::parse(bytes, &mut values);
+    let parsed = record_parse::parse(bytes, &mut values)?;
     let used = parsed.used;
-    if parsed.number != 0 {
-        return Posted {
-            number: parsed.number,
-            used: used,
-            written: 0,
-        };
-    }
     let head = record_heads::head_of(&values);
     let mut listing = [0u64; LISTING_WIDTH];
     record_listing::spread(&values, &mut listing);
-    let number = number_of(year, head, &listing, buffer.len());
-    if number != 0 {
-        return Posted {
-            number: number,
-            used: used,
-            written: 0,
-        };
+    // by `if let`: with `map_err` and `?` the clauses of its closure would have to be proved too, which is no plainer
+    if let Err(refusal) = ask(year, head, &listing, buffer.len()) {
+        return Err(Refused { refusal, used });
     }
     let written = accept(year, head, &listing, buffer);
-    Posted {
-        number: 0,
-        used: used,
-        written: written,
-    }
+    Ok(Posted { used, written })
 }

@@ -4,22 +4,21 @@
 ghost use Rattle.std.specs.Prelude.{◌≡◌, true, ◌≤◌, length};
 ghost use Rattle.ids.specs.Ids.{at};
 ghost use Rattle.limits.specs.Limits.{nominated_limit};
-ghost use Rattle.year_cells.specs.Places.{listing_width};
 ghost use Rattle.question_list.specs.Questions.{q16};
-ghost use Rattle.year_cells.specs.Layout.{listing_at, year_in, ValidCells};
+ghost use Rattle.year_cells.specs.Layout.{listing_at, year_in};
 ghost use Rattle.book_recorded.specs.After.{registration_of};
 ghost use Rattle.book_accept.specs.Leaves.{year_by_row, buffer_by, written_by};
 ghost use Rattle.book_accept.specs.Suits.{Suits};
 
 use crate::month_end::close_month;
 use record_heads::{Head, RegistrationHead};
-use units::Nominated;
+use units::{Kilowatts, Nominated};
 use year::Registration;
-use year_cells::Cells;
+use year_cells::{LISTING_WIDTH, YearCells};
 
 mod month_end;
 
-// The registration that a registration record makes.
+// The registration that a registration record makes. (No `From`: it cannot ask that `committed` is within its limit.)
 fn registration_of(r: RegistrationHead) -> Registration
     requires { r.committed ≤ nominated_limit }
     ensures { result ≡ registration_of r }
@@ -31,21 +30,23 @@ fn registration_of(r: RegistrationHead) -> Registration
         area: r.area,
         zone: r.zone,
         product: r.product,
-        committed: committed,
+        committed,
         rate: r.rate,
     }
 }
 
-// Changes the year by an accepted record; a close leaves its statement in the buffer. Answers the statement's bytes.
-pub fn accept(year: &mut Cells, head: Head, listing: &[u64], buffer: &mut [u8]) -> usize
-    requires valid_cells { ValidCells year.old }
-    requires listing_len { length listing.now ≡ listing_width }
-    requires suits { Suits (year_in year.old) (listing_at (at listing.now)) head }
+// Changes the year by an accepted record; a close leaves its statement in the buffer. Answers the statement's bytes, 0 of any other kind.
+pub fn accept(
+    year: &mut YearCells,
+    head: Head,
+    listing: &[u64; LISTING_WIDTH],
+    buffer: &mut [u8],
+) -> usize
+    requires suits { Suits (year_in year.old.cells) (listing_at (at listing.now)) head }
     requires head_value { q16 (length buffer.old) head ≡ true }
-    ensures equals { year_in year.new ≡ year_by_row year.old listing.now head }
-    ensures valid { ValidCells year.new }
-    ensures leaves { buffer.new ≡ buffer_by (year_in year.old) head buffer.old }
-    ensures writes { result ≡ written_by (year_in year.old) head }
+    ensures equals { year_in year.new.cells ≡ year_by_row year.old.cells listing.now head }
+    ensures leaves { buffer.new ≡ buffer_by (year_in year.old.cells) head buffer.old }
+    ensures writes { result ≡ written_by (year_in year.old.cells) head }
 {
     match head {
         Head::Opening(o) => {

@@ -1,13 +1,14 @@
 // Days to date, due months, and when a product may be called or tested.
 #![tactic(auto)]
 
-ghost use Rattle.std.specs.Prelude.{◌≡◌, ◌≤◌, max};
+ghost use Rattle.std.specs.Prelude.{◌≡◌, ◌≤◌};
 ghost use Rattle.limits.specs.Limits.{close_limit};
 ghost use Rattle.calendar.specs.Calendar.{days, due, between, summer, callable, testable};
 
 use limits::CLOSES;
 
-// The products that have months of their own; an Annual one may always be called.
+// The products that have months of their own; an Annual one may always be called. Numbers, no enum: `due_month`, `callable` and `testable`
+// answer every number, as `due`, `callable` and `testable` of specs/Calendar.antt do.
 pub const LIMITED: u64 = 0;
 
 pub const EXTENDED_SUMMER: u64 = 1;
@@ -30,28 +31,23 @@ pub fn days(leap: u64, month: u64) -> u64
     if month < 9 { end } else { end + leap }
 }
 
-fn later(a: u64, b: u64) -> u64
-    ensures { result ≡ max a b }
-{
-    if a < b { b } else { a }
-}
-
 // The month from which an event is charged.
+#[tactic(auto, unfolding(crate::specs::Calendar::due))]
 pub fn due_month(product: u64, month: u64) -> u64
     requires { month ≤ 12 }
     ensures { result ≡ due product month }
 {
-    if product == LIMITED {
-        later(5, month + 3)
-    } else {
-        later(13, month + 3)
-    }
+    let earliest = match product {
+        LIMITED => 5,
+        _ => 13,
+    };
+    (month + 3).max(earliest)
 }
 
 fn between(low: u64, high: u64, month: u64) -> bool
     ensures { result ≡ between low high month }
 {
-    low <= month && month <= high
+    (low..=high).contains(&month)
 }
 
 fn summer(month: u64) -> bool
@@ -61,25 +57,24 @@ fn summer(month: u64) -> bool
 }
 
 // May the product be called?
+#[tactic(auto, unfolding(crate::specs::Calendar::callable))]
 pub fn callable(product: u64, month: u64, period: u64) -> bool
     ensures { result ≡ callable product month period }
 {
-    if product == LIMITED {
-        return between(1, 4, month) && period != OFF_PEAK;
+    match product {
+        LIMITED => between(1, 4, month) && period != OFF_PEAK,
+        EXTENDED_SUMMER => summer(month),
+        _ => true,
     }
-    if product == EXTENDED_SUMMER {
-        return summer(month);
-    }
-    true
 }
 
 // May the product be tested?
+#[tactic(auto, unfolding(crate::specs::Calendar::testable))]
 pub fn testable(product: u64, month: u64) -> bool
     ensures { result ≡ testable product month }
 {
-    if product == LIMITED {
-        between(1, 4, month)
-    } else {
-        summer(month)
+    match product {
+        LIMITED => between(1, 4, month),
+        _ => summer(month),
     }
 }

@@ -3,46 +3,42 @@
 #![tactic(auto)]
 
 ghost use Rattle.std.specs.Prelude.{◌≤◌, length};
-ghost use Rattle.year_cells.specs.Layout.{ValidCells};
 
 use bits_read::Cursor;
 use std::io::{self, Read};
 use telemetry::Sample;
-use year_cells::Cells;
+use text_stream::Window;
+use year_cells::YearCells;
 
 fn main(rt: HostRuntime) -> io::Result<()> {
     let mut buffer = [0u8; 65536];
     cases(&rt, &mut rt.reader(), &mut buffer)
 }
 
-// Answers one line after another, up to the end.
+// Answers one line after another, up to the end, or up to a read that fails: the lines at hand are answered still.
 fn cases<R: Read>(rt: &impl Print, input: &mut R, buffer: &mut [u8]) -> io::Result<()> {
     let mut year = book::new_book();
-    let mut window = text_stream::new_window();
+    let mut window = Window::new();
     for _ in 0..u64::MAX {
-        let next = text_stream::next_line(input, buffer, window);
-        window = next.window;
-        let start = window.start;
-        let end = next.end;
-        if start == window.end {
+        let line = match text_stream::next_line(input, buffer, window) {
+            Ok(line) => line,
+            Err(unread) => unread.found,
+        };
+        window = line.rest;
+        if line.start == window.end {
             return Ok(());
         }
-        case(rt, &mut year, &buffer[start..end])?;
-        window = text_stream::past(next);
+        case(rt, &mut year, &buffer[line.start..line.end])?;
     }
     Ok(())
 }
 
 // Makes the call that a line names, known by its first letter, and where that is a t by the name's length too.
-fn case(rt: &impl Print, year: &mut Cells, line: &[u8]) -> io::Result<()>
-    requires { ValidCells year.old }
-    ensures { ValidCells year.new }
-{
-    if line.len() == 0 {
+fn case(rt: &impl Print, year: &mut YearCells, line: &[u8]) -> io::Result<()> {
+    let [name, ..] = line else {
         return Ok(());
-    }
-    let name = line[0];
-    if name == b'n' {
+    };
+    if *name == b'n' {
         *year = book::new_book();
         return Ok(());
     }
@@ -50,18 +46,14 @@ fn case(rt: &impl Print, year: &mut Cells, line: &[u8]) -> io::Result<()>
     if space == line.len() {
         return Ok(());
     }
-    if name == b't' {
-        if space == 4 {
-            take_case(rt, year, &line[space + 1..])?;
-        } else if space == 9 {
-            telemetry_case(rt, &line[space + 1..])?;
-        }
-    } else if name == b'r' {
-        read_case(rt, &line[space + 1..])?;
-    } else if name == b'w' {
-        write_case(rt, &line[space + 1..])?;
+    let operands = &line[space + 1..];
+    match (*name, space) {
+        (b't', 4) => take_case(rt, year, operands),
+        (b't', 9) => telemetry_case(rt, operands),
+        (b'r', _) => read_case(rt, operands),
+        (b'w', _) => write_case(rt, operands),
+        _ => Ok(()),
     }
-    Ok(())
 }
 
 // Prints the line of a call that uses so many bytes and leaves these.
@@ -70,7 +62,7 @@ fn print_call(rt: &impl Print, number: u64, used: usize, bytes: &[u8]) -> io::Re
 {
     let mut out = [0u8; 65536];
     let end = text::call_line(number, used as u64, bytes, &mut out, 0);
-    rt.write_all(&out[0..end])
+    rt.write_all(&out[..end])
 }
 
 // How many bytes a line holds, and the room that it lends.
@@ -85,37 +77,34 @@ fn operands(line: &[u8], bytes: &mut [u8], most: usize) -> Lent
     ensures { (result.count ≤ length bytes.old) × (result.room ≤ most) }
 {
     let end = text::find(line, 0, b' ');
-    let count = text::hex_bytes(&line[0..end], bytes);
+    let count = text::hex_bytes(&line[..end], bytes);
     let mut words = [0u64; 2];
     text::decimals(line, &mut words);
     Lent {
-        count: count,
-        room: text::least(words[1] as usize, most),
+        count,
+        room: most.min(words[1] as usize),
     }
 }
 
 // Answers `take`: a line has the bytes, and the length of the lent buffer.
-fn take_case(rt: &impl Print, year: &mut Cells, line: &[u8]) -> io::Result<()>
-    requires { ValidCells year.old }
-    ensures { ValidCells year.new }
-{
+fn take_case(rt: &impl Print, year: &mut YearCells, line: &[u8]) -> io::Result<()> {
     let mut bytes = [0u8; 4096];
     let mut buffer = [0u8; 4096];
     let lent = operands(line, &mut bytes, 4096);
-    let count = lent.count;
-    let room = lent.room;
-    take(rt, year, &bytes[0..count], &mut buffer[0..room])
+    take(rt, year, &bytes[..lent.count], &mut buffer[..lent.room])
 }
 
 // Takes a record, and prints what the call leaves.
-fn take(rt: &impl Print, year: &mut Cells, bytes: &[u8], buffer: &mut [u8]) -> io::Result<()>
-    requires valid_cells { ValidCells year.old }
+fn take(rt: &impl Print, year: &mut YearCells, bytes: &[u8], buffer: &mut [u8]) -> io::Result<()>
     requires buffer_len_bound { length buffer.old ≤ 4096 }
-    ensures { ValidCells year.new }
 {
-    let posted = book::post(year, bytes, buffer);
-    let written = text::least(posted.written, buffer.len());
-    print_call(rt, posted.number, posted.used, &buffer[0..written])
+    match book::post(year, bytes, buffer) {
+        Ok(posted) => {
+            let written = buffer.len().min(posted.written);
+            print_call(rt, 0, posted.used, &buffer[..written])
+        }
+        Err(refused) => print_call(rt, refused.refusal.number(), refused.used, &[]),
+    }
 }
 
 // Answers `read`: a line has the bytes, and for how many numbers there is room.
@@ -123,31 +112,31 @@ fn read_case(rt: &impl Print, line: &[u8]) -> io::Result<()> {
     let mut bytes = [0u8; 4096];
     let mut row = [0u64; 515];
     let lent = operands(line, &mut bytes, 512);
-    let count = lent.count;
-    let end = lent.room + 3;
-    read(rt, &bytes[0..count], &mut row[0..end])
+    read(rt, &bytes[..lent.count], &mut row[..lent.room + 3])
 }
 
-// Reads a record, and prints what the call leaves: the answer, a `record_parse::ReadAnswer`, goes before the numbers, in one row.
+// Reads a record, and prints what the call leaves: its number and the answer, a `record_parse::Parsed`, go before the numbers, in one row.
 fn read(rt: &impl Print, bytes: &[u8], row: &mut [u64]) -> io::Result<()>
     requires in_bounds { 3 ≤ length row.old }
     requires row_len_bound { length row.old ≤ 515 }
 {
     let room = row.len() - 3;
-    let answer = record_read::read(bytes, &mut row[3..]);
-    row[0] = answer.number;
-    row[1] = answer.count as u64;
-    row[2] = answer.used as u64;
-    print_numbers(rt, row, text::least(answer.count, room) + 3)
+    match record_read::read(bytes, &mut row[3..]) {
+        Ok(parsed) => {
+            row[..3].copy_from_slice(&[0, parsed.count as u64, parsed.used as u64]);
+            print_numbers(rt, &row[..room.min(parsed.count) + 3])
+        }
+        Err(refused) => { print_numbers(rt, &[refused.refusal.number(), 0, refused.used as u64]) }
+    }
 }
 
-// Prints the first so many numbers of a row, in one line.
-fn print_numbers(rt: &impl Print, row: &[u64], count: usize) -> io::Result<()>
-    requires { (count ≤ length row.now) × (count ≤ 515) }
+// Prints numbers in one line.
+fn print_numbers(rt: &impl Print, numbers: &[u64]) -> io::Result<()>
+    requires { length numbers.now ≤ 515 }
 {
     let mut out = [0u8; 65536];
-    let end = text::numbers_line(&row[0..count], &mut out, 0);
-    rt.write_all(&out[0..end])
+    let end = text::numbers_line(numbers, &mut out, 0);
+    rt.write_all(&out[..end])
 }
 
 // Answers `write`: a line has for how many bytes there is room, and the numbers.
@@ -157,18 +146,22 @@ fn write_case(rt: &impl Print, line: &[u8]) -> io::Result<()> {
     if n == 0 {
         return Ok(());
     }
-    let room = text::least(words[0] as usize, 4096);
     let mut bytes = [0u8; 4096];
-    write(rt, &words[1..n], &mut bytes[0..room])
+    let room = bytes.len().min(words[0] as usize);
+    write(rt, &words[1..n], &mut bytes[..room])
 }
 
 // Writes a record, and prints what the call leaves.
 fn write(rt: &impl Print, numbers: &[u64], bytes: &mut [u8]) -> io::Result<()>
     requires { length bytes.old ≤ 4096 }
 {
-    let answer = record_write::write(numbers, bytes);
-    let used = text::least(answer.used, bytes.len());
-    print_call(rt, answer.number, answer.used, &bytes[0..used])
+    match record_write::write(numbers, bytes) {
+        Ok(used) => {
+            let written = bytes.len().min(used);
+            print_call(rt, 0, used, &bytes[..written])
+        }
+        Err(refusal) => print_call(rt, refusal.number(), 0, &[]),
+    }
 }
 
 // Answers `telemetry`: a pair or a direct reduction, told apart by how many values there are.
@@ -197,7 +190,8 @@ fn value_of(word: &[u8]) -> f32 {
 
 // Prints the answer to a sample.
 fn reduce(rt: &impl Print, sample: Sample) -> io::Result<()> {
-    let mut kw: u64 = 0;
-    let number = telemetry::answer(sample, &mut kw);
-    print_numbers(rt, &[number, kw], 2)
+    match telemetry::reduction(sample) {
+        Ok(kw) => print_numbers(rt, &[0, kw]),
+        Err(refusal) => print_numbers(rt, &[refusal.number(), 0]),
+    }
 }

@@ -1,4 +1,5 @@
 // The engine for C: a record read, a record written, a record taken by a book, a whole record file billed, and a reduction made from a sample. Every input is answered.
+// What is answered goes out in numbers and lent places, since C has no Result (the C interface).
 #![tactic(auto)]
 
 ghost use Rattle.std.specs.Prelude.{◌≡◌};
@@ -11,10 +12,10 @@ ghost use Rattle.std.specs.Float.{binary32};
 ghost use Rattle.std.specs.Float.Ieee.{of_bits};
 
 use telemetry::Sample;
-use year_cells::Cells;
+use year_cells::{Cells, YearCells};
 
-// Reads a record: its numbers go into the front of a lent buffer, and how many they are and the bytes of the record go out.
-// Answers 0, or the number of the question that failed, as `record_parse::ReadAnswer` has it.
+// Reads a record: its numbers go into the front of a lent buffer, and how many they are and the bytes of the record go out
+// (`record_parse::Parsed`). Answers 0, or the number of the question that failed (`refusals::Refused`): then both are 0.
 #[unsafe(no_mangle)]
 pub extern "C" fn piermint_read(
     bytes: &[u8],
@@ -24,10 +25,18 @@ pub extern "C" fn piermint_read(
 ) -> u64
     ensures { ReadLeaves bytes.now numbers result count used }
 {
-    let read = record_read::read(bytes, numbers);
-    *count = read.count;
-    *used = read.used;
-    read.number
+    match record_read::read(bytes, numbers) {
+        Ok(parsed) => {
+            *count = parsed.count;
+            *used = parsed.used;
+            0
+        }
+        Err(refused) => {
+            *count = 0;
+            *used = refused.used;
+            refused.refusal.number()
+        }
+    }
 }
 
 // Writes a record: its bytes go into the front of a lent buffer, and how many they are goes out. Answers as a read does.
@@ -35,9 +44,16 @@ pub extern "C" fn piermint_read(
 pub extern "C" fn piermint_write(numbers: &[u64], bytes: &mut [u8], used: &mut usize) -> u64
     ensures { WriteLeaves numbers.now bytes result used }
 {
-    let wrote = record_write::write(numbers, bytes);
-    *used = wrote.used;
-    wrote.number
+    match record_write::write(numbers, bytes) {
+        Ok(wrote) => {
+            *used = wrote;
+            0
+        }
+        Err(asked) => {
+            *used = 0;
+            asked.number()
+        }
+    }
 }
 
 // Makes the cells a new book's, whatever they held.
@@ -46,28 +62,28 @@ pub extern "C" fn piermint_new(cells: &mut Cells)
     ensures equals { year_in cells.new ≡ new_year }
     ensures valid { ValidCells cells.new }
 {
-    *cells = book::new_book();
+    let year = book::new_book();
+    let new = year.cells;
+    *cells = new;
 }
 
 // Takes a record; an accepted close leaves its statement in the buffer. The bytes consumed and the bytes of the statement
 // go out. Answers 0, or the number of the question that failed: then the cells are as they were.
 #[unsafe(no_mangle)]
 pub extern "C" fn piermint_post(
-    cells: &mut Cells,
+    cells: &mut YearCells,
     bytes: &[u8],
     buffer: &mut [u8],
     used: &mut usize,
     written: &mut usize,
 ) -> u64
-    requires { ValidCells cells.old }
     ensures posts { PostLeaves cells bytes.now buffer result used written }
-    ensures refused { (result ≡ 0 → ⊥) → cells.new ≡ cells.old }
-    ensures valid { ValidCells cells.new }
+    ensures refused { (result ≡ 0 → ⊥) → cells.new.cells ≡ cells.old.cells }
 {
     let posted = book::post(cells, bytes, buffer);
-    *used = posted.used;
-    *written = posted.written;
-    posted.number
+    *used = book::used_of(posted);
+    *written = book::written_of(posted);
+    book::number_of(posted)
 }
 
 // Bills a record file from a new book: leaves the records' numbers, and the statements of the accepted closes one after

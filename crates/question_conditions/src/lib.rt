@@ -9,6 +9,8 @@ pub use selections::is_selected;
 
 mod test_entries;
 
+// Enums and no closures: `Meets.fulfils` and `Selects.selects` speak of their cases (what may not change).
+
 // What may be asked of a registration's terms (specs/Meets.antt): is it known and in an area; known and of a zone and
 // product; a seller's; may its product be called in a month and period?
 #[derive(Clone, Copy)]

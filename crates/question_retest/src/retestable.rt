@@ -2,7 +2,7 @@
 ghost use Rattle.std.specs.Prelude.{◌≡◌, ◌≤◌};
 ghost use Rattle.limits.specs.Limits.{nominated_sum};
 ghost use Rattle.owed.specs.Retests.{below_quarter};
-ghost use Rattle.year_cells.specs.Layout.{year_in, ValidCells};
+ghost use Rattle.year_cells.specs.Layout.{year_in};
 ghost use Rattle.record_heads.specs.Within.{GroupWithin};
 ghost use Rattle.question_list.specs.Questions.{may_retest};
 
@@ -10,7 +10,7 @@ use question_conditions::Selection;
 use question_listings::{any_selected, committed_kw};
 use record_heads::RetestHead;
 use units::Nominated;
-use year_cells::Cells;
+use year_cells::YearCells;
 
 // Are failed kW × 4 between 1 and one less than tested kW?
 fn below_quarter(failed: Nominated, tested: Nominated) -> bool
@@ -22,13 +22,12 @@ fn below_quarter(failed: Nominated, tested: Nominated) -> bool
 }
 
 // Question 20: was there a test, has the seller had no retest of it, and did it fail with less than a quarter, and some?
-pub fn may_retest(year: &Cells, t: RetestHead) -> bool
-    requires valid_cells { ValidCells year.now }
+pub fn may_retest(year: &YearCells, t: RetestHead) -> bool
     requires group_within { GroupWithin t.zone t.product }
-    ensures { result ≡ may_retest (year_in year.now) t }
+    ensures { result ≡ may_retest (year_in year.now.cells) t }
 {
     let group = year::group_of(t.zone, t.product);
-    if !year_tested::test_taken(year, group as usize) {
+    if !year_tested::test_taken(&year.cells, group as usize) {
         return false;
     }
     if any_selected(year, Selection::Retested(group, t.seller)) {

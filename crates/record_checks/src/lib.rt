@@ -11,7 +11,7 @@ ghost use Rattle.record_layouts.specs.Parts.{Stated};
 
 use bits_read::Cursor;
 use record_layouts::{lists_of, part_at};
-use record_shapes::{head_of, list_at};
+use record_shapes::list_at;
 
 mod limits;
 mod permitted;
@@ -28,7 +28,7 @@ pub fn is_kind(kind: u64) -> bool
     head.start < head.end
 }
 
-// Do the ids of n items of so many fields rise strictly, from a place on?
+// Do the ids of n items of so many fields rise strictly, from a place on? From place to place: ids stand some fields apart, so pairs of them by an iterator are no plainer.
 fn rising(values: &[u64], fields: usize, from: usize, n: usize) -> bool
     requires le_fields { 1 ≤ fields }
     requires fields_in_bounds { from + n * fields ≤ length values.now }
@@ -38,14 +38,12 @@ fn rising(values: &[u64], fields: usize, from: usize, n: usize) -> bool
         return true;
     }
     let mut p = from;
-    let mut k = 1;
-    while k < n {
+    for k in 1..n {
         let q = p + fields;
         if values[q] <= values[p] {
             return false;
         }
         p = q;
-        k += 1;
     }
     true
 }
@@ -57,16 +55,11 @@ pub fn lists_rise(kind: usize, values: &[u64]) -> bool
     requires values_in_bounds { length (rules_for kind values.now) ≤ length values.now }
     ensures { result ≡ ids_rise values.now }
 {
-    let n = lists_of(kind);
-    let mut p = head_of(kind);
-    let mut i = 0;
-    while i < n {
+    for i in 0..lists_of(kind) {
         let list = list_at(kind, i, values);
-        if !rising(values, list.end - list.start, p, list.items) {
+        if !rising(values, list.end - list.start, list.from, list.items) {
             return false;
         }
-        p += list.numbers;
-        i += 1;
     }
     true
 }
@@ -77,7 +70,7 @@ pub fn is_filled(c: Cursor, bytes: &[u8]) -> bool
     requires at_bound { c.at < 2 ^ 60 }
     ensures { result ≡ eqb (field_at bytes.now c.at (8 * bytes_for c.at - c.at)) 0 }
 {
-    let size = (c.at + 7) / 8;
+    let size = c.at.div_ceil(8);
     let left = 8 * size - c.at;
     if left == 0 {
         return true;

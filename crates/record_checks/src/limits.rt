@@ -1,15 +1,16 @@
 // Numbers compared with lowest and highest values: one by one, in a column, in items.
-ghost use Rattle.std.specs.Prelude.{◌≡◌, true, ◌+◌, ◌*◌, ◌≤◌, ◌<◌, T, length, drop};
+ghost use Rattle.std.specs.Prelude.{◌≡◌, true, ◌+◌, ◌*◌, ◌≤◌, ◌<◌, T, length};
 ghost use Rattle.bits.specs.Table.{narrow};
-ghost use Rattle.record_layouts.specs.Parts.{within, column_within, items_within, hold_all, ColumnFits, ItemsFit};
+ghost use Rattle.record_layouts.specs.Parts.{between, within, column_within, items_within, hold_all, ColumnFits, ItemsFit};
 
-fn wide(x: u32) -> u64
-    ensures { result ≡ x }
+// Is a number within its limits?
+fn is_between(low: u64, high: u64, value: u64) -> bool
+    ensures { result ≡ between low high value }
 {
-    x as u64
+    (low..=high).contains(&value)
 }
 
-// n numbers, a stride from each other, from a place on.
+// n numbers, a stride from each other, from a place on, as `Parts.column_within` speaks of them (what may not change).
 #[derive(Clone, Copy)]
 struct Column {
     from: usize,
@@ -24,22 +25,16 @@ pub struct Row {
     pub n: usize,
 }
 
-// Is each number from a place on within its limits?
-pub fn are_within(lows: &[u32], highs: &[u32], values: &[u64], from: usize) -> bool
+// Is each number within its limits? By their places, since three slices in step make a nested `zip`, which is no plainer.
+pub fn are_within(lows: &[u32], highs: &[u32], values: &[u64]) -> bool
     requires highs_len { length highs.now ≡ length lows.now }
-    requires lows_in_bounds { from + length lows.now ≤ length values.now }
-    ensures { result ≡ within lows.now highs.now (drop from values.now) }
+    requires lows_in_bounds { length lows.now ≤ length values.now }
+    ensures { result ≡ within lows.now highs.now values.now }
 {
-    let mut j = 0;
-    while j < lows.len() {
-        let v = values[from + j];
-        if v < wide(lows[j]) {
+    for j in 0..lows.len() {
+        if !is_between(u64::from(lows[j]), u64::from(highs[j]), values[j]) {
             return false;
         }
-        if wide(highs[j]) < v {
-            return false;
-        }
-        j += 1;
     }
     true
 }
@@ -52,7 +47,7 @@ fn hold_all(low: u64, high: u64, width: u8) -> bool
     low == 0 && (1u64 << width) - 1 <= high
 }
 
-// Is each number of a column within these limits? Where they were read from fields of so many bits, limits that hold all of these need no test.
+// Is each number of a column within these limits? Where they were read from fields of so many bits, limits that hold all of these need no test. From place to place, not by `step_by`: it wants a stride that is not 0, which no clause says.
 fn column_within(read: bool, width: u8, low: u64, high: u64, values: &[u64], column: Column) -> bool
     requires width_bound { width ≤ 42 }
     requires column_fits { read ≡ true → ColumnFits width values.now column.from column.stride column.n }
@@ -64,17 +59,11 @@ fn column_within(read: bool, width: u8, low: u64, high: u64, values: &[u64], col
         return true;
     }
     let mut p = column.from;
-    let mut k = 0;
-    while k < column.n {
-        let v = values[p];
-        if v < low {
-            return false;
-        }
-        if high < v {
+    for k in 0..column.n {
+        if !is_between(low, high, values[p]) {
             return false;
         }
         p += column.stride;
-        k += 1;
     }
     true
 }
@@ -90,22 +79,27 @@ pub fn items_within(
 ) -> bool
     requires ws_len { length ws.now ≡ length lows.now }
     requires highs_len { length highs.now ≡ length lows.now }
-    requires t { T (narrow ws.now) }
+    requires narrow { T (narrow ws.now) }
     requires items_fit { read ≡ true → ItemsFit ws.now values.now row.from row.n }
     requires lows_in_bounds { row.from + row.n * length lows.now ≤ length values.now }
     ensures { result ≡ items_within lows.now highs.now values.now row.from row.n }
 {
-    let mut j = 0;
-    while j < lows.len() {
+    for j in 0..lows.len() {
         let column = Column {
             from: row.from + j,
             stride: lows.len(),
             n: row.n,
         };
-        if !column_within(read, ws[j], wide(lows[j]), wide(highs[j]), values, column) {
+        if !column_within(
+            read,
+            ws[j],
+            u64::from(lows[j]),
+            u64::from(highs[j]),
+            values,
+            column,
+        ) {
             return false;
         }
-        j += 1;
     }
     true
 }

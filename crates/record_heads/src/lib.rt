@@ -1,4 +1,4 @@
-// A record's head with names, a case for each kind, from its numbers.
+// A record's head with names, a case for each kind, from its numbers. Product and period stay numbers, as `head_of`'s clause and the year's definitions read them.
 #![tactic(auto)]
 
 ghost use Rattle.std.specs.Prelude.{◌≡◌, ◌≤◌, length};
@@ -28,7 +28,8 @@ pub struct LseHead {
     pub obligation: u64,
 }
 
-// An event of kind 4, or of kind 8, which is one of period 3 with two reductions an entry, on-peak and off-peak: it is dual.
+// An event of kind 4, or of kind 8, which is one of period 3 with two reductions an entry, on-peak and off-peak: it is dual. A flag, as the
+// rules read it (`owed.Owed`).
 #[derive(Clone, Copy)]
 pub struct EventHead {
     pub area: u64,
@@ -77,20 +78,18 @@ pub enum Head {
 }
 
 // The head of a record with these numbers.
+#[tactic(auto, unfolding(crate::specs::Record::head_of))]
 pub fn head_of(values: &[u64]) -> Head
     requires { 8 ≤ length values.now }
     ensures { result ≡ head_of values.now }
 {
-    let kind = values[0];
-    if kind == 1 {
-        return Head::Opening(OpeningHead {
+    match values[0] {
+        1 => Head::Opening(OpeningHead {
             leap: values[1],
             factor: values[2],
             requirement: values[3],
-        });
-    }
-    if kind == 2 {
-        return Head::Registration(RegistrationHead {
+        }),
+        2 => Head::Registration(RegistrationHead {
             id: values[1],
             seller: values[2],
             area: values[3],
@@ -98,54 +97,40 @@ pub fn head_of(values: &[u64]) -> Head
             product: values[5],
             committed: values[6],
             rate: values[7],
-        });
-    }
-    if kind == 3 {
-        return Head::Lse(LseHead {
+        }),
+        3 => Head::Lse(LseHead {
             id: values[1],
             obligation: values[2],
-        });
-    }
-    if kind == 4 {
-        return Head::Event(EventHead {
+        }),
+        4 => Head::Event(EventHead {
             area: values[1],
             month: values[2],
             period: values[3],
             dual: false,
-        });
-    }
-    if kind == 5 {
-        return Head::Test(TestHead {
+        }),
+        5 => Head::Test(TestHead {
             zone: values[1],
             product: values[2],
             month: values[3],
-        });
-    }
-    if kind == 6 {
-        return Head::Close(CloseHead { month: values[1] });
-    }
-    if kind == 7 {
-        return Head::Clearing(ClearingHead {
+        }),
+        6 => Head::Close(CloseHead { month: values[1] }),
+        7 => Head::Clearing(ClearingHead {
             registration: values[1],
             price: values[2],
             kw: values[3],
-        });
-    }
-    if kind == 8 {
-        return Head::Event(EventHead {
+        }),
+        8 => Head::Event(EventHead {
             area: values[1],
             month: values[2],
             period: 3,
             dual: true,
-        });
-    }
-    if kind == 9 {
-        return Head::Retest(RetestHead {
+        }),
+        9 => Head::Retest(RetestHead {
             seller: values[1],
             zone: values[2],
             product: values[3],
             month: values[4],
-        });
+        }),
+        _ => Head::Close(CloseHead { month: 0 }), // no kind
     }
-    Head::Close(CloseHead { month: 0 }) // no kind
 }

@@ -61,11 +61,6 @@ head_small k =
     let a = and_parts (leb (length (head k)) 8) (leb (total (widths (head k))) 56) (every-at small layouts (bare []) k refl refl) in
     (leb-true (length (head k)) 8 a.0, leb-true (total (widths (head k))) 56 a.1)
 
--- a kind has at most 16 lists
-pub lists-few : (k : ℕ) → length (lists k) ≤ 16
-unfolding every
-lists-few k = leb-true (length (lists k)) 16 (every-at (λ l. leb (length l.lists) 16) layouts (bare []) k refl refl)
-
 -- a list's count is among the head's numbers
 pub count-in : (k i : ℕ) → i < length (lists k) → (list_at k i).count < length (head k)
 unfolding every

@@ -13,15 +13,6 @@ use Rattle.bits.specs.Table.{total}
 use Rattle.record_layouts.specs.Layout.{Rule, Items, no_items, bare, layouts, layout_of, lists, widths}
 use Rattle.record_layouts.specs.Parts.{join, start_of, parts_in, part_at, kinds, parts, fields_in, rules, row_at, Placed}
 
--- a number that is none of those below n is at least n: the last arm of a match
-abbrev NoneBelow : ℕ → ℕ → Type 0
-NoneBelow zero x = Unit {0}
-NoneBelow (suc n) x = NoneBelow n x × (x ≡ n → ⊥)
-
-pub none_below : (n x : ℕ) → NoneBelow n x → n ≤ x
-none_below zero x h = omega arith
-none_below (suc n) x h = omega (arith, none_below n x h.0, h.1)
-
 module _ {A : Type 0} where
   start-zero : (hs : List (List A)) → start_of hs 0 ≡ 0
   unfolding start_of

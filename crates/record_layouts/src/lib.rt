@@ -5,11 +5,12 @@ ghost use Rattle.std.specs.Prelude.{◌≡◌, ◌≤◌, ◌<◌, length};
 ghost use Rattle.record_layouts.specs.Layout.{layouts, lists, widths};
 ghost use Rattle.record_layouts.specs.Parts.{start_of, kinds, parts, rules, lows, highs, row_of, row_at, Placed};
 
-// How many kinds the tables have, 0 among them, which is none.
+// How many kinds the tables have, 0 among them, which is none. A kind stays a number, not an enum: question 1 asks of any number whether
+// it is a kind, and a row of the tables is found by it (what may not change: the clauses of `part_at` and of `record_checks::is_kind`).
 pub const KINDS: u64 = 10;
 
-// The fields of every part of every kind, part after part: a kind's head, then an item of each of its lists. What is no kind has none. Their widths in bits,
-const WIDTHS: [u8; 59] = [
+// The fields of every part of every kind, part after part: a kind's head, then an item of each of its lists. What is no kind has none. Three tables, not one of a struct, since a reader and a writer of bits take a slice of widths alone. Their widths in bits,
+static WIDTHS: [u8; 59] = [
     4, // opening
     1, // leap
     14, // DR Factor
@@ -72,7 +73,7 @@ const WIDTHS: [u8; 59] = [
 ];
 
 // their lowest permitted values,
-const LOWS: [u32; 59] = [
+static LOWS: [u32; 59] = [
     1, // opening
     0, // leap
     1, // DR Factor
@@ -135,7 +136,7 @@ const LOWS: [u32; 59] = [
 ];
 
 // and their highest.
-const HIGHS: [u32; 59] = [
+static HIGHS: [u32; 59] = [
     1, // opening
     1, // leap
     12000, // DR Factor
@@ -197,7 +198,7 @@ const HIGHS: [u32; 59] = [
     100000, // reduction kW
 ];
 
-// Where the fields of a part stand in the tables, from start up to end; the bits that they take; the place of the part's count among the numbers of its head, 0 for a head; and which of its fields are its first and its second reduction, 0 where it has none.
+// Where the fields of a part stand in the tables, from start up to end; the bits that they take; the place of the part's count among the numbers of its head, 0 for a head; and which of its fields are its first and its second reduction, 0 where it has none, as `Placed` says it.
 #[derive(Clone, Copy)]
 pub struct Part {
     pub start: usize,
@@ -208,46 +209,37 @@ pub struct Part {
     pub second: usize,
 }
 
-pub fn widths_of_parts() -> [u8; 59]
-    ensures { result ≡ widths rules }
+pub fn widths_of_parts() -> &'static [u8; 59]
+    ensures { result.now ≡ widths rules }
 {
-    WIDTHS
+    &WIDTHS
 }
 
-pub fn lows_of_parts() -> [u32; 59]
-    ensures { result ≡ lows rules }
+pub fn lows_of_parts() -> &'static [u32; 59]
+    ensures { result.now ≡ lows rules }
 {
-    LOWS
+    &LOWS
 }
 
-pub fn highs_of_parts() -> [u32; 59]
-    ensures { result ≡ highs rules }
+pub fn highs_of_parts() -> &'static [u32; 59]
+    ensures { result.now ≡ highs rules }
 {
-    HIGHS
+    &HIGHS
 }
+
+// The first part of each kind, and the end of the parts.
+static FIRSTS: [usize; 11] = [0, 1, 2, 3, 4, 7, 10, 11, 12, 15, 17];
 
 // The first part of a kind; past the last kind, the end of the parts.
-#[tactic(auto, unfolding(crate::specs::Parts::start_of, crate::specs::Parts::kinds))]
 fn first_of(kind: usize) -> usize
     requires { kind ≤ length layouts }
     ensures { result ≡ start_of kinds kind }
 {
-    match kind {
-        0 => 0,
-        1 => 1,
-        2 => 2,
-        3 => 3,
-        4 => 4,
-        5 => 7,
-        6 => 10,
-        7 => 11,
-        8 => 12,
-        9 => 15,
-        _ => 17,
-    }
+    FIRSTS[kind]
 }
 
 // How many lists a kind has.
+#[tactic(auto, using(crate::specs::PartLaws::first_next))]
 pub fn lists_of(kind: usize) -> usize
     requires { kind < length layouts }
     ensures { result ≡ length (lists kind) }
@@ -259,16 +251,16 @@ fn row(start: usize, end: usize, bits: usize, count: usize, reduction: usize, se
     ensures { result ≡ row_of start end bits count reduction second }
 {
     Part {
-        start: start,
-        end: end,
-        bits: bits,
-        count: count,
-        reduction: reduction,
-        second: second,
+        start,
+        end,
+        bits,
+        count,
+        reduction,
+        second,
     }
 }
 
-// The parts in order. A match, not a table: the compiler keeps its rows as constants, where it would make a table anew at each look.
+// The parts in order. A match, not a table of `Part`: a constant's value cannot call `row`, and a literal of six named fields takes eight lines a part, so that a table is no plainer.
 #[tactic(auto, unfolding(crate::specs::Parts::join, crate::specs::Parts::start_of, crate::specs::Parts::kinds, crate::specs::Parts::parts, crate::specs::Parts::fields_in))]
 fn row_at(part: usize) -> Part
     requires { part < length parts }

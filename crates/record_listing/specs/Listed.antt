@@ -108,7 +108,7 @@ module _ {vs : List ℕ} (p : Permitted vs) where
   unfolding rules_by
   yes-head = head-permitted (at vs 0) vs vs p.fields
 
-  numbers-few : length (rules_for (at vs 0) vs) ≤ most_numbers
+  pub numbers-few : length (rules_for (at vs 0) vs) ≤ most_numbers
   numbers-few = few-numbers (at vs 0) vs yes-head
 
   pub stated : length vs ≡ most_numbers → Stated (at vs 0) vs
@@ -128,9 +128,6 @@ module _ {vs : List ℕ} (p : Permitted vs) where
     pub item-as : EntryLimits (list_at (at vs 0) i).reductions (list_at (at vs 0) i).fields (item_in (at vs 0) vs i m)
         ⊎ DeficitLimits (list_at (at vs 0) i).reductions (list_at (at vs 0) i).fields (item_in (at vs 0) vs i m)
     item-as = kept-as (list_at (at vs 0) i).fields (item_in (at vs 0) vs i m) (λ f g. (field_at f g).0) (list_at (at vs 0) i).reductions (item-limits-at (at vs 0) i l)
-
-    pub item-there : (f : ℕ) → f < length (list_at (at vs 0) i).fields → item_at (at vs 0) vs i m + f < most_numbers
-    item-there f g = omega (arith, (field_at f g).1, numbers-few)
 
   pub sound-listed : SoundListing (listing_in vs)
   sound-listed =

@@ -3,92 +3,83 @@
 
 ghost use Rattle.std.specs.Prelude.{◌≡◌, true, replicate};
 ghost use Rattle.bits.specs.Table.{total};
+ghost use Rattle.refusals.specs.Numbers.{answered, number_of};
 ghost use Rattle.record_layouts.specs.Layout.{head, widths, most_numbers};
-ghost use Rattle.record_layouts.specs.Questions.{is_whole, head_numbers, rules_of, row};
-ghost use Rattle.record_layouts.specs.Parts.{rules};
-ghost use Rattle.record_shapes.specs.Shapes.{Shaped};
+ghost use Rattle.record_layouts.specs.Questions.{is_whole, head_numbers, row};
 ghost use Rattle.record_numbers.specs.Parsing.{Known};
 ghost use Rattle.record_numbers.specs.Calls.{Fills};
+ghost use Rattle.record_parse.specs.Answers.{used_of, count_of, Asked};
 
 use bits_read::Cursor;
 use record_checks::{head_permitted, is_filled, is_kind, lists_permitted, lists_rise};
-use record_layouts::{highs_of_parts, lows_of_parts, widths_of_parts};
-use record_shapes::{Shape, shape_of, size_of};
+use record_shapes::{shape_of, size_of};
 use record_unpack::{kind_of, read_head, read_lists};
+use refusals::{Refusal, Refused};
 
-// The number of the question that failed, 0 where none did; how many numbers the record has; the bytes consumed.
+// A record taken apart: how many numbers it has, and the bytes consumed.
 #[derive(Clone, Copy)]
-pub struct ReadAnswer {
-    pub number: u64,
+pub struct Parsed {
     pub count: usize,
     pub used: usize,
 }
 
-pub fn refused(number: u64, used: usize) -> ReadAnswer
-    ensures { (result.number ≡ number) × (result.count ≡ 0) × (result.used ≡ used) }
-{
-    ReadAnswer {
-        number: number,
-        count: 0,
-        used: used,
-    }
-}
-
 // A whole record, its head in front of the row, from the cursor behind the head on: questions 3 to 5.
 fn parse_whole(
-    c: Cursor,
+    head_end: Cursor,
     kind: usize,
-    s: Shape,
     bytes: &[u8],
-    ws: &[u8],
     values: &mut [u64],
-) -> ReadAnswer
+) -> Result<(), Refusal>
     requires known { Known bytes.now kind }
-    requires bytes_value { is_whole bytes.now ≡ true }
-    requires shaped { Shaped (rules_of bytes.now) s }
-    requires ws_value { ws.now ≡ widths rules }
-    requires at_value { c.at ≡ total (widths (head kind)) }
-    requires values_value { values.old ≡ row (head_numbers bytes.now) }
-    ensures { Fills bytes.now result.number result.used result.count values.new }
+    requires whole { is_whole bytes.now ≡ true }
+    requires behind_head { head_end.at ≡ total (widths (head kind)) }
+    requires head_read { values.old ≡ row (head_numbers bytes.now) }
+    ensures { Asked bytes.now (answered result) values.new }
 {
-    let size = size_of(s);
-    let lows = lows_of_parts();
-    let highs = highs_of_parts();
-    if !head_permitted(kind, &lows, &highs, values) {
-        return refused(3, size);
+    if !head_permitted(kind, values) {
+        return Err(Refusal::OutOfLimits);
     }
-    let end = read_lists(c, kind, bytes, ws, values);
-    if !lists_permitted(kind, true, ws, &lows, &highs, values) {
-        return refused(3, size);
+    let end = read_lists(head_end, kind, bytes, values);
+    if !lists_permitted(kind, true, values) {
+        return Err(Refusal::OutOfLimits);
     }
     if !is_filled(end, bytes) {
-        return refused(4, size);
+        return Err(Refusal::NotFilled);
     }
     if !lists_rise(kind, values) {
-        return refused(5, size);
+        return Err(Refusal::NotRising);
     }
-    ReadAnswer {
-        number: 0,
-        count: s.count,
-        used: size,
-    }
+    Ok(())
 }
 
 // Takes a record apart into a lent row of zeros: questions 1 to 5. The head goes first, since it has the counts. What is refused may leave numbers in the row.
-pub fn parse(bytes: &[u8], values: &mut [u64]) -> ReadAnswer
+pub fn parse(bytes: &[u8], values: &mut [u64]) -> Result<Parsed, Refused>
     requires { values.old ≡ replicate most_numbers 0 }
-    ensures { Fills bytes.now result.number result.used result.count values.new }
+    ensures { Fills bytes.now (number_of result) (used_of result) (count_of result) values.new }
 {
-    let kind = kind_of(bytes);
-    if !is_kind(kind.value) {
-        return refused(1, 0);
+    let first = kind_of(bytes);
+    if !is_kind(first.value) {
+        return Err(Refused {
+            refusal: Refusal::NoKind,
+            used: 0,
+        });
     }
-    let k = kind.value as usize;
-    let ws = widths_of_parts();
-    let c = read_head(kind, bytes, &ws, values);
-    let s = shape_of(k, values);
-    if bytes.len() < size_of(s) {
-        return refused(2, 0);
+    let kind = first.value as usize;
+    let head_end = read_head(first, bytes, values);
+    let shape = shape_of(kind, values);
+    let used = size_of(shape);
+    if bytes.len() < used {
+        return Err(Refused {
+            refusal: Refusal::CutOff,
+            used: 0,
+        });
     }
-    parse_whole(c, k, s, bytes, &ws, values)
+    // by `match`: with `map_err` and `?` the proof does not close
+    match parse_whole(head_end, kind, bytes, values) {
+        Ok(()) => Ok(Parsed {
+            count: shape.count,
+            used,
+        }),
+        Err(refusal) => Err(Refused { refusal, used }),
+    }
 }

@@ -1,7 +1,7 @@
 -- What the code finds of a record's lists and shape, as the layouts say it.
 use Rattle.std.specs.Prelude.{ℕ, ◌+◌, ◌-◌, ◌*◌, ◌≤◌, List, map, ◌≡◌, length, take, drop}
 use Rattle.bits.specs.Table.{total}
-use Rattle.record_layouts.specs.Layout.{Rule, list_at, items_in, widths}
+use Rattle.record_layouts.specs.Layout.{Rule, list_at, items_in, place_of, widths}
 use Rattle.record_layouts.specs.Parts.{rules}
 use Rattle.record_shapes.specs.declared.Shape.{Shape}
 use Rattle.record_shapes.specs.declared.ItemList.{ItemList}
@@ -14,6 +14,7 @@ pub record Listed (k : ℕ) (vs : List ℕ) (i : ℕ) (l : ItemList) : Type 0 wh
   pub bits : l.bits ≡ total (widths (list_at k i).fields)
   pub items : l.items ≡ items_in k vs i
   pub numbers : l.numbers ≡ items_in k vs i * length (list_at k i).fields
+  pub from : l.from ≡ place_of k vs i
 
 -- how many fields and bits there are
 pub record Shaped (rs : List Rule) (s : Shape) : Type 0 where

@@ -12,10 +12,10 @@ use Rattle.bits.specs.Table.{total, times, fields_at, laid, narrow, Valid, Fit}
 use Rattle.bits.specs.TableLaws.{fields-append, length_fields, fields-valid, valid-join, narrow-split}
 use Rattle.bits.specs.ItemLaws.{length-times, total-times}
 use Rattle.bits.specs.Pack.{bytes_for}
-use Rattle.record_layouts.specs.Layout.{Rule, head, lists, list_at, items_in, rules_to, rules_for, widths, size_of, longest_record, most_numbers}
+use Rattle.record_layouts.specs.Layout.{Rule, head, lists, list_at, items_in, rules_to, rules_for, place_of, widths, size_of, longest_record, most_numbers}
 use Rattle.record_layouts.specs.LayoutLaws.{head_small, sound-heads, sound-items, sound-times, narrow-sound, length-widths, widths-times, front-to, rules-long}
 use Rattle.record_layouts.specs.Questions.{first_failed, kind_of, head_numbers, rules_of, numbers_of, is_kind, is_whole, permitted, is_filled, ids_rise, record_questions, record_number, consumed, row}
-use Rattle.record_layouts.specs.QuestionLaws.{head-kind, at_row, length-row, row_more, permitted-same, permitted-row, rises-all, head-refused, counts_same, rules-same, few_bits, few-numbers, kind-in, fields-front, numbers-head, numbers-kind}
+use Rattle.record_layouts.specs.QuestionLaws.{head-kind, at_row, length-row, row_more, permitted-same, permitted-row, rises-all, head-refused, counts_same, fields-same, rules-same, few_bits, few-numbers, kind-in, fields-front, numbers-head, numbers-kind}
 use Rattle.record_layouts.specs.Parts.{Stated}
 use Rattle.record_layouts.specs.ListLaws.{rules-upto, widths-list, length-list, total-list}
 use Rattle.record_numbers.specs.Accepted.{taken-numbers, taken_none, numbers-count}
@@ -130,9 +130,6 @@ module _ {bytes : List ℕ} {k : ℕ} (w : Known bytes k) where
   unfolding rules_to
   row-start v = v ∙ ap row (sym head-is)
 
-  pub head_few : length hs ≤ most_numbers
-  head_few = omega (arith, ap length (sym head-is), length_fields bytes 0 (widths (head k)), length-widths (head k), head_small k)
-
   pub length-upto : (i : ℕ) → length (up_to i) ≡ length (rules_to k hs i)
   length-upto i = length_fields bytes 0 (widths (rules_to k hs i)) ∙ length-widths (rules_to k hs i)
 
@@ -144,6 +141,9 @@ module _ {bytes : List ℕ} {k : ℕ} (w : Known bytes k) where
 
     pub row-items : (j : ℕ) → items_in k values j ≡ items_in k hs j
     row-items = counts_same k values hs row-head
+
+    pub row-place : place_of k values i ≡ place_of k hs i
+    row-place = ap length (fields-same k values hs row-head i)
 
     pub row-rules : rules_for k values ≡ rules_of bytes
     row-rules = rules-same k values hs row-head ∙ rules-are

@@ -1,5 +1,6 @@
 -- What writing a record answers, from the questions' answers; and what the writer writes of it, part by part.
-use Rattle.std.specs.Prelude.{ℕ, ◌+◌, ◌*◌, ◌^◌, ◌≤◌, ◌<◌, true, false, ◌&&◌, List, ◌++◌, ◌≡◌, T, eqb, take, drop}
+use Rattle.std.specs.Prelude.{ℕ, ◌+◌, ◌*◌, ◌^◌, ◌≤◌, ◌<◌, true, false, ◌&&◌, List, ◌++◌, ◌≡◌, T, eqb, take, drop, Result, Ok, Err}
+use Rattle.refusals.specs.declared.Refusal.{Refusal}
 use Rattle.std.proofs.Math.Bool.{and-false}
 use Rattle.std.proofs.Math.Path.{sym, ap}
 use Rattle.std.proofs.Common.{subst, ◌∙◌, arith, length-append, length-drop, take-append-drop, take-add, length-take-le}
@@ -26,6 +27,11 @@ use Rattle.record_numbers.specs.Calls.{write_number, write_buffer, bytes_by, ove
 use Rattle.record_numbers.specs.Parsing.{Writable}
 use Rattle.record_write.specs.Lists.{Lists}
 use Rattle.record_numbers.specs.RoundTrip.{valid-by}
+
+-- how many bytes are written, none where the numbers are refused
+abbrev pub written_of : Result ℕ Refusal → ℕ
+written_of (Ok used) = used
+written_of (Err refusal) = 0
 
 module _ (vs : List ℕ) (room : ℕ) where
   pub stops-1 : is_kind (at vs 0) ≡ false → 1 ≡ write_number vs room
@@ -161,7 +167,7 @@ module _ {vs : List ℕ} {room k : ℕ} (e : k ≡ at vs 0) (w : Writable vs roo
     pub part-fits : total before + total us ≤ 8 * room
     part-fits = omega (arith, size-bits, (stated-list put-stated l).1, total-times (widths (list_at k i).fields) (items_in k vs i))
 
-    pub part-next : p + m ≡ length (rules_to k vs (i + 1))
+    part-next : p + m ≡ length (rules_to k vs (i + 1))
     part-next = omega (arith, length-list k vs i)
 
     pub part-written : {old one two : List ℕ} {b c d : Writer} → Wrote old one b c (total before) (joined before (take (length (rules_to k vs i)) vs)) → Wrote one two c d (total us) (joined us (take m (drop p vs)))

@@ -12,8 +12,7 @@ use Rattle.owed.specs.Owed as owed
 use Rattle.owed.specs.Owed.{one_or_three, D, of_seller, before_cap}
 use Rattle.owed_laws.specs.Limits.{Limits}
 use Rattle.owed_laws.specs.Sellers.{of_seller-le}
-use Rattle.owed_laws.specs.Bounds.{cap-le, charge-le}
-use Rattle.owed_laws.specs.Cap.{spent-le}
+use Rattle.owed_laws.specs.Bounds.{charge-le}
 use Rattle.owed_laws.specs.Unlisted.{u-unlisted, off-unlisted, daily-none, charge-none}
 use Rattle.settle_shortfalls.specs.Sharing.{Shares, shares-aside}
 use Rattle.settle_table.specs.Columns.{Columns, columns-aside}
@@ -145,9 +144,6 @@ module _ {F : Facts} {k ev i : ℕ} {w₀ w : List ℕ} {all : ℕ} (h : Chargin
 
   -- limits
   module _ (L : Limits F) where
-    pub spent-most : i < registrations → at w (spent_row + i) ≤ 14400000000
-    spent-most l = omega (arith, renewed-next h.spent l, spent-le F ev i, cap-le L i)
-
     pub compliance-most : ev < event_limit → (s : ℕ) → s < sellers → at w (compliance_row + s) ≤ 5734195200000
     compliance-most q s m = grown-most h.compliance 5396889600000 5270400000 h.upto (λ j a. compliance-le L k ev j (omega arith)) (λ j a. charge-le L k ev j) s m
 

@@ -3,7 +3,6 @@
 
 ghost use Rattle.std.specs.Prelude.{◌≡◌, ◌+◌, ◌-◌, ◌≤◌, ◌<◌};
 ghost use Rattle.limits.specs.Limits.{registrations, event_limit, close_limit};
-ghost use Rattle.year_cells.specs.Layout.{ValidCells};
 ghost use Rattle.ids.specs.Ids.{sum_to};
 ghost use Rattle.settle_facts.specs.CellFacts.{facts};
 ghost use Rattle.owed.specs.Owed.{charge};
@@ -13,41 +12,39 @@ ghost use Rattle.settle_charges.specs.Charging.{Given, Billed};
 
 use limits::REGISTRATIONS;
 use settle_table::Work;
-use year_cells::Cells;
+use year_cells::YearCells;
 
 mod due_cents;
 mod prices;
 
-pub use prices::{lesser, line_at};
+pub use prices::line_at;
 
 // Event ev's charges to date at month k, added to what is spent of the caps and to the sellers' compliance; their sum. A registration
 // without a share of a shortfall of its seller's is not charged.
-pub fn charge(year: &Cells, work: &mut Work, ev: usize, k: u64) -> u64
-    requires valid_cells { ValidCells year.now }
+pub fn charge(year: &YearCells, work: &mut Work, ev: usize, k: u64) -> u64
     requires ev_lt_event_limit { (ev < event_limit) × (1 ≤ k) × (k ≤ close_limit) }
-    requires given { Given (facts year.now) ev work.old }
-    requires billed_2 { Billed (facts year.now) k ev work.old }
-    ensures billed { Billed (facts year.now) k (ev + 1) work.new }
-    ensures charges { result ≡ sum_to registrations (charge (facts year.now) k ev) }
+    requires given { Given (facts year.now.cells) ev work.old }
+    requires billed_2 { Billed (facts year.now.cells) k ev work.old }
+    ensures billed { Billed (facts year.now.cells) k (ev + 1) work.new }
+    ensures charges { result ≡ sum_to registrations (charge (facts year.now.cells) k ev) }
     ensures aside { Aside spent_row (credit_row - spent_row) work.old work.new }
 {
-    let peak = settle_facts::one_or_three(year, ev);
-    let month = settle_facts::month_of(year, ev);
+    let peak = settle_facts::one_or_three(&year.cells, ev);
+    let month = settle_facts::month_of(&year.cells, ev);
     let days = settle_facts::days_to(year, k);
     let mut all: u64 = 0;
-    let mut i: usize = 0;
-    while i < REGISTRATIONS {
+    for i in 0..REGISTRATIONS {
         let u = settle_table::get(work, settle_table::U, i);
         let off = settle_table::get(work, settle_table::OFF_U, i);
+        // `|`, not `||`: both are read already, and as two tests the proof would say each branch twice.
         if (u != 0) | (off != 0) {
             let line = prices::line_at(work, i);
             let daily = prices::daily_of(peak, line);
             let due = due_cents::cents(line.product, month, k, days, daily);
             settle_table::add_at(work, settle_table::SPENT, i, daily);
             settle_table::add_at(work, settle_table::COMPLIANCE, line.seller, due);
-            all = all + due;
+            all += due;
         }
-        i += 1;
     }
     all
 }

@@ -1,5 +1,5 @@
 // What one listed registration is charged in an event, from its line in the working table.
-ghost use Rattle.std.specs.Prelude.{cond, ◌≡◌, ◌-◌, ◌*◌, ◌/◌, ◌≤◌, ◌<◌, min, max};
+ghost use Rattle.std.specs.Prelude.{cond, ◌≡◌, ◌-◌, ◌*◌, ◌/◌, ◌≤◌, ◌<◌, max};
 ghost use Rattle.limits.specs.Limits.{registrations, unforced_limit, rate_limit};
 ghost use Rattle.settle_charges.specs.Pricing.{line_at, daily_of};
 
@@ -24,9 +24,6 @@ pub fn line_at(work: &Work, i: usize) -> Line
     requires { i < registrations }
     ensures { result ≡ line_at work.now i }
 {
-    let u = Unforced(settle_table::get(work, settle_table::U, i));
-    let off = Unforced(settle_table::get(work, settle_table::OFF_U, i));
-    let e = Nominated(settle_table::get(work, settle_table::E, i));
     Line {
         seller: settle_table::get(work, settle_table::SELLER, i) as usize,
         product: settle_table::get(work, settle_table::PRODUCT, i),
@@ -34,29 +31,10 @@ pub fn line_at(work: &Work, i: usize) -> Line
         rate: settle_table::get(work, settle_table::RATE, i),
         cap: settle_table::get(work, settle_table::CAP, i),
         spent: settle_table::get(work, settle_table::SPENT, i),
-        u: u,
-        off: off,
-        e: e,
+        u: Unforced(settle_table::get(work, settle_table::U, i)),
+        off: Unforced(settle_table::get(work, settle_table::OFF_U, i)),
+        e: Nominated(settle_table::get(work, settle_table::E, i)),
     }
-}
-
-// a less b, at least 0.
-fn less(a: u64, b: u64) -> u64
-    ensures { result ≡ a - b }
-{
-    if b < a { a - b } else { 0 }
-}
-
-fn higher(a: u64, b: u64) -> u64
-    ensures { result ≡ max a b }
-{
-    if a < b { b } else { a }
-}
-
-pub fn lesser(a: u64, b: u64) -> u64
-    ensures { result ≡ min a b }
-{
-    if a < b { a } else { b }
 }
 
 // The daily charge before the cap, in thousandths of a cent; `peak` where the event is of period 1 or 3.
@@ -65,12 +43,8 @@ fn before_cap(peak: bool, n: u64, u: Unforced, rate: u64) -> u64
     requires rate_le_rate_limit { rate ≤ rate_limit }
     ensures { result ≡ u.0 * rate / cond peak (max n 2) 52 }
 {
-    let all = u.0 * rate;
-    if peak {
-        if n < 2 { all / 2 } else { all / n }
-    } else {
-        all / 52
-    }
+    let parts = if peak { n.max(2) } else { 52 };
+    u.0 * rate / parts
 }
 
 // The daily charge: the lesser of that, off-peak if it is higher, and the cap's rest.
@@ -80,11 +54,8 @@ pub fn daily_of(peak: bool, line: Line) -> u64
     requires rate_le_rate_limit { line.rate ≤ rate_limit }
     ensures { result ≡ daily_of peak line }
 {
-    let u = line.u;
-    let off = line.off;
-    let first = before_cap(peak, line.n, u, line.rate);
-    let second = before_cap(false, line.n, off, line.rate);
-    let asked = higher(first, second);
-    let rest = less(line.cap, line.spent);
-    lesser(asked, rest)
+    let first = before_cap(peak, line.n, line.u, line.rate);
+    let second = before_cap(false, line.n, line.off, line.rate);
+    let rest = line.cap.saturating_sub(line.spent);
+    first.max(second).min(rest)
 }

@@ -2,12 +2,10 @@
 use Rattle.std.specs.Prelude.{ℕ, ◌+◌, ◌-◌, ◌≤◌, List}
 use Rattle.std.proofs.Common.{arith}
 use Rattle.limits.specs.Limits.{registrations, sellers}
-use Rattle.settle_charges.specs.Charging.{Given, Billed, billed-first}
+use Rattle.settle_charges.specs.Charging.{Billed, billed-first}
 use Rattle.settle_credits.specs.Crediting.{credit_by, credit-first}
 use Rattle.owed.specs.Facts.{Facts}
 use Rattle.settle_dispatch.specs.Counting.{DispatchCounts, DispatchMarks}
-use Rattle.settle_shortfalls.specs.Sharing.{Shares}
-use Rattle.settle_shortfalls.specs.OffPeak.{OffShares}
 use Rattle.settle_table.specs.Columns.{Columns, columns-aside}
 use Rattle.settle_table.specs.Places.{dispatch_count_row, spent_row, compliance_row, credit_row, short_row}
 use Rattle.settle_table.specs.Rows.{Aside, Row, none, row-aside, row_within}
@@ -34,29 +32,3 @@ run-first {F} k {w} {v} h z a n c =
   where
     fresh : (p n : ℕ) → spent_row ≤ p → p + n ≤ short_row → Row v p n none
     fresh p n x y = row-aside (row_within p n z (omega arith) (omega arith)) a (λ j l o q. omega arith)
-
--- an event's own rows are filled
-pub run-aside : {F : Facts} {k m p n : ℕ} {w v : List ℕ} → Run F k m w → Aside p n w v → short_row ≤ p → Run F k m v
-run-aside h a b =
-    record {
-      columns = columns-aside h.columns a (omega arith) (omega arith);
-      dispatch_count = row-aside h.dispatch_count a (λ j l x y. omega arith);
-      dispatched = row-aside h.dispatched a (λ j l x y. omega arith);
-      billed = record { spent = row-aside h.billed.spent a (λ j l x y. omega arith); compliance = row-aside h.billed.compliance a (λ j l x y. omega arith) };
-      credit = row-aside h.credit a (λ j l x y. omega arith);
-    }
-
-pub given : {F : Facts} {k ev : ℕ} {w : List ℕ} → Run F k ev w → Shares F ev w → OffShares F ev w → Given F ev w
-given h s o = record { columns = h.columns; dispatch_count = h.dispatch_count; shares = s; off = o }
-
--- its charges, then its credits
-pub run_more : {F : Facts} {k ev : ℕ} {w m v : List ℕ} → Run F k ev w → Aside spent_row (credit_row - spent_row) w m → Billed F k (ev + 1) m → Aside credit_row sellers m v
-    → Row v credit_row sellers (credit_by F k (ev + 1)) → Run F k (ev + 1) v
-run_more h a b c r =
-    record {
-      columns = columns-aside (columns-aside h.columns a (omega arith) (omega arith)) c (omega arith) (omega arith);
-      dispatch_count = row-aside (row-aside h.dispatch_count a (λ j l x y. omega arith)) c (λ j l x y. omega arith);
-      dispatched = row-aside (row-aside h.dispatched a (λ j l x y. omega arith)) c (λ j l x y. omega arith);
-      billed = record { spent = row-aside b.spent c (λ j l x y. omega arith); compliance = row-aside b.compliance c (λ j l x y. omega arith) };
-      credit = r;
-    }

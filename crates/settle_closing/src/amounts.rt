@@ -1,33 +1,28 @@
 // All amounts to date at a month, from the registrations that are entered into the working table and the year's cells.
 ghost use Rattle.std.specs.Prelude.{◌≡◌, ◌≤◌};
 ghost use Rattle.limits.specs.Limits.{registrations, close_limit};
-ghost use Rattle.year_cells.specs.Layout.{ValidCells};
 ghost use Rattle.owed.specs.Owed.{amounts};
 ghost use Rattle.settle_facts.specs.CellFacts.{facts};
 ghost use Rattle.settle_rates.specs.Entering.{Begun};
 
 use settle_table::Work;
 use year::Amounts;
-use year_cells::Cells;
+use year_cells::YearCells;
 use year_copies::numbers_at;
 
 // All amounts to date at month k: the rates in force first, then the passes over events' entries, those over tests' entries, and the LSEs.
-pub fn amounts_to_date(year: &Cells, work: &mut Work, k: u64) -> Amounts
-    requires { ValidCells year.now × Begun year.now registrations work.old × (1 ≤ k) × (k ≤ close_limit) }
-    ensures { result ≡ amounts (facts year.now) k }
+pub fn amounts_to_date(year: &YearCells, work: &mut Work, k: u64) -> Amounts
+    requires { Begun year.now.cells registrations work.old × (1 ≤ k) × (k ≤ close_limit) }
+    ensures { result ≡ amounts (facts year.now.cells) k }
 {
     settle_rates::rate(year, work);
     crate::events::bill_events(year, work, k);
     settle_tests::charge_tests(year, work, k);
     settle_lses::credit_lses(year, work);
-    let compliance = numbers_at(work, settle_table::COMPLIANCE);
-    let test = numbers_at(work, settle_table::TEST);
-    let credit = numbers_at(work, settle_table::CREDIT);
-    let lse = numbers_at(work, settle_table::LSE);
     Amounts {
-        compliance: compliance,
-        test: test,
-        credit: credit,
-        lse: lse,
+        compliance: numbers_at(work, settle_table::COMPLIANCE),
+        test: numbers_at(work, settle_table::TEST),
+        credit: numbers_at(work, settle_table::CREDIT),
+        lse: numbers_at(work, settle_table::LSE),
     }
 }

@@ -3,7 +3,6 @@
 
 ghost use Rattle.std.specs.Prelude.{◌≡◌, ◌+◌, ◌*◌, ◌/◌, ◌≤◌, ◌<◌};
 ghost use Rattle.limits.specs.Limits.{registrations, sellers, event_limit, close_limit, nominated_limit, rate_limit};
-ghost use Rattle.year_cells.specs.Layout.{ValidCells};
 ghost use Rattle.settle_charges.specs.Charging.{Given};
 ghost use Rattle.ids.specs.Ids.{sum_to};
 ghost use Rattle.settle_facts.specs.CellFacts.{facts};
@@ -17,7 +16,7 @@ use allotment::Allotment;
 use limits::REGISTRATIONS;
 use settle_table::Work;
 use units::Nominated;
-use year_cells::Cells;
+use year_cells::YearCells;
 
 // The most that e kilowatts are credited, the bracket rounded first.
 fn limit(e: Nominated, rate: u64, days: u64) -> u64
@@ -30,31 +29,28 @@ fn limit(e: Nominated, rate: u64, days: u64) -> u64
 }
 
 // Event ev's charges to date at month k, allotted over its entries by e: each seller's credits with those of its entries. Tells the divisions.
-pub fn credit(year: &Cells, work: &mut Work, ev: usize, k: u64, charges: u64) -> u64
-    requires valid_cells { ValidCells year.now }
+pub fn credit(year: &YearCells, work: &mut Work, ev: usize, k: u64, charges: u64) -> u64
     requires ev_lt_event_limit { (ev < event_limit) × (1 ≤ k) × (k ≤ close_limit) }
-    requires given { Given (facts year.now) ev work.old }
-    requires row { Row work.old credit_row sellers (credit_by (facts year.now) k ev) }
-    requires charges_value { charges ≡ sum_to registrations (charge (facts year.now) k ev) }
-    ensures credited { Row work.new credit_row sellers (credit_by (facts year.now) k (ev + 1)) }
-    ensures divisions { result ≡ credit_divisions (facts year.now) ev }
+    requires given { Given (facts year.now.cells) ev work.old }
+    requires row { Row work.old credit_row sellers (credit_by (facts year.now.cells) k ev) }
+    requires charges_value { charges ≡ sum_to registrations (charge (facts year.now.cells) k ev) }
+    ensures credited { Row work.new credit_row sellers (credit_by (facts year.now.cells) k (ev + 1)) }
+    ensures divisions { result ≡ credit_divisions (facts year.now.cells) ev }
     ensures aside { Aside credit_row sellers work.old work.new }
 {
     let days = settle_facts::days_to(year, k);
     let total = settle_table::sum(work, settle_table::E, REGISTRATIONS);
     let mut allotment = Allotment::new(charges, total);
-    let mut i: usize = 0;
-    while i < REGISTRATIONS {
-        if settle_table::get(work, settle_table::LISTED, i) != 0 {
-            let line = settle_charges::line_at(work, i);
-            let e = line.e;
-            let share = allotment.share(e.0);
-            let most = limit(e, line.rate, days);
-            let credit = settle_charges::lesser(share.value, most);
-            settle_table::add_at(work, settle_table::CREDIT, line.seller, credit);
-            allotment = share.next;
+    for i in 0..REGISTRATIONS {
+        if settle_table::get(work, settle_table::LISTED, i) == 0 {
+            continue;
         }
-        i += 1;
+        let line = settle_charges::line_at(work, i);
+        let share = allotment.share(line.e.0);
+        let most = limit(line.e, line.rate, days);
+        let credit = share.value.min(most);
+        settle_table::add_at(work, settle_table::CREDIT, line.seller, credit);
+        allotment = share.next;
     }
     allotment.divisions
 }

@@ -11,7 +11,7 @@ use Rattle.year.specs.Year as year
 use Rattle.owed.specs.Facts.{Facts}
 use Rattle.owed.specs.Owed.{one_or_three, dispatch_count, dispatched}
 use Rattle.settle_table.specs.Places.{dispatch_count_row, dispatched_row, spent_row, size}
-use Rattle.settle_table.specs.Rows.{Stored, Aside, Row, Renewed, none, mark, aside_none, aside-more, row_same, row_within, renewed-first, renewed-kept, renewed-next, renewed-more, renewed-none}
+use Rattle.settle_table.specs.Rows.{Stored, Aside, Row, Renewed, none, mark, aside-more, row_same, row_within, renewed-kept, renewed-next, renewed-more, renewed-none}
 
 -- n and the mark of a dispatched registration, by the first m events
 module _ (F : Facts) (m i : ℕ) where
@@ -98,16 +98,6 @@ pub record Counts (F : Facts) (ev i : ℕ) (w₀ w : List ℕ) : Type 0 where
   pub dispatch_count : Renewed w dispatch_count_row registrations (dispatch_count_by F (ev + 1)) (dispatch_count_by F ev) i
   pub dispatched : Renewed w dispatched_row registrations (dispatched_by F (ev + 1)) (dispatched_by F ev) i
 
-pub counts-first : {F : Facts} {ev : ℕ} {w : List ℕ} → Counting F ev w → Counts F ev 0 w w
-counts-first {F} {ev} h =
-    record {
-      upto = omega arith;
-      long = h.long;
-      aside = aside_none;
-      dispatch_count = renewed-first (dispatch_count_by F (ev + 1)) h.dispatch_count;
-      dispatched = renewed-first (dispatched_by F (ev + 1)) h.dispatched;
-    }
-
 module _ {F : Facts} {ev i : ℕ} {w₀ w : List ℕ} (h : Counts F ev i w₀ w) where
   pub counts-none : i < registrations → year.listed (F.event ev).listing i ≡ false → Counts F ev (i + 1) w₀ w
   counts-none l off =
@@ -132,6 +122,3 @@ module _ {F : Facts} {ev i : ℕ} {w₀ w : List ℕ} (h : Counts F ev i w₀ w)
         dispatch_count = renewed-more (renewed-kept h.dispatch_count s h.upto (λ a b. omega arith)) t (rw (counts-next l s, e) (dispatch-count-one F ev i on));
         dispatched = renewed-kept (renewed-more h.dispatched s (dispatched-one F ev i on)) t (omega arith) (λ a b. omega arith);
       }
-
-  pub counts_all : i ≡ registrations → Counting F (ev + 1) w
-  counts_all q = record { long = h.long; dispatch_count = rw q at h.dispatch_count.done; dispatched = rw q at h.dispatched.done }

@@ -1,5 +1,5 @@
 -- What a look at the year's cells returns: the facts of the rules.
-use Rattle.std.specs.Prelude.{ℕ, ◌+◌, ◌*◌, ◌<◌, ◌≡◌, Bool, List}
+use Rattle.std.specs.Prelude.{ℕ, ◌+◌, ◌*◌, ◌<◌, ◌≡◌, Option, Some, None, cond, List}
 use native.Mathlib.Omega.{arith}
 use Rattle.ids.specs.Ids.{at}
 use Rattle.ids.specs.Tables.{get_or-tabulate}
@@ -16,8 +16,12 @@ use Rattle.settle_facts.specs.declared.EventEntry.{EventEntry}
 abbrev pub facts : List ℕ → Facts
 facts c = facts_of (year_in c)
 
-abbrev pub look_at : Facts → ℕ → ℕ → EventEntry
-look_at F ev i = record { listed = year.listed (F.event ev).listing i; reduction = record { 0 = year.reduction (F.event ev).listing i }; second = record { 0 = year.second (F.event ev).listing i } }
+-- an event's entry as the rules have it; none where the event does not list the registration
+abbrev pub entry : Facts → ℕ → ℕ → EventEntry
+entry F ev i = record { reduction = record { 0 = year.reduction (F.event ev).listing i }; second = record { 0 = year.second (F.event ev).listing i } }
+
+abbrev pub look_at : Facts → ℕ → ℕ → Option EventEntry
+look_at F ev i = cond (year.listed (F.event ev).listing i) (Some (entry F ev i)) None
 
 -- where an event's numbers stand
 module _ (c : List ℕ) {ev : ℕ} (l : ev < event_limit) where
@@ -48,7 +52,4 @@ module _ (c : List ℕ) {ev : ℕ} (l : ev < event_limit) where
       let z : events_place + event_width * ev + (event_listing_in + (deficits_in + s)) ≡ events_place + event_width * ev + (event_deficits_in + s) = omega arith in
       rw (event-in c no_event l, ← z) (get_or-tabulate (λ k. at c (events_place + event_width * ev + (event_listing_in + (deficits_in + k)))) sellers s 0 m)
 
--- a look is made of its parts
-pub entry-is : (F : Facts) (ev i : ℕ) {l : Bool} {v w : ℕ} → l ≡ year.listed (F.event ev).listing i → v ≡ year.reduction (F.event ev).listing i → w ≡ year.second (F.event ev).listing i
-    → ◌≡◌ {A = EventEntry} (record { listed = l; reduction = record { 0 = v }; second = record { 0 = w } }) (look_at F ev i)
-entry-is F ev i a b c = cc
+pub ruleset event_cells = (month-in, period-in, dual-in, reduction-in, second-in, deficit-in)

@@ -1,2 +1,2 @@
--- A turn of the loop.
-pub mod Turn
+-- The loop's invariant.
+pub mod Begun

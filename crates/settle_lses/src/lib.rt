@@ -1,23 +1,23 @@
 // What the LSEs are credited: all charges to date less all credits, allotted by obligation.
 #![tactic(auto)]
 
-ghost use Rattle.std.specs.Prelude.{◌≡◌, ◌*◌, ◌<◌, ◌^◌, length};
+ghost use Rattle.std.specs.Prelude.{◌≡◌, ◌*◌, ◌<◌, ◌^◌};
 ghost use Rattle.ids.specs.Ids.{sum_to};
 ghost use Rattle.limits.specs.Limits.{lses};
 ghost use Rattle.year.specs.Year.{obligation};
-ghost use Rattle.year_cells.specs.Layout.{ValidCells};
 ghost use Rattle.settle_facts.specs.CellFacts.{facts};
 ghost use Rattle.owed.specs.Divisions.{lse_divisions};
-ghost use Rattle.settle_table.specs.Places.{lse_row, size};
+ghost use Rattle.settle_table.specs.Places.{lse_row};
 ghost use Rattle.settle_table.specs.Rows.{Aside, Row, none};
 ghost use Rattle.settle_lses.specs.Lses.{net, Covered, Credited};
 
 use allotment::Allotment;
 use limits::{LSES, SELLERS};
 use settle_table::Work;
-use year_cells::Cells;
+use year_cells::YearCells;
 
 // All charges less all credits.
+#[tactic(auto, unfolding(crate::specs::Lses::net))]
 fn net_of(work: &Work) -> u64
     requires { Covered work.now }
     ensures { result ≡ net work.now }
@@ -29,30 +29,24 @@ fn net_of(work: &Work) -> u64
 }
 
 // What is left after the credits is allotted to the LSEs. Who has no obligation is not known, and no party. Tells the divisions.
-pub fn credit_lses(year: &Cells, work: &mut Work) -> u64
-    requires valid_cells { ValidCells year.now }
+pub fn credit_lses(year: &YearCells, work: &mut Work) -> u64
     requires covered { Covered work.old }
-    requires year_bound { net work.old * sum_to lses (obligation (facts year.now).terms) < 2 ^ 64 }
-    requires work_len { (length work.old ≡ size) × Row work.old lse_row lses none }
-    ensures credited { Credited (facts year.now) work.old work.new }
-    ensures divisions { result ≡ lse_divisions (facts year.now) }
+    requires year_bound { net work.old * sum_to lses (obligation (facts year.now.cells).terms) < 2 ^ 64 }
+    requires empty { Row work.old lse_row lses none }
+    ensures credited { Credited (facts year.now.cells) work.old work.new }
+    ensures divisions { result ≡ lse_divisions (facts year.now.cells) }
     ensures aside { Aside lse_row lses work.old work.new }
 {
-    let net = net_of(work);
-    let mut a = Allotment::new(
-        net,
-        settle_table::sum(year, year_cells::OBLIGATIONS_PLACE, LSES),
-    );
-    let mut j: usize = 0;
-    while j < LSES {
-        let weight = year_cells::obligation_of(year, j);
-        if weight != 0 {
-            let share = a.share(weight);
-            settle_table::put(work, settle_table::LSE, j, share.value);
-            let next = share.next;
-            a = next;
+    let obligations = settle_table::sum(&year.cells, year_cells::OBLIGATIONS_PLACE, LSES);
+    let mut allotment = Allotment::new(net_of(work), obligations);
+    for j in 0..LSES {
+        let weight = year_cells::obligation_of(&year.cells, j);
+        if weight == 0 {
+            continue;
         }
-        j += 1;
+        let share = allotment.share(weight);
+        settle_table::put(work, settle_table::LSE, j, share.value);
+        allotment = share.next;
     }
-    a.divisions
+    allotment.divisions
 }

@@ -1,5 +1,5 @@
 -- The sums of an area's registrations with rates of their own, as they stand in the working table.
-use Rattle.std.specs.Prelude.{ℕ, ◌+◌, ◌-◌, ◌*◌, ◌≤◌, ◌<◌, Bool, true, false, cond, List, ◌≡◌, refl}
+use Rattle.std.specs.Prelude.{ℕ, ◌+◌, ◌*◌, ◌≤◌, ◌<◌, Bool, true, false, cond, List, ◌≡◌, refl}
 use Rattle.std.proofs.Common.{arith, zero-mul, mul-le-mul, le_refl}
 use Rattle.ids.specs.Ids.{at, only}
 use Rattle.ids.specs.Tests.{cond-le}
@@ -9,8 +9,8 @@ use Rattle.owed.specs.Facts.{Facts}
 use Rattle.owed.specs.Owed.{has_own_rate}
 use Rattle.owed.specs.Owed as owed
 use Rattle.owed_laws.specs.Limits.{Limits}
-use Rattle.settle_table.specs.Places.{area_kw_row, area_worth_row, area_rate_row}
-use Rattle.settle_table.specs.Rows.{Stored, Aside, Grown, none, aside_none, aside-more, grown-kept, grown-more, grown-most}
+use Rattle.settle_table.specs.Places.{area_kw_row, area_worth_row}
+use Rattle.settle_table.specs.Rows.{Stored, Grown, none, grown-kept, grown-more, grown-most}
 
 -- what registration i adds: kilowatts, and what they are worth
 module _ (F : Facts) where
@@ -57,9 +57,6 @@ module _ (F : Facts) (i : ℕ) {w m v : List ℕ} (l : year.area F.terms i < are
         kw = grown-kept (grown-more h.kw s₁ l refl refl) s₂ (λ a b. omega arith);
         worth = grown-more (grown-kept h.worth s₁ (λ a b. omega arith)) s₂ l refl refl;
       }
-
-  pub sums-aside : Aside area_kw_row (area_rate_row - area_kw_row) w v
-  sums-aside = aside-more (aside-more aside_none s₁ (omega arith) (omega arith)) s₂ (omega arith) (omega arith)
 
 -- what is stored before the sums leaves them as they are
 pub sums_kept : {F : Facts} {i q x : ℕ} {w v : List ℕ} → AreaSums F i w → Stored q x w v → q < area_kw_row → AreaSums F i v

@@ -6,7 +6,7 @@ use Rattle.ids.specs.Sets.{get_or-replicate-same}
 use Rattle.limits.specs.Limits.{registrations, areas}
 use Rattle.year.specs.declared.Registration.{Registration}
 use Rattle.year.specs.Year as year
-use Rattle.year_cells.specs.Layout.{group_in, year_in, ValidCells}
+use Rattle.year_cells.specs.Layout.{group_in, year_in}
 use Rattle.owed.specs.Facts.{Facts}
 use Rattle.owed.specs.Owed as owed
 use Rattle.settle_facts.specs.CellFacts.{facts}
@@ -36,9 +36,9 @@ pub record Begun (c : List ℕ) (i : ℕ) (w : List ℕ) : Type 0 where
   pub sums : AreaSums (facts c) i w
   pub fresh : Row w dispatch_count_row fresh_places none
 
--- registration i may be entered next: it is that of the valid cells, and those before it stand in the table
+-- registration i may be entered next: it is that of the cells, and those before it stand in the table
 abbrev pub Next : List ℕ → ℕ → Registration → List ℕ → Type 0
-Next c i r w = ValidCells c × (i < registrations) × (r ≡ year.registration (year_in c).terms i) × Begun c i w
+Next c i r w = (i < registrations) × (r ≡ year.registration (year_in c).terms i) × Begun c i w
 
 pub begun_first : (c : List ℕ) → Begun c 0 (replicate size 0)
 begun_first c =

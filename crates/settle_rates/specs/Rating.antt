@@ -93,11 +93,4 @@ rating-more {w = w} {v = v} h l s d t e =
       fresh = row-aside h.fresh a (λ j l x y. omega arith);
     }
 
-pub rating-all : {c w : List ℕ} → Rating c registrations w → Rated c w
-rating-all h =
-    let t = h.entered in
-    record {
-      columns = record { long = h.long; seller = t.seller; product = t.product; committed = t.committed; rate = h.rate.done; cap = h.cap.done };
-      group = t.group;
-      fresh = h.fresh;
-    }
+pub ruleset rating_begins = rating-first

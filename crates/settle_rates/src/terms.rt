@@ -5,12 +5,12 @@ ghost use Rattle.settle_rates.specs.Entering.{Begun, Next};
 use crate::area_sums::add_to_area;
 use settle_table::Work;
 use year::Registration;
-use year_cells::Cells;
+use year_cells::YearCells;
 
 // A registration's terms go into the table, with its own rate and the cap by that: the rate for all that it committed.
-pub fn enter(year: &Cells, work: &mut Work, i: usize, r: Registration)
-    requires { Next year.now i r work.old }
-    ensures { Begun year.now (i + 1) work.new }
+pub fn enter(year: &YearCells, work: &mut Work, i: usize, r: Registration)
+    requires { Next year.now.cells i r work.old }
+    ensures { Begun year.now.cells (i + 1) work.new }
 {
     let own = add_to_area(year, work, i, r);
     let committed = r.committed;

@@ -1,5 +1,5 @@
 -- What is measured off-peak in a dual event: sums by seller entry by entry, then shortfalls seller by seller, then the off-peak u entry by entry.
-use Rattle.std.specs.Prelude.{ℕ, ◌+◌, ◌-◌, ◌≤◌, ◌<◌, ◌≡◌, refl, Bool, true, false, ◌&&◌, not, List, eqb}
+use Rattle.std.specs.Prelude.{ℕ, ◌+◌, ◌-◌, ◌≤◌, ◌<◌, ◌≡◌, refl, Bool, true, false, ◌&&◌, not, cond, Option, Some, None, List, eqb}
 use Rattle.std.proofs.Common.{sym, ◌∙◌, arith, mul-le-mul, lit≤}
 use Rattle.ids.specs.Ids.{at}
 use Rattle.ids.specs.Sums.{sum-zero}
@@ -20,9 +20,9 @@ use Rattle.owed_laws.specs.Unlisted.{off-none}
 use Rattle.settle_shortfalls.specs.Sharing.{second_of, Shares, shares-aside}
 use Rattle.settle_table.specs.Columns.{Columns, columns-aside}
 use Rattle.settle_table.specs.Places.{amount_in, passed_in, divisions_in, carried_width, off_u_row, off_short_row, off_over_row, test_row, off_peak_places}
-use Rattle.settle_table.specs.Rows.{Stored, Aside, Row, Renewed, none, mark, aside_none, aside-of, aside-more, aside_then, row_same, row_kept, row_within, row_first, row_more, renewed-first, renewed-aside, renewed-more, renewed-none}
-use Rattle.settle_shortfalls.specs.Sums.{Sums, Summed, sums_first, sums_none, sums-more, sums-all, summed_kept, shortfall-is}
-use Rattle.settle_shortfalls.specs.declared.off_peak.OffPeakEntry.{OffPeakEntry}
+use Rattle.settle_table.specs.Rows.{Stored, Aside, Row, Renewed, none, mark, aside_none, aside-of, aside-more, aside_then, row_same, row_kept, row_within, row_more, renewed-first, renewed-aside, renewed-more, renewed-none}
+use Rattle.settle_shortfalls.specs.Sums.{compared_by, Sums, Summed, sums_first, sums_none, sums-more, sums-all, summed_kept, shortfall-is}
+use Rattle.settle_shortfalls.specs.declared.Compared.{Compared}
 
 -- what the table has of an event's entries
 pub record Entries (F : Facts) (ev : ℕ) (w : List ℕ) : Type 0 where
@@ -33,21 +33,22 @@ pub entries-aside : {F : Facts} {ev p n : ℕ} {w v : List ℕ} → Entries F ev
 entries-aside h a l =
     record { columns = columns-aside h.columns a (lit≤ tt) (omega arith); shares = shares-aside h.shares a (λ k x y c d. omega arith) }
 
--- an entry as the rules have it
-abbrev pub entry_at : Facts → ℕ → ℕ → OffPeakEntry
-entry_at F ev i =
-    record { measured = measured F ev i; seller = F.seller i; short = record { 0 = year.committed F.terms i - second_of F ev i }; over = record { 0 = second_of F ev i - year.committed F.terms i } }
+-- an entry as the rules have it; none where it is not measured
+abbrev pub entry : Facts → ℕ → ℕ → Compared
+entry F ev i = compared_by F i (second_of F ev i)
 
+abbrev pub entry_at : Facts → ℕ → ℕ → Option Compared
+entry_at F ev i = cond (measured F ev i) (Some (entry F ev i)) None
+
+-- the test of an entry in the table
 marked : (b : Bool) → not (eqb (mark b) 0) ≡ b
 marked true = refl
 marked false = refl
 
--- made of its parts
-pub entry-is : (F : Facts) (ev i : ℕ) {a : Bool} {l p s x y : ℕ} → a ≡ (F.event ev).dual → l ≡ mark (year.listed (F.event ev).listing i) → p ≡ year.product F.terms i → s ≡ F.seller i
-    → x ≡ year.committed F.terms i - second_of F ev i → y ≡ second_of F ev i - year.committed F.terms i
-    → ◌≡◌ {A = OffPeakEntry} (record { measured = a && (not (eqb l 0) && not (eqb p limited)); seller = s; short = record { 0 = x }; over = record { 0 = y } }) (entry_at F ev i)
+pub measured-is : (F : Facts) (ev i : ℕ) {a : Bool} {l p : ℕ} → a ≡ (F.event ev).dual → l ≡ mark (year.listed (F.event ev).listing i) → p ≡ year.product F.terms i
+    → (a && (not (eqb l 0) && not (eqb p limited))) ≡ measured F ev i
 unfolding measured
-entry-is F ev i a l p s x y = rw (a, l, p, s, x, y, marked (year.listed (F.event ev).listing i))
+measured-is F ev i a l p = rw (a, l, p, marked (year.listed (F.event ev).listing i))
 
 -- one that is measured is listed, and so its second reduction counts
 pub second_is : (F : Facts) (ev i : ℕ) → measured F ev i ≡ true → second_of F ev i ≡ year.second (F.event ev).listing i
@@ -100,7 +101,7 @@ module _ {F : Facts} {ev i : ℕ} {w₀ w : List ℕ} (h : Weighing F ev i w₀ 
   pub weighing-none : i < registrations → measured F ev i ≡ false → Weighing F ev (i + 1) w₀ w
   weighing-none l z = record { upto = omega arith; entries = h.entries; aside = h.aside; sums = sums_none h.sums z; fresh = h.fresh }
 
-  pub weighing-more : {m y : List ℕ} → i < registrations → measured F ev i ≡ true → F.seller i < sellers → let x = entry_at F ev i in
+  pub weighing-more : {m y : List ℕ} → i < registrations → measured F ev i ≡ true → F.seller i < sellers → let x = entry F ev i in
       Stored (off_short_row + F.seller i) (at w (off_short_row + F.seller i) + x.short.0) w m
       → Stored (off_over_row + F.seller i) (at m (off_over_row + F.seller i) + x.over.0) m y → Weighing F ev (i + 1) w₀ y
   weighing-more u on l s1 s2 =
@@ -122,9 +123,6 @@ pub record Netted (F : Facts) (ev s : ℕ) (w : List ℕ) : Type 0 where
   pub upto : s ≤ sellers
   pub weighed : Weighed F ev w
   pub shortfall : Row w (off_short_row + amount_in) s (off_shortfall F ev)
-
-pub netted-first : {F : Facts} {ev : ℕ} {w : List ℕ} → Weighed F ev w → Netted F ev 0 w
-netted-first {F} {ev} {w} h = record { upto = omega arith; weighed = h; shortfall = row_first w (off_short_row + amount_in) (off_shortfall F ev) }
 
 pub netted-more : {F : Facts} {ev s short over a : ℕ} {w v : List ℕ} → Netted F ev s w → s < sellers → short ≡ at w (off_short_row + s) → over ≡ at w (off_over_row + s)
     → a ≡ unforced F (short - over) - year.deficit (F.event ev).listing s → Stored (off_short_row + amount_in + s) a w v → Netted F ev (s + 1) v
@@ -172,15 +170,15 @@ module _ {F : Facts} {ev i : ℕ} {w₀ w : List ℕ} (h : Sharing F ev i w₀ w
 
   -- a measured entry
   module _ (L : Limits F) (l : i < registrations) (on : measured F ev i ≡ true) where
-    short-is : (entry_at F ev i).short.0 ≡ off_short F ev i
+    short-is : (entry F ev i).short.0 ≡ off_short F ev i
     short-is = rw (on, second_is F ev i on)
 
-    pub u-asks : Asks (stepper off_short_row w (F.seller i)) (entry_at F ev i).short.0
+    pub u-asks : Asks (stepper off_short_row w (F.seller i)) (entry F ev i).short.0
     u-asks =
         allotments-asks h.short (L.seller i) short-is l
         (omega (arith, mul-le-mul (shortfall-le L (measured F ev) (year.second (F.event ev).listing) (year.deficit (F.event ev).listing) (F.seller i)) (of_seller-le F (F.seller i) nominated_limit (short-le L (measured F ev) (year.second (F.event ev).listing)))))
 
-    pub sharing-more : {m v : List ℕ} {u : ℕ} → Shared off_short_row (F.seller i) (entry_at F ev i).short.0 w m u → Stored (off_u_row + i) u m v → Sharing F ev (i + 1) w₀ v
+    pub sharing-more : {m v : List ℕ} {u : ℕ} → Shared off_short_row (F.seller i) (entry F ev i).short.0 w m u → Stored (off_u_row + i) u m v → Sharing F ev (i + 1) w₀ v
     unfolding off_u
     sharing-more {m} {v} g st =
         let moved : Aside (off_short_row + passed_in) carried_width w m = shared-aside (L.seller i) g in

@@ -18,7 +18,7 @@ use Rattle.settle_table.specs.Columns.{Columns, columns-aside}
 use Rattle.settle_table.specs.Places.{passed_in, divisions_in, carried_width, short_row, over_row, u_row, e_row, listed_row, second_row, off_u_row, shared_places}
 use Rattle.settle_table.specs.Rows.{Stored, Aside, Row, Renewed, none, mark, aside_none, aside-more, aside_then, row-aside, row_within, renewed-first, renewed-kept, renewed-aside, renewed-more, renewed-none}
 use Rattle.settle_shortfalls.specs.declared.MeasuredEntry.{MeasuredEntry}
-use Rattle.settle_shortfalls.specs.Weighing.{entry_at, Ready}
+use Rattle.settle_shortfalls.specs.Weighing.{entry, Ready}
 
 -- the second reductions of an event's entries
 abbrev pub second_of : Facts → ℕ → ℕ → ℕ
@@ -96,35 +96,35 @@ module _ {F : Facts} {ev i : ℕ} {w₀ w : List ℕ} (h : Sharing F ev i w₀ w
   -- a listed entry
   module _ (L : Limits F) (l : i < registrations) (on : year.listed (F.event ev).listing i ≡ true) where
     abbrev x : MeasuredEntry
-    x = entry_at F ev i
+    x = entry F ev i
 
-    short-is : x.short.0 ≡ owed.short F ev i
+    short-is : x.first.short.0 ≡ owed.short F ev i
     short-is = rw on
 
-    over-is : x.over.0 ≡ owed.over F ev i
+    over-is : x.first.over.0 ≡ owed.over F ev i
     over-is = rw on
 
-    pub u-asks : Asks (stepper short_row w x.seller) x.short.0
+    pub u-asks : Asks (stepper short_row w x.first.seller) x.first.short.0
     u-asks =
         allotments-asks h.short (L.seller i) short-is l
         (omega (arith, mul-le-mul (shortfall-le L (year.listed (F.event ev).listing) (year.reduction (F.event ev).listing) (year.deficit (F.event ev).listing) (F.seller i)) (of_seller-le F (F.seller i) nominated_limit (short-le L (year.listed (F.event ev).listing) (year.reduction (F.event ev).listing)))))
 
     -- u is allotted
-    module _ {m : List ℕ} {u : ℕ} (g : Shared short_row x.seller x.short.0 w m u) where
+    module _ {m : List ℕ} {u : ℕ} (g : Shared short_row x.first.seller x.first.short.0 w m u) where
       u-aside : Aside (short_row + passed_in) carried_width w m
       u-aside = shared-aside (L.seller i) g
 
       u-over : SellerAllotments F (year.listed (F.event ev).listing) (owed.over F ev) (owed.excess F ev) over_row i m
       u-over = allotments-aside h.over u-aside (λ k a b c d. omega arith)
 
-      pub e-asks : Asks (stepper over_row m x.seller) x.over.0
+      pub e-asks : Asks (stepper over_row m x.first.seller) x.first.over.0
       e-asks =
           let most = of_seller-le F (F.seller i) nominated_limit (over-le L (year.listed (F.event ev).listing) (L.reduction ev)) in
           let less : owed.excess F ev (F.seller i) ≤ nominated_sum = omega (arith, excess-le L ev (F.seller i)) in
           allotments-asks u-over (L.seller i) over-is l (omega (arith, mul-le-mul less most))
 
       -- e too, and both are kept
-      module _ {m' : List ℕ} {e : ℕ} (g' : Shared over_row x.seller x.over.0 m m' e) where
+      module _ {m' : List ℕ} {e : ℕ} (g' : Shared over_row x.first.seller x.first.over.0 m m' e) where
         e-aside : Aside (over_row + passed_in) carried_width m m'
         e-aside = shared-aside (L.seller i) g'
 

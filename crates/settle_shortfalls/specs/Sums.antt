@@ -1,9 +1,10 @@
 -- What entries that are picked are short and over, summed up by seller in two rows of the working table, and their sellers' shortfalls from these.
-use Rattle.std.specs.Prelude.{ℕ, ◌+◌, ◌-◌, ◌≤◌, ◌<◌, ◌≡◌, refl, Bool, true, false, List}
-use Rattle.std.proofs.Common.{arith}
+use Rattle.std.specs.Prelude.{ℕ, ◌+◌, ◌-◌, ◌≤◌, ◌<◌, ◌≡◌, refl, Bool, true, false, cond, Some, None, List}
+use Rattle.std.proofs.Common.{sym, arith}
+use Rattle.std.proofs.lemmas.Option.{cond_some}
 use Rattle.ids.specs.Ids.{at}
 use Rattle.limits.specs.Limits.{registrations, sellers, nominated_limit, nominated_sum}
-use Rattle.settle_table.specs.Places.{allotment_width}
+use Rattle.settle_table.specs.Places.{seller_row, committed_row, allotment_width}
 use Rattle.year.specs.Year as year
 use Rattle.owed.specs.Facts.{Facts}
 use Rattle.owed.specs.Owed.{of_seller, unforced, short_of, over_of, shortfall_over}
@@ -12,7 +13,32 @@ use Rattle.owed_laws.specs.Sellers.{of_seller-le, net-is}
 use Rattle.owed_laws.specs.Bounds.{short-le, over-le}
 use Rattle.settle_table.specs.Rows.{Stored, Row, Grown, none, row_same, row_kept, grown-first, grown-kept, grown-none, grown-more, grown-most}
 use Rattle.year_cells.specs.Rows.{Off}
+use Rattle.settle_table.specs.Columns.{Columns}
+use Rattle.settle_shortfalls.specs.declared.Compared.{Compared}
 use Rattle.settle_shortfalls.specs.declared.Net.{Net}
+
+-- what is told where a test holds, and that nothing is told where it fails
+pub told : {A : Type 0} {b : Bool} {e x : A} → Some x ≡ cond b (Some e) None → (b ≡ true) × (e ≡ x)
+told {A} {b} {e} {x} q = cond_some b e x (sym q)
+
+pub untold : {A : Type 0} {b : Bool} (e : A) → None ≡ cond b (Some e) None → b ≡ false
+untold {b = true} e q = cc
+untold {b = false} e q = refl
+
+-- a registration's reduction compared with what it committed: in the table, and by the rules
+abbrev pub compare : List ℕ → ℕ → ℕ → Compared
+compare w i r =
+    record { seller = at w (seller_row + i); short = record { 0 = at w (committed_row + i) - r }; over = record { 0 = r - at w (committed_row + i) } }
+
+abbrev pub compared_by : Facts → ℕ → ℕ → Compared
+compared_by F i r =
+    record { seller = F.seller i; short = record { 0 = year.committed F.terms i - r }; over = record { 0 = r - year.committed F.terms i } }
+
+pub compare-is : {F : Facts} {w : List ℕ} → Columns F registrations w → (i r : ℕ) → i < registrations → compare w i r ≡ compared_by F i r
+compare-is c i r l =
+    let s = c.seller.is i l in
+    let k = c.committed.is i l in
+    λ j. record { seller = s j; short = record { 0 = k j - r }; over = record { 0 = r - k j } }
 
 -- a seller's sums in the rows from p on and from p + 80 on, and its shortfall from these, with its deficit
 abbrev pub net_of : Facts → List ℕ → ℕ → ℕ → ℕ → Net

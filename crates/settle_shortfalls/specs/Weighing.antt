@@ -1,5 +1,5 @@
 -- Pass 2: sums by seller entry by entry, then shortfalls and excesses seller by seller.
-use Rattle.std.specs.Prelude.{ℕ, ◌+◌, ◌-◌, ◌≤◌, ◌<◌, ◌≡◌, true, false, List, length}
+use Rattle.std.specs.Prelude.{ℕ, ◌+◌, ◌-◌, ◌≤◌, ◌<◌, ◌≡◌, true, false, cond, Option, Some, None, List, length}
 use Rattle.std.proofs.Common.{sym, ◌∙◌, arith, lit≤}
 use Rattle.ids.specs.Ids.{at}
 use Rattle.limits.specs.Limits.{registrations, sellers}
@@ -12,13 +12,16 @@ use Rattle.owed_laws.specs.Sellers.{excess-is}
 use Rattle.settle_table.specs.Columns.{Columns, columns-aside}
 use Rattle.settle_table.specs.Places.{amount_in, passed_in, carried_width, short_row, over_row, u_row, allotment_places, later_places, size}
 use Rattle.settle_shortfalls.specs.declared.MeasuredEntry.{MeasuredEntry}
-use Rattle.settle_shortfalls.specs.Sums.{Sums, Summed, sums_first, sums_none, sums-more, sums-all, summed_kept, shortfall-is}
-use Rattle.settle_table.specs.Rows.{Stored, Aside, Row, none, aside_none, aside-of, aside-more, row_kept, row_within, row_first, row_more}
+use Rattle.settle_shortfalls.specs.Sums.{compared_by, Sums, Summed, sums_first, sums_none, sums-more, sums-all, summed_kept, shortfall-is}
+use Rattle.settle_table.specs.Rows.{Stored, Aside, Row, none, aside_none, aside-of, aside-more, row_kept, row_within, row_more}
 
--- an entry as the rules have it
-abbrev pub entry_at : Facts → ℕ → ℕ → MeasuredEntry
-entry_at F ev i =
-    record { listed = year.listed (F.event ev).listing i; seller = F.seller i; short = record { 0 = year.committed F.terms i - year.reduction (F.event ev).listing i }; over = record { 0 = year.reduction (F.event ev).listing i - year.committed F.terms i }; second = record { 0 = year.second (F.event ev).listing i } }
+-- an entry as the rules have it; none where the event does not list the registration
+abbrev pub entry : Facts → ℕ → ℕ → MeasuredEntry
+entry F ev i =
+    record { first = compared_by F i (year.reduction (F.event ev).listing i); second = record { 0 = year.second (F.event ev).listing i } }
+
+abbrev pub entry_at : Facts → ℕ → ℕ → Option MeasuredEntry
+entry_at F ev i = cond (year.listed (F.event ev).listing i) (Some (entry F ev i)) None
 
 -- the sums of an event's entries, and nothing allotted yet
 pub record Weighed (F : Facts) (ev : ℕ) (w : List ℕ) : Type 0 where
@@ -60,7 +63,7 @@ module _ {F : Facts} {ev i : ℕ} {w₀ w : List ℕ} (h : Weighing F ev i w₀ 
       }
 
   -- a listed entry
-  pub weighing-more : {m y : List ℕ} → i < registrations → year.listed (F.event ev).listing i ≡ true → F.seller i < sellers → let x = entry_at F ev i in
+  pub weighing-more : {m y : List ℕ} → i < registrations → year.listed (F.event ev).listing i ≡ true → F.seller i < sellers → let x = (entry F ev i).first in
       Stored (short_row + F.seller i) (at w (short_row + F.seller i) + x.short.0) w m
       → Stored (over_row + F.seller i) (at m (over_row + F.seller i) + x.over.0) m y → Weighing F ev (i + 1) w₀ y
   weighing-more u on l s1 s2 =
@@ -82,10 +85,6 @@ pub record Netted (F : Facts) (ev s : ℕ) (w : List ℕ) : Type 0 where
   pub weighed : Weighed F ev w
   pub shortfall : Row w (short_row + amount_in) s (owed.shortfall F ev)
   pub excess : Row w (over_row + amount_in) s (owed.excess F ev)
-
-pub netted-first : {F : Facts} {ev : ℕ} {w : List ℕ} → Weighed F ev w → Netted F ev 0 w
-netted-first {F} {ev} {w} h =
-    record { upto = omega arith; weighed = h; shortfall = row_first w (short_row + amount_in) (owed.shortfall F ev); excess = row_first w (over_row + amount_in) (owed.excess F ev) }
 
 module _ {F : Facts} {ev s : ℕ} {w : List ℕ} (h : Netted F ev s w) where
   module _ {short over : ℕ} (l : s < sellers) (p : short ≡ at w (short_row + s)) (q : over ≡ at w (over_row + s)) where

@@ -1,7 +1,6 @@
 // Pass 3 over an event's entries: u and e, kept in the working table for the charges and the credits, and second reductions for what is measured off-peak.
 ghost use Rattle.std.specs.Prelude.{◌<◌};
 ghost use Rattle.limits.specs.Limits.{registrations, event_limit};
-ghost use Rattle.year_cells.specs.Layout.{ValidCells};
 ghost use Rattle.settle_facts.specs.CellFacts.{facts};
 ghost use Rattle.settle_table.specs.Columns.{Columns};
 ghost use Rattle.settle_table.specs.Places.{short_row, shared_places};
@@ -11,30 +10,25 @@ ghost use Rattle.settle_shortfalls.specs.Sharing.{Shares, Divided};
 
 use limits::REGISTRATIONS;
 use settle_table::Work;
-use units::{Nominated, Unforced};
-use year_cells::Cells;
+use year_cells::YearCells;
 
 // Each entry's shares of its seller's shortfall and excess; the table then tells each seller's divisions.
-pub fn share(year: &Cells, work: &mut Work, ev: usize)
-    requires valid_cells { ValidCells year.now }
+pub fn share(year: &YearCells, work: &mut Work, ev: usize)
     requires ev_lt_event_limit { ev < event_limit }
-    requires columns { Columns (facts year.now) registrations work.old }
-    requires ready { Ready (facts year.now) ev work.old }
-    ensures shares { Shares (facts year.now) ev work.new }
-    ensures divisions { Divided (facts year.now) ev work.new }
+    requires columns { Columns (facts year.now.cells) registrations work.old }
+    requires ready { Ready (facts year.now.cells) ev work.old }
+    ensures shares { Shares (facts year.now.cells) ev work.new }
+    ensures divisions { Divided (facts year.now.cells) ev work.new }
     ensures aside { Aside short_row shared_places work.old work.new }
 {
-    let mut i: usize = 0;
-    while i < REGISTRATIONS {
-        let x = crate::entry_at(year, work, ev, i);
-        if x.listed {
-            let u = Unforced(settle_table::share(work, settle_table::SHORT, x.seller, x.short.0));
-            let e = Nominated(settle_table::share(work, settle_table::OVER, x.seller, x.over.0));
-            settle_table::put(work, settle_table::U, i, u.0);
-            settle_table::put(work, settle_table::E, i, e.0);
+    for i in 0..REGISTRATIONS {
+        if let Some(x) = crate::entry_at(year, work, ev, i) {
+            let u = settle_table::share(work, settle_table::SHORT, x.first.seller, x.first.short.0);
+            let e = settle_table::share(work, settle_table::OVER, x.first.seller, x.first.over.0);
+            settle_table::put(work, settle_table::U, i, u);
+            settle_table::put(work, settle_table::E, i, e);
             settle_table::put(work, settle_table::LISTED, i, 1);
             settle_table::put(work, settle_table::SECOND, i, x.second.0);
         }
-        i += 1;
     }
 }

@@ -8,7 +8,6 @@ use Rattle.ids.specs.Tests.{and-false, cond-le}
 use Rattle.limits.specs.Limits.{registrations, sellers}
 use Rattle.settle_table.specs.Places.{amount_in, passed_in, quotient_in, divisions_in, allotment_width, carried_width}
 use Rattle.allotment.specs.declared.Allotment.{Allotment}
-use Rattle.allotment.specs.declared.Share.{Share}
 use Rattle.allotment.specs.Stepper.{Asks, Gives, Before, before-first, share-asks, share-value, share-next, share-skip, divisions-made}
 use Rattle.owed.specs.Facts.{Facts}
 use Rattle.owed.specs.Divisions.{seller_entry, divisions_of}
@@ -26,29 +25,6 @@ pub record Shared (p s weight : ℕ) (w v : List ℕ) (r : ℕ) : Type 0 where
   pub long : length v ≡ length w
   pub others : (k : ℕ) → (k ≡ p + passed_in + s → ⊥) → (k ≡ p + quotient_in + s → ⊥) → (k ≡ p + divisions_in + s → ⊥) → at v k ≡ at w k
   pub gives : Gives (stepper p w s) weight (record { value = r; next = stepper p v s })
-
--- the next weight and quotient are stored, and the count
-pub shared : {p s weight : ℕ} {w m n v : List ℕ} {r : Share} → s < sellers → Gives (stepper p w s) weight r
-    → Stored (p + passed_in + s) r.next.passed w m → Stored (p + quotient_in + s) r.next.quotient m n → Stored (p + divisions_in + s) r.next.divisions n v
-    → Shared p s weight w v r.value
-shared {p} {s} {weight} {w} {m} {n} {v} {r} l g a b c =
-    record {
-      long = c.long ∙ b.long ∙ a.long;
-      others = others;
-      gives = record {
-        value = g.value;
-        next = record {
-          amount = others (p + amount_in + s) (λ e. omega arith) (λ e. omega arith) (λ e. omega arith);
-          total = others (p + s) (λ e. omega arith) (λ e. omega arith) (λ e. omega arith);
-          passed = c.others (p + passed_in + s) (λ e. omega arith) ∙ b.others (p + passed_in + s) (λ e. omega arith) ∙ a.here ∙ g.next.passed;
-          quotient = c.others (p + quotient_in + s) (λ e. omega arith) ∙ b.here ∙ g.next.quotient;
-          divisions = c.here ∙ g.next.divisions;
-        };
-      };
-    }
-  where
-    others : (k : ℕ) → (k ≡ p + passed_in + s → ⊥) → (k ≡ p + quotient_in + s → ⊥) → (k ≡ p + divisions_in + s → ⊥) → at v k ≡ at w k
-    others k x y z = c.others k z ∙ b.others k y ∙ a.others k x
 
 pub shared-aside : {p s weight r : ℕ} {w v : List ℕ} → s < sellers → Shared p s weight w v r → Aside (p + passed_in) carried_width w v
 shared-aside l g =

@@ -1,6 +1,6 @@
 -- Rows of a table of numbers: what a store does to a row, and sums by key that grow in one. These laws hold of any table.
-use Rattle.std.specs.Prelude.{ℕ, ◌+◌, ◌*◌, ◌-◌, ◌≤◌, ◌<◌, ◌≡◌, refl, Bool, true, false, cond, List, eqb, length, set}
-use Rattle.std.proofs.Common.{sym, ◌∙◌, arith, mul-le-mul_right, length-set, get_or-set_same, get_or-set_other, eq-eqb, ne_eqb, eqb-true}
+use Rattle.std.specs.Prelude.{ℕ, ◌+◌, ◌*◌, ◌-◌, ◌≤◌, ◌<◌, ◌≡◌, refl, Bool, true, false, cond, List, eqb, length}
+use Rattle.std.proofs.Common.{sym, ◌∙◌, arith, mul-le-mul_right, eq-eqb, ne_eqb, eqb-true}
 use Rattle.std.proofs.lemmas.Bool.{eqb-false}
 use Rattle.ids.specs.Ids.{at, sum_to, keyed}
 use Rattle.ids.specs.Sums.{sum_step, sum_bound}
@@ -13,10 +13,6 @@ pub record Stored (q x : ℕ) (w v : List ℕ) : Type 0 where
   pub long : length v ≡ length w
   pub here : at v q ≡ x
   pub others : (k : ℕ) → (k ≡ q → ⊥) → at v k ≡ at w k
-
-pub stored : (w : List ℕ) (q x : ℕ) → q < length w → Stored q x w (set w q x)
-stored w q x l =
-    record { long = length-set w q x; here = get_or-set_same w q x 0 l; others = λ k o. get_or-set_other w q k x 0 (λ e. o (omega arith)) }
 
 -- v is w but for the n cells from p on
 pub record Aside (p n : ℕ) (w v : List ℕ) : Type 0 where

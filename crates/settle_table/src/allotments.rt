@@ -1,5 +1,5 @@
 // An amount a seller, allotted over its registrations: sixteen allotments side by side in five rows of the working table.
-ghost use Rattle.std.specs.Prelude.{◌≡◌, ◌+◌, ◌≤◌, ◌<◌, length};
+ghost use Rattle.std.specs.Prelude.{◌+◌, ◌≤◌, ◌<◌};
 ghost use Rattle.limits.specs.Limits.{sellers};
 ghost use Rattle.allotment.specs.Stepper.{Asks};
 ghost use Rattle.settle_table.specs.Places.{allotment_width, size};
@@ -22,7 +22,7 @@ pub const ALLOTMENT_WIDTH: usize = DIVISIONS + SELLERS;
 
 // The share of seller s's next weight, in the rows from p on.
 pub fn share(work: &mut Work, p: usize, s: usize, weight: u64) -> u64
-    requires work_len { (length work.old ≡ size) × (p + allotment_width ≤ size) × (s < sellers) }
+    requires within { (p + allotment_width ≤ size) × (s < sellers) }
     requires asks { Asks (stepper p work.old s) weight }
     ensures { Shared p s weight work.old work.new result }
 {

@@ -15,6 +15,8 @@ pub use allotments::{ALLOTMENT_WIDTH, AMOUNT, share};
 // Rows that change together stand together (specs/Places.antt).
 pub const SIZE: usize = AREA_RATE + AREAS;
 
+// One flat array and functions over it, not a struct of rows: that a pass leaves the other passes' rows alone is one fact of one list
+// (Aside and Row, in every pass's clauses), and `add_at` and `sum` serve arrays that are no such table too.
 pub type Work = [u64; SIZE];
 
 // By registration: its terms, copied from the lent run; its rate in force, and its cap.
@@ -103,9 +105,7 @@ pub fn add_at(work: &mut [u64], row: usize, i: usize, x: u64)
     requires { (row + i < length work.old) × (at work.old (row + i) + x < 2 ^ 64) }
     ensures { Stored (row + i) (at work.old (row + i) + x) work.old work.new }
 {
-    let place = row + i;
-    let sum = work[place];
-    work[place] = sum + x;
+    work[row + i] += x;
 }
 
 // Zeros in the n places from p on.
@@ -114,11 +114,7 @@ pub fn zero(work: &mut [u64], p: usize, n: usize)
     ensures zeros { Row work.new p n none }
     ensures aside { Aside p n work.old work.new }
 {
-    let mut i: usize = 0;
-    while i < n {
-        put(work, p, i, 0);
-        i += 1;
-    }
+    work[p..p + n].fill(0);
 }
 
 // The sum of the n places from p on.
@@ -126,11 +122,5 @@ pub fn sum(cells: &[u64], p: usize, n: usize) -> u64
     requires { (p + n ≤ length cells.now) × (sum_to n (λ i. at cells.now (p + i)) < 2 ^ 64) }
     ensures { result ≡ sum_to n (λ i. at cells.now (p + i)) }
 {
-    let mut sum: u64 = 0;
-    let mut i: usize = 0;
-    while i < n {
-        sum += cells[p + i];
-        i += 1;
-    }
-    sum
+    cells[p..p + n].iter().sum()
 }

@@ -1,5 +1,6 @@
 -- The entries of all tests and retests in the year's cells, as the facts of each test; which of them stand; and a group without a test.
-use Rattle.std.specs.Prelude.{ℕ, ◌+◌, ◌*◌, ◌-◌, ◌≤◌, ◌<◌, ◌≡◌, Bool, ◌&&◌, List, get_or}
+use Rattle.std.specs.Prelude.{ℕ, ◌+◌, ◌*◌, ◌-◌, ◌≤◌, ◌<◌, ◌≡◌, Bool, ◌&&◌, Option, Some, None, List, get_or}
+use Rattle.std.specs.Option.{is_some}
 use Rattle.std.proofs.Math.Path.{refl, sym}
 use Rattle.std.proofs.Common.{ap, ◌∙◌, eq-eqb}
 use Rattle.std.proofs.Math.Bool.{true, false, not, cond}
@@ -21,7 +22,7 @@ use Rattle.year_tested.specs.Tested.{tested-in, first-in}
 use Rattle.owed.specs.Owed.{D, raised, unforced, of_seller, dispatched, shortfall_over, test_shortfall, B, test_charge}
 use Rattle.owed.specs.Owed as owed
 use Rattle.owed_laws.specs.Limits.{limits}
-use Rattle.settle_tests.specs.declared.sums.TestEntry.{TestEntry}
+use Rattle.units.specs.declared.Nominated.{Nominated}
 use Rattle.settle_facts.specs.CellFacts.{facts}
 use Rattle.settle_table.specs.Places.{dispatched_row, group_row}
 use Rattle.settle_table.specs.Rows.{Row, mark}
@@ -33,16 +34,27 @@ unless true e = ap not e
 unless false e = ap not e
 
 module _ (c : List ℕ) where
-  -- what a look at registration i's entry returns: its reduction is the retested one, if there is one, else the first
+  -- what a look at registration i's entry returns: the retested reduction, if there is one, else the first
   abbrev pub result_at : ℕ → ℕ
   result_at i = cond (retest_of (year_in c) i).taken (retest_of (year_in c) i).reduction (at c (test_entries_place + (reductions_in + i)))
 
-  abbrev pub look_at : ℕ → TestEntry
-  look_at i = record { listed = flag (at c (test_entries_place + i)); reduction = record { 0 = result_at i } }
+  abbrev pub listed_at : ℕ → Bool
+  listed_at i = flag (at c (test_entries_place + i))
+
+  -- of one that no test lists, nothing
+  abbrev pub look_at : ℕ → Option Nominated
+  look_at i = cond (listed_at i) (Some (record { 0 = result_at i })) None
+
+  pub looks : (i : ℕ) → is_some (look_at i) ≡ listed_at i
+  looks i = go (listed_at i)
+    where
+      go : (b : Bool) → is_some {T = Nominated} (cond b (Some (record { 0 = result_at i })) None) ≡ b
+      go true = refl
+      go false = refl
 
   -- does it stand: is it listed, and its registration by no event
   unfoldable pub stands : ℕ → Bool
-  stands i = (look_at i).listed && not (dispatched (facts c) i)
+  stands i = listed_at i && not (dispatched (facts c) i)
 
   -- is the test of a group taken
   abbrev pub taken_at : ℕ → Bool
@@ -54,11 +66,11 @@ module _ (c : List ℕ) where
     pub dispatched : Row w dispatched_row registrations (λ i. mark (dispatched (facts c) i))
     pub group : Row w group_row registrations (group_in c)
 
-  pub stands-off : (i : ℕ) → (look_at i).listed ≡ false → false ≡ stands i
+  pub stands-off : (i : ℕ) → listed_at i ≡ false → false ≡ stands i
   unfolding stands
   stands-off i e = rw e
 
-  pub stands_on : (i : ℕ) {x : ℕ} → (look_at i).listed ≡ true → x ≡ mark (dispatched (facts c) i) → eqb x 0 ≡ stands i
+  pub stands_on : (i : ℕ) {x : ℕ} → listed_at i ≡ true → x ≡ mark (dispatched (facts c) i) → eqb x 0 ≡ stands i
   unfolding stands
   stands_on i e f = rw (e, f) (go (dispatched (facts c) i))
     where
@@ -100,28 +112,32 @@ unfolding owed.test
 none-taken {c} h k s e = sym (sum-zero test_groups (λ p l. untaken c l h (none-at test_groups (taken_at c) e p l) k s))
 
 module _ {c : List ℕ} (h : ValidCells c) where
-  pub tested_at : (p : ℕ) {i : ℕ} → i < registrations → year.listed ((facts c).test p).listing i ≡ ((look_at c i).listed && eqb (group_in c i) p)
+  pub tested_at : (p : ℕ) {i : ℕ} → i < registrations → year.listed ((facts c).test p).listing i ≡ (listed_at c i && eqb (group_in c i) p)
   tested_at p m = tested-in c h.sound p m
 
   -- the result of an entry that the test lists
-  pub result-at : (p : ℕ) {i : ℕ} → i < registrations → year.listed ((facts c).test p).listing i ≡ true → (look_at c i).reduction.0 ≡ owed.result (facts c) p i
+  pub result-at : (p : ℕ) {i : ℕ} → i < registrations → year.listed ((facts c).test p).listing i ≡ true → result_at c i ≡ owed.result (facts c) p i
   unfolding owed.result
   result-at p {i} m on = rw (first-in c h.sound p m, sym (tested-in c h.sound p m) ∙ on)
 
   -- within limits
-  listed_le : (i : ℕ) → i < registrations → (look_at c i).listed ≡ true → (look_at c i).reduction.0 ≤ nominated_limit
+  listed_le : (i : ℕ) → i < registrations → listed_at c i ≡ true → result_at c i ≤ nominated_limit
   listed_le i m on =
       let p = group_in c i in
       let here : year.listed ((facts c).test p).listing i ≡ true = tested_at p m ∙ rw on (eq-eqb p p refl) in
       rw (result-at p m here) ((limits h.sound).result p i)
 
-  pub reduction-le : (i : ℕ) → i < registrations → only (stands c) (λ j. (look_at c j).reduction.0) i ≤ nominated_limit
+  pub reduction-le : (i : ℕ) → i < registrations → only (stands c) (result_at c) i ≤ nominated_limit
   unfolding stands
-  reduction-le i m = go (look_at c i).listed (not (dispatched (facts c) i)) (listed_le i m)
+  reduction-le i m = go (listed_at c i) (not (dispatched (facts c) i)) (listed_le i m)
     where
       go : (t d : Bool) {x : ℕ} → (t ≡ true → x ≤ nominated_limit) → cond (t && d) x 0 ≤ nominated_limit
       go true d f = cond-le d (f refl)
       go false d f = omega arith
 
-  pub standing-le : (i : ℕ) → i < registrations → stands c i ≡ true → (look_at c i).reduction.0 ≤ nominated_limit
+  pub standing-le : (i : ℕ) → i < registrations → stands c i ≡ true → result_at c i ≤ nominated_limit
   standing-le i m on = rw on at (reduction-le i m)
+
+pub ruleset test_cells = deficit-in
+
+pub ruleset marked = (looks, stands-off, stands_on)

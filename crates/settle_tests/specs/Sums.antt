@@ -1,5 +1,5 @@
 -- The sums of the tests' entries that stand, by group and seller: how they grow, and that they are each test's sums.
-use Rattle.std.specs.Prelude.{ℕ, ◌+◌, ◌*◌, ◌-◌, ◌/◌, ◌≤◌, ◌<◌, ◌≡◌, Bool, ◌&&◌, List, eqb, length}
+use Rattle.std.specs.Prelude.{ℕ, ◌+◌, ◌*◌, ◌-◌, ◌/◌, ◌≤◌, ◌<◌, ◌≡◌, Bool, ◌&&◌, Option, Some, None, List, eqb, length}
 use Rattle.std.proofs.Math.Path.{refl}
 use Rattle.std.proofs.Common.{◌∙◌, arith, zero-add, le_refl, mul-le-mul, eq-eqb, ne_eqb, eqb-true}
 use Rattle.std.proofs.Math.Bool.{true, false, not, cond}
@@ -20,7 +20,8 @@ use Rattle.owed_laws.specs.Bounds.{committed-le, worth-le}
 use Rattle.settle_facts.specs.CellFacts.{facts}
 use Rattle.settle_table.specs.Rows.{Stored, Row, Grown, none, row_within, grown-first, grown-kept, grown-none, grown-more, grown-most}
 use Rattle.settle_tests.specs.declared.sums.Addend.{Addend}
-use Rattle.settle_tests.specs.Entries.{look_at, stands, tested_at, result-at, reduction-le}
+use Rattle.settle_table.specs.Places.{seller_row, committed_row, rate_row, group_row}
+use Rattle.settle_tests.specs.Entries.{Ready, listed_at, result_at, stands, tested_at, result-at, reduction-le}
 
 -- the sums by key, a group and a seller: what is committed, the reductions, and what is committed times its rate
 abbrev pub keys : ℕ
@@ -56,14 +57,32 @@ module _ (c : List ℕ) where
   committed_at = only (stands c) (year.committed (facts c).terms)
 
   abbrev pub reduction_at : ℕ → ℕ
-  reduction_at = only (stands c) (λ i. (look_at c i).reduction.0)
+  reduction_at = only (stands c) (result_at c)
 
   abbrev pub worth_at : ℕ → ℕ
   worth_at = only (stands c) (λ i. year.committed (facts c).terms i * owed.rate (facts c) i)
 
-  abbrev pub addend_at : ℕ → Addend
-  addend_at i =
-      record { key = key_at i; committed = record { 0 = year.committed (facts c).terms i }; reduction = (look_at c i).reduction; worth = year.committed (facts c).terms i * owed.rate (facts c) i }
+  abbrev pub addend_of : ℕ → Addend
+  addend_of i =
+      record { key = key_at i; committed = record { 0 = year.committed (facts c).terms i }; reduction = record { 0 = result_at c i }; worth = year.committed (facts c).terms i * owed.rate (facts c) i }
+
+  abbrev pub addend_at : ℕ → Option Addend
+  addend_at i = cond (listed_at c i) (Some (addend_of i)) None
+
+  -- what an answer of `addend_at` says
+  pub addend-is : (i : ℕ) {x : Addend} → Some x ≡ addend_at i → x ≡ addend_of i
+  addend-is i {x} = go (listed_at c i)
+    where
+      go : (b : Bool) → Some x ≡ cond b (Some (addend_of i)) None → x ≡ addend_of i
+      go true e = cc
+      go false e = cc
+
+  pub addend-none : (i : ℕ) → None ≡ addend_at i → listed_at c i ≡ false
+  addend-none i = go (listed_at c i)
+    where
+      go : (b : Bool) → None ≡ cond b (Some (addend_of i)) None → b ≡ false
+      go true e = cc
+      go false e = refl
 
   -- the sums of the first i entries, and of all
   pub record Summing (i : ℕ) (w : List ℕ) : Type 0 where
@@ -94,7 +113,7 @@ module _ (c : List ℕ) where
           worth = grown-none h.worth (rw off);
         }
 
-    pub summing-more : {m n v : List ℕ} → stands c i ≡ true → key_at i < keys → let x = addend_at i in
+    pub summing-more : {m n v : List ℕ} → stands c i ≡ true → key_at i < keys → let x = addend_of i in
         Stored (committed_sum + x.key) (at w (committed_sum + x.key) + x.committed.0) w m → Stored (reduction_sum + x.key) (at m (reduction_sum + x.key) + x.reduction.0) m n
         → Stored (worth_sum + x.key) (at n (worth_sum + x.key) + x.worth) n v → Summing (i + 1) v
     summing-more on l s₁ s₂ s₃ =
@@ -107,6 +126,22 @@ module _ (c : List ℕ) where
 
 pub key_below : {c : List ℕ} → ValidCells c → (i : ℕ) → key_at c i < keys
 key_below {c} H i = omega (arith, group-below c H.sound i, (limits H.sound).seller i)
+
+-- what the table has of an entry, within limits
+module _ {c : List ℕ} (H : ValidCells c) {w : List ℕ} (r : Ready c w) {i : ℕ} (l : i < registrations) where
+  pub committed-in : at w (committed_row + i) ≤ nominated_limit
+  committed-in = rw (r.columns.committed.is i l) ((limits H.sound).committed i)
+
+  pub rate-in : at w (rate_row + i) ≤ rate_limit
+  rate-in = rw (r.columns.rate.is i l) ((limits H.sound).rate i)
+
+  pub group-in : at w (group_row + i) < test_groups
+  group-in = rw (r.group.is i l) (group-below c H.sound i)
+
+  pub seller-in : at w (seller_row + i) < sellers
+  seller-in = rw (r.columns.seller.is i l) ((limits H.sound).seller i)
+
+pub ruleset terms_in = (committed-in, rate-in, group-in, seller-in)
 
 -- room for one more
 module _ {c : List ℕ} (H : ValidCells c) {i : ℕ} (b : i ≤ registrations) {w : List ℕ} (h : Summing c i w) (k : ℕ) (m : k < keys) where
@@ -137,7 +172,7 @@ module _ {c : List ℕ} (H : ValidCells c) {p s : ℕ} (l : p < test_groups) (m 
   unfolding of_seller stands
   sums_same g h e =
       sum_same registrations (λ i b. rw (key-eqb (group_in c i) p ((limits H.sound).seller i) m)
-      (go (eqb (F.seller i) s) (eqb (group_in c i) p) (look_at c i).listed (dispatched F i) (year.listed (F.test p).listing i) (tested_at H p b) (g i) (h i) (e i b)))
+      (go (eqb (F.seller i) s) (eqb (group_in c i) p) (listed_at c i) (dispatched F i) (year.listed (F.test p).listing i) (tested_at H p b) (g i) (h i) (e i b)))
     where
       parts : (a b m d : Bool) (x y : ℕ) → ((m && b) ≡ true → y ≡ x) → cond (a && b) (cond (m && not d) y 0) 0 ≡ cond a (cond ((m && b) && not d) x 0) 0
       parts false b m d x y e = refl
@@ -159,7 +194,7 @@ module _ {c : List ℕ} (H : ValidCells c) {p s : ℕ} (l : p < test_groups) (m 
     committed-is = S.committed.row.is k (omega arith) ∙ zero-add _ ∙ sums_same (year.committed F.terms) (year.committed F.terms) (λ i b e. refl)
 
     pub reduction-is : at w (reduction_sum + k) ≡ of_seller F s (only (owed.stands F p) (owed.result F p))
-    reduction-is = S.reduction.row.is k (omega arith) ∙ zero-add _ ∙ sums_same (owed.result F p) (λ i. (look_at c i).reduction.0) (λ i b e. result-at H p b e)
+    reduction-is = S.reduction.row.is k (omega arith) ∙ zero-add _ ∙ sums_same (owed.result F p) (result_at c) (λ i b e. result-at H p b e)
 
     pub worth-is : at w (worth_sum + k) ≡ of_seller F s (only (owed.stands F p) (λ i. year.committed F.terms i * owed.rate F i))
     worth-is =
@@ -186,3 +221,5 @@ module _ {c : List ℕ} (H : ValidCells c) {p s : ℕ} (l : p < test_groups) (m 
       pub base-is : at w (worth_sum + k) / a ≡ B F p s
       unfolding B
       base-is = rw (e, worth-is, committed-is)
+
+pub ruleset sums_most = (committed-most, reduction-most, worth-most)

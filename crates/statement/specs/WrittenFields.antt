@@ -5,7 +5,7 @@ use Rattle.std.proofs.Common.{append-nil, add-zero, add-one, arith}
 use Rattle.ids.specs.Ids.{holds, count_to}
 use Rattle.limits.specs.Limits.{parties}
 use Rattle.bits_write.specs.declared.Writer.{Writer}
-use Rattle.bits_write.specs.Written.{joined, Ready, Wrote}
+use Rattle.bits_write.specs.Written.{joined, Wrote}
 use Rattle.bits_write.specs.WrittenLaws.{joined-append, written_none, written-join}
 use Rattle.year.specs.declared.Terms.{Terms}
 use Rattle.year.specs.declared.Amounts.{Amounts}
@@ -29,9 +29,9 @@ abbrev pub PutLines : List ℕ → List ℕ → Writer → Writer → List Bool 
 PutLines old new p q marks n now before = WrittenFields old new p q (lines_to parties (holds marks) (line_fields n now before))
 
 -- the writer's fields: none, one, and some after others
-pub no_fields : {xs : List ℕ} {p : Writer} → Ready p → WrittenFields xs xs p p []
+pub no_fields : {xs : List ℕ} {p : Writer} → WrittenFields xs xs p p []
 unfolding joined
-no_fields r = record { wrote = written_none _ _ r }
+no_fields = record { wrote = written_none _ _ }
 
 pub one_field : {old new : List ℕ} {p q : Writer} {w v : ℕ} → Wrote old new p q w v → WrittenFields old new p q ((w, v) ∷ [])
 unfolding joined

@@ -2,7 +2,7 @@
 ghost use Rattle.std.specs.Prelude.{◌≡◌, ◌+◌, ◌*◌, ◌^◌, ◌≤◌, ◌<◌, length};
 ghost use Rattle.limits.specs.Limits.{parties, close_limit, statement_limit};
 ghost use Rattle.year.specs.Sound.{SoundTerms, SoundAmounts};
-ghost use Rattle.bits_write.specs.Written.{written_bits, Ready};
+ghost use Rattle.bits_write.specs.Written.{written_bits};
 ghost use Rattle.statement.specs.Statement.{difference, seller_columns, party_lines, statement_of, issued_over};
 ghost use Rattle.statement.specs.Columns.{Columns};
 ghost use Rattle.statement.specs.WrittenFields.{WrittenFields, PutLine, PutLines};
@@ -17,44 +17,32 @@ fn difference(owed: u64, billed: u64) -> u64
     requires { (owed < 2 ^ 41) × (billed < 2 ^ 41) }
     ensures { result ≡ difference owed billed }
 {
-    (owed + 4398046511104 - billed) % 4398046511104
+    owed.wrapping_sub(billed) % (1 << 42)
 }
 
-// The sellers' amounts in columns, one after another.
+// The sellers' amounts in columns, one after another: one list, as `Statement.seller_columns` is (what may not change).
 fn columns(amounts: Amounts) -> [u64; 48]
     requires { SoundAmounts amounts }
     ensures { result ≡ seller_columns amounts }
 {
-    let mut r = [0u64; 48];
-    let mut i: usize = 0;
-    while i < 48 {
-        let cents = if i < SELLERS {
-            amounts.compliance[i]
-        } else if i < 32 {
-            amounts.test[i - SELLERS]
-        } else {
-            amounts.credit[i - 32]
-        };
-        r[i] = cents;
-        i += 1;
-    }
-    r
+    let mut columns = [0u64; 48];
+    columns[..SELLERS].copy_from_slice(&amounts.compliance);
+    columns[SELLERS..2 * SELLERS].copy_from_slice(&amounts.test);
+    columns[2 * SELLERS..48].copy_from_slice(&amounts.credit);
+    columns
 }
 
-// A party's line: its id, and its n amounts.
+// A party's line: its id, and its n amounts. By index: the amounts of a party stand a column apart, which no slice of one column says plainer.
 fn put_line(w: Writer, out: &mut [u8], id: usize, n: usize, owed: &[u64], billed: &[u64]) -> Writer
-    requires ready { Ready w }
     requires id_lt_parties { id < parties }
     requires columns { Columns n owed.now × Columns n billed.now }
     requires n_bound { written_bits w + (4 + 42 * n) ≤ 8 * length out.old }
     ensures { PutLine out.old out.new w result n owed.now billed.now id }
 {
     let mut r = w.put(out, 4, id as u64);
-    let mut k: usize = 0;
-    while k < n {
+    for k in 0..n {
         let place = PARTIES * k + id;
         r = r.put(out, 42, difference(owed[place], billed[place]));
-        k += 1;
     }
     r
 }
@@ -68,18 +56,15 @@ fn put_lines(
     owed: &[u64],
     billed: &[u64],
 ) -> Writer
-    requires ready { Ready w }
     requires columns { Columns n owed.now × Columns n billed.now }
     requires parties_bound { written_bits w + (4 + 42 * n) * parties ≤ 8 * length out.old }
     ensures { PutLines out.old out.new w result marks n owed.now billed.now }
 {
     let mut r = w;
-    let mut id: usize = 0;
-    while id < PARTIES {
-        if marks[id] {
+    for (id, marked) in marks.iter().enumerate() {
+        if *marked {
             r = put_line(r, out, id, n, owed, billed);
         }
-        id += 1;
     }
     r
 }
@@ -93,7 +78,6 @@ fn put_parties(
     owed: Amounts,
     billed: Amounts,
 ) -> Writer
-    requires ready { Ready w }
     requires sound_amounts { SoundAmounts owed × SoundAmounts billed }
     requires w_bound { written_bits w + 2816 ≤ 8 * length out.old }
     ensures { WrittenFields out.old out.new w result (party_lines sellers lses owed billed) }

@@ -8,7 +8,7 @@ ghost use Rattle.year.specs.Sound.{SoundTerms};
 ghost use Rattle.statement.specs.Statement.{has_registration, has_obligation};
 ghost use Rattle.statement.specs.Marks.{Marks};
 
-use limits::{LSES, PARTIES, REGISTRATIONS};
+use limits::PARTIES;
 use year::Terms;
 
 mod issue;
@@ -21,14 +21,10 @@ pub fn present(terms: Terms) -> [bool; PARTIES]
     ensures { Marks (has_registration terms) result }
 {
     let mut sellers = [false; PARTIES];
-    let mut i: usize = 0;
-    while i < REGISTRATIONS {
-        let g = terms.registrations[i];
-        if g.known {
-            let s = g.seller as usize;
-            sellers[s] = true;
+    for registration in &terms.registrations {
+        if registration.known {
+            sellers[registration.seller as usize] = true;
         }
-        i += 1;
     }
     sellers
 }
@@ -37,26 +33,12 @@ pub fn present(terms: Terms) -> [bool; PARTIES]
 pub fn obliged(terms: Terms) -> [bool; PARTIES]
     ensures { Marks (has_obligation terms) result }
 {
-    let mut marks = [false; PARTIES];
-    let mut j: usize = 0;
-    while j < LSES {
-        marks[j] = 0 < terms.obligations[j];
-        j += 1;
-    }
-    marks
+    terms.obligations.map(|obligation| 0 < obligation)
 }
 
 // How many parties are marked.
 pub fn count(marks: [bool; PARTIES]) -> u64
     ensures { result ≡ count_to parties (holds marks) }
 {
-    let mut n: u64 = 0;
-    let mut i: usize = 0;
-    while i < PARTIES {
-        if marks[i] {
-            n += 1;
-        }
-        i += 1;
-    }
-    n
+    marks.iter().filter(|marked| **marked).count() as u64
 }

@@ -1,13 +1,14 @@
 -- What a sample of telemetry is answered (document 02, C-14): the kW of an entry, or a number.
-use Rattle.std.specs.Prelude.{[], ◌∷◌, map, ◌≡◌, refl, ℕ, ◌-◌, ◌/◌, Bool, ◌&&◌, cond, leb}
+use Rattle.std.specs.Prelude.{[], ◌∷◌, map, ◌≡◌, refl, ℕ, ◌-◌, ◌/◌, Bool, ◌&&◌, cond, leb, Result, Ok, Err}
 use Rattle.std.specs.Float.{binary32}
 use Rattle.std.specs.Float.Ieee.{of_bits}
 use Rattle.limits.specs.Limits.{nominated_limit}
 use Rattle.telemetry_eighths.specs.Eighths.{counts, eighths_of}
 use Rattle.telemetry.specs.declared.Sample.{Sample}
 use Rattle.telemetry.specs.declared.Sample.TheVariants.{Pair, Direct}
-use Rattle.telemetry.specs.declared.Reduced.{Reduced}
-use Rattle.telemetry.specs.declared.Reduced.TheVariants.{Kw, NotCounted, TooMuch}
+use Rattle.refusals.specs.declared.Refusal.{Refusal}
+use Rattle.refusals.specs.declared.Refusal.TheVariants.{NotCounted, TooMuch}
+use Rattle.refusals.specs.Numbers.{answered}
 
 -- do its values count
 abbrev pub all_count : Sample → Bool
@@ -24,27 +25,21 @@ abbrev pub kw_in : Sample → ℕ
 kw_in s = eighths_in s / 8
 
 -- more than 100,000 kW are too much
-unfoldable pub within_limit : ℕ → Reduced
-within_limit kw = cond (leb kw nominated_limit) (Kw kw) TooMuch
+unfoldable pub within_limit : ℕ → Result ℕ Refusal
+within_limit kw = cond (leb kw nominated_limit) (Ok kw) (Err TooMuch)
 
 -- a value that doesn't count comes first
-unfoldable pub reduction_of : Sample → Reduced
-reduction_of s = cond (all_count s) (within_limit (kw_in s)) NotCounted
+unfoldable pub reduction_of : Sample → Result ℕ Refusal
+reduction_of s = cond (all_count s) (within_limit (kw_in s)) (Err NotCounted)
 
--- the number of an answer, and its kW, 0 where it is refused
-abbrev pub sample_number : Reduced → ℕ
-sample_number (Kw k) = 0
-sample_number NotCounted = 18
-sample_number TooMuch = 19
-
-abbrev pub kw_of : Reduced → ℕ
-kw_of (Kw k) = k
-kw_of NotCounted = 0
-kw_of TooMuch = 0
+-- the kW of an answer, 0 where it is refused
+abbrev pub kw_of : Result ℕ Refusal → ℕ
+kw_of (Ok kw) = kw
+kw_of (Err refusal) = 0
 
 -- what a call on a sample answers: its number and its kW
 pub record Answers (s : Sample) (number kw : ℕ) : Type 0 where
-  pub numbers : number ≡ sample_number (reduction_of s)
+  pub numbers : number ≡ answered (reduction_of s)
   pub kilowatts : kw ≡ kw_of (reduction_of s)
 
 -- Worked by hand, each value by its bit pattern.
@@ -55,7 +50,7 @@ abbrev pair : ℕ → ℕ → Sample
 pair expected metered = Pair (of_bits binary32 expected) (of_bits binary32 metered)
 
 abbrev answer : Sample → ℕ × ℕ
-answer s = (sample_number (reduction_of s), kw_of (reduction_of s))
+answer s = (answered (reduction_of s), kw_of (reduction_of s))
 
 figures : map answer (
     -- minus zero; 0.875 and 100,000.875, whose eighths are dropped; 100,001 and 131,071.875; 0.0625 and 131,072; a NaN

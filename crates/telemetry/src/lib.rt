@@ -1,4 +1,4 @@
-// Reductions from telemetry: a sample of binary32 kilowatts becomes the kW of an entry, exactly, or a number.
+// Reductions from telemetry: a sample of binary32 kilowatts becomes the kW of an entry, exactly, or a refusal.
 #![tactic(auto)]
 
 ghost use Rattle.std.specs.Prelude.{◌≡◌};
@@ -6,6 +6,7 @@ ghost use Rattle.telemetry.specs.Reduction.{within_limit, reduction_of};
 ghost use Rattle.telemetry.specs.declared.Sample.TheVariants.{Pair};
 
 use limits::NOMINATED_KW;
+use refusals::Refusal;
 use telemetry_eighths::{Loads, counts, less, whole_kw};
 
 mod answers;
@@ -19,16 +20,8 @@ pub enum Sample {
     Direct(f32),
 }
 
-// What a sample is answered: the kW of an entry, or why there are none.
-#[derive(Clone, Copy)]
-pub enum Reduced {
-    Kw(u64),
-    NotCounted,
-    TooMuch,
-}
-
-// Answers a sample. A direct reduction is one with nothing metered, so that the one exact subtraction serves both.
-pub fn reduction(sample: Sample) -> Reduced
+// The kW of an entry, or why there are none. A direct reduction is one with nothing metered, so that the one exact subtraction serves both.
+pub fn reduction(sample: Sample) -> Result<u64, Refusal>
     ensures { result ≡ reduction_of sample }
 {
     match sample {
@@ -41,24 +34,24 @@ pub fn reduction(sample: Sample) -> Reduced
 }
 
 // Answers loads: first whether both count, then their difference.
-fn of_loads(l: Loads) -> Reduced
+#[tactic(auto, unfolding(crate::specs::Reduction::reduction_of))]
+fn of_loads(l: Loads) -> Result<u64, Refusal>
     ensures { result ≡ reduction_of (Pair l.expected l.metered) }
 {
-    if counts(l.expected) {
-        if counts(l.metered) {
-            return within_limit(whole_kw(less(l)));
-        }
+    if counts(l.expected) && counts(l.metered) {
+        within_limit(whole_kw(less(l)))
+    } else {
+        Err(Refusal::NotCounted)
     }
-    Reduced::NotCounted
 }
 
-// The answer with these kW, unless they are too much for an entry.
+// These kW, unless they are too much for an entry.
 #[tactic(auto, unfolding(crate::specs::Reduction::within_limit))]
-fn within_limit(kw: u64) -> Reduced
+fn within_limit(kw: u64) -> Result<u64, Refusal>
     ensures { result ≡ within_limit kw }
 {
     if kw > NOMINATED_KW {
-        return Reduced::TooMuch;
+        return Err(Refusal::TooMuch);
     }
-    Reduced::Kw(kw)
+    Ok(kw)
 }

@@ -1,18 +1,14 @@
 -- Laws of words: one more character, and one more word.
 use Prim.Native.Nat.{ℕ, suc, ◌+◌, ◌-◌, ◌≤◌, ◌<◌}
 use mathlib.Core.Bool.{true, false}
-use mathlib.Core.List.{List, [], ◌∷◌, ◌++◌, foldl-append}
+use mathlib.Core.List.{List, [], ◌∷◌, ◌++◌}
 use mathlib.Core.Path.{◌≡◌, refl, ap}
 use native.Mathlib.Nat.{add-zero}
 use native.Mathlib.Numerals.{add-one}
 use native.Mathlib.Omega.{arith}
 use lib.ListN.{length, get_or, take, drop, length-drop}
 use lib.Seq.{take-suc, drop-cons, get_or-drop, length-take-le}
-use Rattle.text.specs.Words.{separates, closed, words_from, words, further, spelled, numbers, Starts, Stops}
-
-pub spelled-more : (s : List ℕ) (i : ℕ) → i < length s → spelled (take (i + 1) s) ≡ further (spelled (take i s)) (get_or s i 0)
-unfolding spelled
-spelled-more s i l = rw (add-one, take-suc s i 0, foldl-append)
+use Rattle.text.specs.Words.{separates, closed, words_from, words, spelled, numbers, Starts, Stops}
 
 module _ (s : List ℕ) (i : ℕ) (l : i < length s) where
   pub separator-passed : separates (get_or s i 0) ≡ true → words (drop i s) ≡ words (drop (i + 1) s)

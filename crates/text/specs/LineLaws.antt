@@ -58,11 +58,6 @@ unfolding numbers_line
 no-numbers [] h = refl
 no-numbers (n ∷ ns) h = absurd (omega arith)
 
-pub numbers-line : (ns : List ℕ) → 0 < length ns → numbers_line ns ≡ decimal (get_or ns 0 0) ++ (each (λ m. word (decimal m)) (drop 1 ns) ++ (10 ∷ []))
-unfolding numbers_line
-numbers-line [] h = absurd (omega arith)
-numbers-line (n ∷ ns) h = refl
-
 -- bytes in hexadecimal: none, or the digits of each
 pub no_bytes : (bs : List ℕ) → length bs ≡ 0 → hexadecimal bs ≡ 45 ∷ []
 unfolding hexadecimal

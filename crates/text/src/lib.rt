@@ -1,4 +1,5 @@
 // Text put into a lent buffer from a place on, each function answering the next place, so that output can be gathered.
+// The place stands beside the buffer, since several reports are gathered in one (a rule of the project: no heap, fixed memory).
 #![tactic(auto)]
 
 ghost use Rattle.std.specs.Prelude.{◌≡◌, [], ◌∷◌, ◌+◌, ◌*◌, ◌≤◌, ◌<◌, length};
@@ -7,7 +8,7 @@ ghost use Rattle.text.specs.Lines.{call_line, character, decimal, hex_of, hexade
 
 mod scan;
 
-pub use scan::{decimals, find, hex_bytes, least};
+pub use scan::{decimals, find, hex_bytes};
 
 // A byte.
 pub fn put_byte(out: &mut [u8], at: usize, byte: u8) -> usize
@@ -45,23 +46,26 @@ pub fn numbers_line(numbers: &[u64], out: &mut [u8], at: usize) -> usize
     requires { at + (21 * length numbers.now + 1) ≤ length out.old }
     ensures { Pasted out.old out.new at (numbers_line numbers.now) result }
 {
-    if numbers.len() == 0 {
+    let Some((first, rest)) = numbers.split_first() else {
         return put_byte(out, at, b'\n');
-    }
-    let mut p = put_decimal(out, at, numbers[0]);
-    let mut i = 1;
-    while i < numbers.len() {
-        p = put_number(out, p, numbers[i]);
-        i += 1;
+    };
+    let mut p = put_decimal(out, at, *first);
+    for n in rest {
+        p = put_number(out, p, *n);
     }
     put_byte(out, p, b'\n')
 }
 
+// The hexadecimal digit of a value.
+#[tactic(auto, unfolding(crate::specs::Lines::character))]
 fn character_of(n: u8) -> u8
     requires { n < 16 }
     ensures { result ≡ character n }
 {
-    if n < 10 { 48 + n } else { 87 + n }
+    match n {
+        0..=9 => b'0' + n,
+        _ => b'a' + (n - 10),
+    }
 }
 
 // The two hexadecimal digits of a byte.
@@ -83,10 +87,8 @@ fn put_bytes(bytes: &[u8], out: &mut [u8], at: usize) -> usize
         return put_byte(out, at, b'-');
     }
     let mut p = at;
-    let mut i = 0;
-    while i < bytes.len() {
-        p = put_hexadecimal(out, p, bytes[i]);
-        i += 1;
+    for b in bytes {
+        p = put_hexadecimal(out, p, *b);
     }
     p
 }

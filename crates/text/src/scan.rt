@@ -4,19 +4,20 @@ ghost use Rattle.text.specs.Find.{Ends};
 ghost use Rattle.text.specs.Digits.{digit, pairs};
 ghost use Rattle.text.specs.Words.{Starts, Stops, separates, further, spelled, numbers};
 
+// Three walks, not one that takes a test: what each promises of the place differs (`Ends`, `Starts`, `Stops`), and by `position` the proof of
+// `find` does not close.
+
 // Where the byte stands first from a place on, or the length.
 pub fn find(s: &[u8], at: usize, byte: u8) -> usize
     requires { at ≤ length s.now }
     ensures { Ends s.now at byte result }
 {
-    let mut i = at;
-    while i < s.len() {
+    for i in at..s.len() {
         if s[i] == byte {
             return i;
         }
-        i += 1;
     }
-    i
+    s.len()
 }
 
 // The numbers of a line's words into the front of out, as far as it goes; how many.
@@ -25,17 +26,15 @@ pub fn decimals(line: &[u8], out: &mut [u64]) -> usize
     ensures out_after { out.new ≡ take result (numbers line.now) ++ drop result out.old }
 {
     let mut at = word_start(line, 0);
-    let mut n = 0;
-    while n < out.len() {
+    for (n, number) in out.iter_mut().enumerate() {
         if at == line.len() {
             return n;
         }
         let end = word_end(line, at);
-        out[n] = decimal(&line[at..end]);
-        n += 1;
+        *number = decimal(&line[at..end]);
         at = word_start(line, end);
     }
-    n
+    out.len()
 }
 
 // Where the next word starts from a place on, or the length.
@@ -43,14 +42,12 @@ fn word_start(line: &[u8], at: usize) -> usize
     requires { at ≤ length line.now }
     ensures { Starts line.now at result }
 {
-    let mut i = at;
-    while i < line.len() {
+    for i in at..line.len() {
         if !is_separator(line[i]) {
             return i;
         }
-        i += 1;
     }
-    i
+    line.len()
 }
 
 // Where the word that starts at a place ends.
@@ -59,14 +56,12 @@ fn word_end(line: &[u8], at: usize) -> usize
     requires at_value { separates (get_or line.now at 0) ≡ false }
     ensures { Stops line.now at result }
 {
-    let mut i = at + 1;
-    while i < line.len() {
+    for i in at + 1..line.len() {
         if is_separator(line[i]) {
             return i;
         }
-        i += 1;
     }
-    i
+    line.len()
 }
 
 // Does it stand between words?
@@ -74,26 +69,14 @@ fn word_end(line: &[u8], at: usize) -> usize
 fn is_separator(b: u8) -> bool
     ensures { result ≡ separates b }
 {
-    if b == b' ' {
-        return true;
-    }
-    if b == b'\t' {
-        return true;
-    }
-    b == b'\r'
+    matches!(b, b' ' | b'\t' | b'\r')
 }
 
 // The number that decimal digits spell, the largest u64 where it is larger or a character is no digit.
 fn decimal(word: &[u8]) -> u64
     ensures { result ≡ spelled word.now }
 {
-    let mut v: u64 = 0;
-    let mut i = 0;
-    while i < word.len() {
-        v = then(v, word[i]);
-        i += 1;
-    }
-    v
+    word.iter().fold(0, |v, b| then(v, *b))
 }
 
 // A number with one more character behind it.
@@ -101,37 +84,22 @@ fn decimal(word: &[u8]) -> u64
 fn then(v: u64, b: u8) -> u64
     ensures { result ≡ further v b }
 {
-    if b < 48 {
-        return u64::MAX;
+    match b {
+        b'0'..=b'9' => v.saturating_mul(10).saturating_add(u64::from(b - b'0')),
+        _ => u64::MAX,
     }
-    if 57 < b {
-        return u64::MAX;
-    }
-    if 1844674407370955161 < v {
-        return u64::MAX;
-    }
-    let t = v * 10;
-    let low = (b - 48) as u64;
-    if u64::MAX - t < low {
-        return u64::MAX;
-    }
-    t + low
 }
 
 // A hexadecimal digit's value, in small letters.
+#[tactic(auto, unfolding(crate::specs::Digits::digit))]
 fn digit_of(b: u8) -> u8
     ensures { result ≡ digit b }
 {
-    if b < 48 {
-        return 0;
+    match b {
+        b'0'..=b'9' => b - b'0',
+        b'a'..=b'f' => b - b'a' + 10,
+        _ => 0,
     }
-    if b < 58 {
-        return b - 48;
-    }
-    if b < 97 {
-        return 0;
-    }
-    if b < 103 { b - 87 } else { 0 }
 }
 
 // The bytes that pairs of hexadecimal digits spell, into the front of out as far as it goes; how many.
@@ -139,11 +107,9 @@ pub fn hex_bytes(s: &[u8], out: &mut [u8]) -> usize
     ensures value { result ≡ min (length s.now / 2) (length out.old) }
     ensures out_after { out.new ≡ pairs s.now result ++ drop result out.old }
 {
-    let n = least(s.len() / 2, out.len());
-    let mut i = 0;
-    while i < n {
+    let n = out.len().min(s.len() / 2);
+    for i in 0..n {
         out[i] = pair(s[2 * i], s[2 * i + 1]);
-        i += 1;
     }
     n
 }
@@ -153,10 +119,4 @@ fn pair(high: u8, low: u8) -> u8
     ensures { result ≡ 16 * digit high + digit low }
 {
     16 * digit_of(high) + digit_of(low)
-}
-
-pub fn least(a: usize, b: usize) -> usize
-    ensures { result ≡ min a b }
-{
-    if a < b { a } else { b }
 }

@@ -3,7 +3,7 @@ use Rattle.std.specs.Prelude.{ℕ, ◌+◌, ◌≤◌, List, ◌≡◌}
 use Rattle.text.specs.Pasted.{Pasted}
 use Rattle.text_bill.specs.Text.{amount_at, lines_from, party_line, party_lines, answer_lines}
 use Rattle.text_bill.specs.declared.Place.{Place}
-use Rattle.text_bill.specs.declared.Sort.{Sort}
+use Rattle.text_bill.specs.declared.sort.Sort.{Sort}
 
 -- of a buffer that was old and is new: a text from one place up to another
 abbrev pub Puts : List ℕ → List ℕ → Place → List ℕ → Place → Type 0

@@ -10,7 +10,10 @@ ghost use Rattle.text.specs.Lines.{word};
 ghost use Rattle.text_bill.specs.Put.{Puts, Reaches, Reports, amounts_at, line_at, lines_at};
 ghost use Rattle.text_bill.specs.Text.{cents, month_line, party_bits, party_room, refusal_line, room, statement_lines, statement_room};
 
+mod sort;
+
 use bits_read::Cursor;
+use sort::Sort;
 use text::{put_byte, put_decimal, put_number};
 
 // The bytes that a caller leaves free for one report.
@@ -45,8 +48,8 @@ fn put_month(month: u64, out: &mut [u8], at: usize) -> usize
     ensures pasted { Pasted out.old out.new at (month_line month) result }
     ensures upper_bound { result ≤ at + 23 }
 {
-    let mut p = put_byte(out, at, b'M');
-    p = put_number(out, p, month);
+    let p = put_byte(out, at, b'M');
+    let p = put_number(out, p, month);
     put_byte(out, p, b'\n')
 }
 
@@ -55,13 +58,6 @@ fn put_month(month: u64, out: &mut [u8], at: usize) -> usize
 struct Place {
     at: usize,
     next: Cursor,
-}
-
-// The line of each party of a sort: its letter, and how many amounts behind the id.
-#[derive(Clone, Copy)]
-struct Sort {
-    letter: u8,
-    amounts: usize,
 }
 
 // Puts the next n amounts of a statement, as further words of a line.
@@ -73,51 +69,47 @@ fn put_amounts(statement: &[u8], n: usize, out: &mut [u8], from: Place) -> Place
     ensures reaches { Reaches from (22 * n) (42 * n) result }
 {
     let mut place = from;
-    let mut i: usize = 0;
-    while i < n {
+    for _ in 0..n {
         let amount = place.next.read_field(statement, 42);
-        let at = put_amount(amount.value, out, place.at);
-        let next = amount.next;
-        place = Place { at: at, next: next };
-        i += 1;
+        place = Place {
+            at: put_amount(amount.value, out, place.at),
+            next: amount.next,
+        };
     }
     place
 }
 
 // Puts the line of a party of a sort.
 fn put_party(statement: &[u8], sort: Sort, out: &mut [u8], from: Place) -> Place
-    requires amounts_bound { sort.amounts ≤ 3 }
     requires lies { Lies statement.now from.next.at (party_bits sort.amounts) }
     requires amounts_in_bounds { from.at + party_room sort.amounts ≤ length out.old }
     ensures puts { Puts out.old out.new from (line_at statement.now sort from) result }
     ensures reaches { Reaches from (party_room sort.amounts) (party_bits sort.amounts) result }
 {
     let id = from.next.read_field(statement, 4);
-    let mut p = put_byte(out, from.at, sort.letter);
-    p = put_number(out, p, id.value);
-    let next = id.next;
-    let place = put_amounts(statement, sort.amounts, out, Place { at: p, next: next });
-    p = put_byte(out, place.at, b'\n');
-    let behind = place.next;
+    let p = put_byte(out, from.at, sort.letter);
+    let behind_id = Place {
+        at: put_number(out, p, id.value),
+        next: id.next,
+    };
+    let place = put_amounts(statement, sort.amounts, out, behind_id);
     Place {
-        at: p,
-        next: behind,
+        at: put_byte(out, place.at, b'\n'),
+        next: place.next,
     }
 }
 
 // Puts the lines of so many parties of a sort.
 fn put_parties(statement: &[u8], sort: Sort, count: u64, out: &mut [u8], from: Place) -> Place
-    requires amounts_bound { (sort.amounts ≤ 3) × (count ≤ 31) }
+    requires count_bound { count ≤ 31 }
     requires lies { Lies statement.now from.next.at (party_bits sort.amounts * count) }
     requires count_in_bounds { from.at + party_room sort.amounts * count ≤ length out.old }
     ensures puts { Puts out.old out.new from (lines_at statement.now sort from count) result }
     ensures reaches { Reaches from (party_room sort.amounts * count) (party_bits sort.amounts * count) result }
 {
     let mut place = from;
-    let mut i: u64 = 0;
-    while i < count {
+    for _ in 0..count {
         place = put_party(statement, sort, out, place);
-        i += 1;
     }
     place
 }
@@ -131,7 +123,6 @@ fn statement_lines(statement: &[u8], out: &mut [u8], at: usize) -> usize
     let month = Cursor::first().read_field(statement, 4);
     let sellers = month.next.read_field(statement, 5);
     let lses = sellers.next.read_field(statement, 5);
-    let p = put_month(month.value, out, at);
     let seller = Sort {
         letter: b'S',
         amounts: 3,
@@ -140,14 +131,11 @@ fn statement_lines(statement: &[u8], out: &mut [u8], at: usize) -> usize
         letter: b'L',
         amounts: 1,
     };
-    let next = lses.next;
-    let place = put_parties(
-        statement,
-        seller,
-        sellers.value,
-        out,
-        Place { at: p, next: next },
-    );
+    let first = Place {
+        at: put_month(month.value, out, at),
+        next: lses.next,
+    };
+    let place = put_parties(statement, seller, sellers.value, out, first);
     put_parties(statement, lse, lses.value, out, place).at
 }
 
@@ -156,13 +144,14 @@ pub fn refusal_line(position: u64, number: u64, out: &mut [u8], at: usize) -> us
     requires { at + 44 ≤ length out.old }
     ensures { Pasted out.old out.new at (refusal_line position number) result }
 {
-    let mut p = put_byte(out, at, b'N');
-    p = put_number(out, p, position);
-    p = put_number(out, p, number);
+    let p = put_byte(out, at, b'N');
+    let p = put_number(out, p, position);
+    let p = put_number(out, p, number);
     put_byte(out, p, b'\n')
 }
 
 // Puts the report of a record of this kind that is answered with this number.
+// Both stay numbers: its clause, `Reports`, which may not change, holds of each.
 pub fn answer_lines(
     position: u64,
     kind: u8,
@@ -175,11 +164,9 @@ pub fn answer_lines(
     requires room_in_bounds { at + room ≤ length out.old }
     ensures { Reports position kind number statement.now out.old out.new at result }
 {
-    if number != 0 {
-        return refusal_line(position, number, out, at);
+    match (number, kind) {
+        (0, 6) => statement_lines(statement, out, at),
+        (0, _) => at,
+        _ => refusal_line(position, number, out, at),
     }
-    if kind == 6 {
-        return statement_lines(statement, out, at);
-    }
-    at
 }

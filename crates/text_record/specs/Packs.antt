@@ -1,5 +1,5 @@
 -- The record of a line, and that it fits.
-use Rattle.std.specs.Prelude.{ℕ, ◌+◌, ◌-◌, ◌≤◌, min, Bool, ◌&&◌, ◌≡◌, refl, take}
+use Rattle.std.specs.Prelude.{ℕ, ◌+◌, ◌-◌, ◌≤◌, min, Bool, ◌&&◌, ◌≡◌, refl, take, Result, Ok, Err}
 use Rattle.std.proofs.Math.Bool.{true, false, cond}
 use mathlib.Core.List.{List, [], ◌++◌, append-nil}
 use Rattle.std.proofs.Math.Path.{sym}
@@ -10,6 +10,7 @@ use Rattle.std.proofs.Math.ListN.{length, drop, length-drop, drop_of_length-le}
 use Rattle.ids.specs.Ids.{at}
 use Rattle.ids.specs.Tests.{and_parts}
 use Rattle.bits.specs.PackLaws.{length-encode}
+use Rattle.refusals.specs.declared.Refusal.{Refusal}
 use Rattle.record_layouts.specs.Layout.{widths, size_of, longest_permitted, most_numbers}
 use Rattle.record_layouts.specs.LayoutLaws.{length-widths}
 use Rattle.record_layouts.specs.Questions.{first_failed, rules_by, permitted}
@@ -26,6 +27,11 @@ kept line = take (most_numbers + 1) (numbers line)
 -- a line's number, with room for any record: one of which the start is cut off is longer than any record's
 unfoldable pub line_number : Bool → List ℕ → ℕ
 line_number cut line = cond cut 3 (write_number (kept line) longest_permitted)
+
+-- the place behind what is put from a place on: the same where nothing is
+abbrev pub behind : ℕ → Result ℕ Refusal → ℕ
+behind at (Ok place) = place
+behind at (Err q) = at
 
 -- its record, nothing of a line that is refused
 unfoldable pub line_record : Bool → List ℕ → List ℕ

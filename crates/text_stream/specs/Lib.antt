@@ -1,4 +1,4 @@
 -- A window of a lent buffer.
 pub mod Filled
-pub mod Front
+pub mod Found
 pub mod Room

@@ -1,42 +1,31 @@
 // Output gathered in a lent buffer and written in large pieces.
-ghost use Rattle.std.specs.Prelude.{true, false, ◌≡◌, ◌+◌, ◌≤◌, length};
+ghost use Rattle.std.specs.Prelude.{◌≡◌, ◌+◌, ◌≤◌, length, IfOk, IsOk};
 ghost use Rattle.text_stream.specs.Room.{place_for};
 
-use std::io::Write;
-
-// The place up to which output is gathered; failed: a write failed.
-#[derive(Clone, Copy)]
-pub struct Gathered {
-    pub at: usize,
-    pub failed: bool,
-}
+use std::io::{self, Write};
 
 // Makes room for so many bytes more: where less is left, what is gathered is written. With room for the whole buffer all is written.
+// Answers the place up to which output is gathered.
 #[tactic(auto, unfolding(crate::specs::Room::place_for))]
-pub fn with_room<W: Write>(output: &mut W, out: &[u8], at: usize, room: usize) -> Gathered
+pub fn with_room<W: Write>(output: &mut W, out: &[u8], at: usize, room: usize) -> io::Result<usize>
     requires at_in_bounds { at ≤ length out.now }
     requires room_in_bounds { room ≤ length out.now }
-    ensures at_value { result.at ≡ place_for room (length out.now) at }
-    ensures room_in_bounds_2 { result.at + room ≤ length out.now }
-    ensures failed_value { at + room ≤ length out.now → result.failed ≡ false }
+    ensures at_value { IfOk result (λ place. place ≡ place_for room (length out.now) at) }
+    ensures leaves_room { IfOk result (λ place. place + room ≤ length out.now) }
+    ensures gathers { at + room ≤ length out.now → IsOk result }
 {
     if room <= out.len() - at {
-        return Gathered {
-            at: at,
-            failed: false,
-        };
+        return Ok(at);
     }
-    let is_written = output.write_all(&out[0..at]).is_ok();
-    Gathered {
-        at: 0,
-        failed: !is_written,
-    }
+    output.write_all(&out[..at])?;
+    Ok(0)
 }
 
-// Writes all that is gathered; answers whether it is written.
-pub fn finish<W: Write>(output: &mut W, out: &[u8], at: usize) -> bool
+// Writes all that is gathered.
+pub fn finish<W: Write>(output: &mut W, out: &[u8], at: usize) -> io::Result<()>
     requires { at ≤ length out.now }
-    ensures { at ≡ 0 → result ≡ true }
+    ensures { at ≡ 0 → IsOk result }
 {
-    !with_room(output, out, at, out.len()).failed
+    with_room(output, out, at, out.len())?;
+    Ok(())
 }

@@ -8,6 +8,9 @@ ghost use Rattle.year.specs.Year.{test_group};
 use limits::{EVENT_LIMIT, LSES, PRODUCTS, REGISTRATIONS, SELLERS, TEST_GROUPS};
 use units::Nominated;
 
+// Flags beside values (`known`, `taken`, `dual`) and numbers of products and periods stay in these structs: the definitions of what is owed
+// and the claims speak of these very fields (what may not change: `year.Year`, `owed.Facts`, `claim_history.Claim`).
+
 // A registration; one that is not known holds zeros.
 #[derive(Clone, Copy)]
 pub struct Registration {

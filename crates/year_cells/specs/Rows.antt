@@ -1,6 +1,6 @@
 -- A list of numbers ('cells'): rows that are laid into it, and views that read a row of it. These laws hold of any layout.
-use Rattle.std.specs.Prelude.{ℕ, ◌+◌, ◌*◌, ◌-◌, ◌≤◌, ◌<◌, ◌≡◌, refl, List, [], ◌∷◌, ◌++◌, ◌≢◌, length, get_or, set, take, replicate}
-use Rattle.std.proofs.Common.{ap, sym, ◌∙◌, arith, mul-le-mul_left, mul-suc, not-suc-le-zero, add-zero, lit<, length-set, length-append, get_or-set_same, get_or-set_other, get_or-take, get_or-append-add, length-take-le}
+use Rattle.std.specs.Prelude.{ℕ, ◌+◌, ◌*◌, ◌-◌, ◌≤◌, ◌<◌, ◌≡◌, refl, List, [], ◌∷◌, ◌++◌, ◌≢◌, length, get_or, set, replicate}
+use Rattle.std.proofs.Common.{ap, sym, ◌∙◌, arith, mul-le-mul_left, mul-suc, add-zero, lit<, length-set, length-append, get_or-set_same, get_or-set_other, get_or-append-add}
 use Rattle.std.proofs.Math.Decide.{dec_lt}
 use Rattle.std.proofs.lemmas.List.{length-replicate, get_or-replicate}
 use Rattle.std.proofs.Math.ListN.{get_or-append}
@@ -16,32 +16,6 @@ pub record Laid (p : ℕ) (r c d : List ℕ) : Type 0 where
   pub long : length d ≡ length c
   pub inside : (k : ℕ) → k < length r → at d (p + k) ≡ at r k
   pub outside : (k : ℕ) → Off p (length r) k → at d k ≡ at c k
-
--- a loop that lays a row: nothing yet, and one more number
-pub laid_none : (p : ℕ) (c : List ℕ) → Laid p [] c c
-laid_none p c = record { long = refl; inside = λ k l. absurd (not-suc-le-zero l); outside = λ k o. refl }
-
-pub laid_more : {p : ℕ} {c d : List ℕ} (r : List ℕ) (i : ℕ) → i < length r → p + i < length c → Laid p (take i r) c d → Laid p (take (i + 1) r) c (set d (p + i) (at r i))
-laid_more {p} {c} {d} r i l m h =
-    record {
-      long = length-set d (p + i) (at r i) ∙ h.long;
-      inside = λ k u. go k (dec_lt k i) (rw (length-take-le (i + 1) r (omega arith)) at u);
-      outside = λ k o. get_or-set_other d (p + i) k (at r i) 0 (λ e. o (omega arith) (omega (arith, more))) ∙ h.outside k (λ a b. o a (omega (arith, more, less)));
-    }
-  where
-    more : length (take (i + 1) r) ≡ i + 1
-    more = length-take-le (i + 1) r (omega arith)
-
-    less : length (take i r) ≡ i
-    less = length-take-le i r (omega arith)
-
-    go : (k : ℕ) → Dec (k < i) → k < i + 1 → at (set d (p + i) (at r i)) (p + k) ≡ at (take (i + 1) r) k
-    go k (yes b) u =
-        get_or-set_other d (p + i) (p + k) (at r i) 0 (λ e. omega arith) ∙ h.inside k (omega (arith, less))
-        ∙ get_or-take i r k 0 b ∙ sym (get_or-take (i + 1) r k 0 u)
-    go k (no b) u =
-        let z : k ≡ i = omega arith in
-        rw z (get_or-set_same d (p + i) (at r i) 0 (omega (arith, h.long)) ∙ sym (get_or-take (i + 1) r i 0 (omega arith)))
 
 -- two rows, one behind the other, are one
 pub laid_on : {p : ℕ} {r s c d e : List ℕ} → Laid p r c d → Laid (p + length r) s d e → Laid p (r ++ s) c e

@@ -15,8 +15,16 @@ use year::{Clearings, Registration};
 // How many cells there are.
 pub const CELLS: usize = RETEST_ENTRIES_PLACE + ENTRIES_WIDTH;
 
-// A year's cells: single ones, then tables, one row an element.
+// A year's cells: single ones, then tables, one row an element. One flat array, since C holds it so (the C interface).
 pub type Cells = [u64; CELLS];
+
+// A year in its cells, which is sound: as many as they should be, and a sound year in them.
+#[derive(Clone, Copy)]
+#[repr(C)]
+pub struct YearCells {
+    pub cells: Cells,
+    ghost valid: { ValidCells cells },
+}
 
 // The places of specs/Places.antt, in the same words. Single cells:
 pub const CLOSED_PLACE: usize = 0;
@@ -94,27 +102,26 @@ pub const EVENT_SECOND_IN: usize = EVENT_LISTING_IN + SECOND_IN;
 // In a test's row: whether it is taken, its month, then its deficits.
 pub const TEST_DEFICITS_IN: usize = 2;
 
-// Lays a row into the cells: the only loop that writes them.
-pub fn lay(year: &mut Cells, place: usize, row: &[u64])
-    requires year_len { length year.old ≡ cell_count }
+// Lays a row into the cells: nothing else changes a part of them.
+pub fn lay(cells: &mut Cells, place: usize, row: &[u64])
     requires row_bound { place + length row.now ≤ cell_count }
-    ensures { Laid place row.now year.old year.new }
+    ensures { Laid place row.now cells.old cells.new }
 {
-    let mut i: usize = 0;
-    while i < row.len() {
-        year[place + i] = row[i];
-        i += 1;
+    cells[place..place + row.len()].copy_from_slice(row);
+}
+
+impl YearCells {
+    // No year yet.
+    pub fn new() -> YearCells
+        ensures { year_in result.cells ≡ new_year }
+    {
+        YearCells {
+            cells: [0u64; CELLS],
+        }
     }
 }
 
-// No year yet.
-pub fn new_year() -> Cells
-    ensures equals { year_in result ≡ new_year }
-    ensures valid { ValidCells result }
-{
-    [0u64; CELLS]
-}
-
+// The reads take any cells, sound or not: a `YearCells` would ask more of who calls `question_list::is_open` or `settle_facts::look`.
 pub fn opened(year: &Cells) -> bool
     ensures { result ≡ (year_in year.now).opened }
 {
@@ -154,7 +161,7 @@ pub fn registration_at(year: &Cells, i: usize) -> Registration
         area: year[p + 2],
         zone: year[p + 3],
         product: year[p + 4],
-        committed: committed,
+        committed,
         rate: year[p + 6],
     }
 }

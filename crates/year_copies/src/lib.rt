@@ -20,11 +20,7 @@ pub fn numbers_at(cells: &[u64], p: usize) -> [u64; PARTIES]
     ensures { result ≡ tabulate parties (from p cells.now) }
 {
     let mut numbers = [0u64; PARTIES];
-    let mut i: usize = 0;
-    while i < PARTIES {
-        numbers[i] = cells[p + i];
-        i += 1;
-    }
+    numbers.copy_from_slice(&cells[p..p + PARTIES]);
     numbers
 }
 
@@ -34,10 +30,8 @@ pub fn registrations_of(year: &Cells) -> [Registration; REGISTRATIONS]
 {
     let first = year_cells::registration_at(year, 0);
     let mut registrations = [first; REGISTRATIONS];
-    let mut i: usize = 0;
-    while i < REGISTRATIONS {
+    for i in 0..REGISTRATIONS {
         registrations[i] = year_cells::registration_at(year, i);
-        i += 1;
     }
     registrations
 }
@@ -52,8 +46,8 @@ pub fn terms_of(year: &Cells) -> Terms
         leap: year[year_cells::LEAP_PLACE],
         factor: year[year_cells::FACTOR_PLACE],
         requirement: year[year_cells::REQUIREMENT_PLACE],
-        registrations: registrations,
-        obligations: obligations,
+        registrations,
+        obligations,
     }
 }
 
@@ -66,9 +60,9 @@ pub fn billed_of(year: &Cells) -> Amounts
     let credit = numbers_at(year, BILLED_CREDIT_PLACE);
     let lse = numbers_at(year, BILLED_LSE_PLACE);
     Amounts {
-        compliance: compliance,
-        test: test,
-        credit: credit,
-        lse: lse,
+        compliance,
+        test,
+        credit,
+        lse,
     }
 }

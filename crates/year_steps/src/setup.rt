@@ -4,65 +4,65 @@ ghost use Rattle.limits.specs.Limits.{registrations, lses, clearing_limit, nomin
 ghost use Rattle.year.specs.Year.{clearings_of};
 ghost use Rattle.year.specs.Steps.{with_opening, with_registration, with_lse, with_clearing};
 ghost use Rattle.year.specs.Sound.{SoundRegistration, Factors};
-ghost use Rattle.year_cells.specs.Layout.{year_in, ValidCells};
+ghost use Rattle.year_cells.specs.Layout.{year_in};
 
 use year::Registration;
 use year_cells::{
-    CLEARING_WIDTH, CLEARINGS_PLACE, Cells, OBLIGATIONS_PLACE, OPENED_PLACE, REGISTRATION_WIDTH,
-    REGISTRATIONS_PLACE, lay,
+    CLEARING_WIDTH, CLEARINGS_PLACE, OBLIGATIONS_PLACE, OPENED_PLACE, REGISTRATION_WIDTH,
+    REGISTRATIONS_PLACE, YearCells, lay,
 };
 
 // An opening: the year's leap mark and factors.
-pub fn add_opening(year: &mut Cells, leap: u64, factor: u64, requirement: u64)
-    requires valid_cells { ValidCells year.old }
+pub fn add_opening(year: &mut YearCells, leap: u64, factor: u64, requirement: u64)
     requires factors { Factors leap factor requirement }
-    ensures equals { year_in year.new ≡ with_opening (year_in year.old) leap factor requirement }
-    ensures valid { ValidCells year.new }
+    ensures { year_in year.new.cells ≡ with_opening (year_in year.old.cells) leap factor requirement }
 {
-    lay(year, OPENED_PLACE, &[1, leap, factor, requirement]);
+    lay(
+        &mut year.cells,
+        OPENED_PLACE,
+        &[1, leap, factor, requirement],
+    );
 }
 
 // One more registration, before any event, test or close. Its kilowatts are `units::Nominated`; the cells hold their number.
-pub fn add_registration(year: &mut Cells, id: usize, r: Registration)
-    requires valid_cells { ValidCells year.old }
-    requires year_value { (year_in year.old).started ≡ false }
+pub fn add_registration(year: &mut YearCells, id: usize, r: Registration)
+    requires year_value { (year_in year.old.cells).started ≡ false }
     requires id_lt_registrations { id < registrations }
     requires known_value { r.known ≡ true }
     requires sound_registration { SoundRegistration r }
-    ensures equals { year_in year.new ≡ with_registration (year_in year.old) id r }
-    ensures valid { ValidCells year.new }
+    ensures { year_in year.new.cells ≡ with_registration (year_in year.old.cells) id r }
 {
     let committed = r.committed;
     let row = [1, r.seller, r.area, r.zone, r.product, committed.0, r.rate];
-    lay(year, REGISTRATIONS_PLACE + REGISTRATION_WIDTH * id, &row);
+    lay(
+        &mut year.cells,
+        REGISTRATIONS_PLACE + REGISTRATION_WIDTH * id,
+        &row,
+    );
 }
 
 // One more LSE's obligation.
-pub fn add_lse(year: &mut Cells, id: usize, kw: u64)
-    requires valid_cells { ValidCells year.old }
+pub fn add_lse(year: &mut YearCells, id: usize, kw: u64)
     requires id_lt_lses { id < lses }
     requires kw_le_obligation_limit { kw ≤ obligation_limit }
-    ensures equals { year_in year.new ≡ with_lse (year_in year.old) id kw }
-    ensures valid { ValidCells year.new }
+    ensures { year_in year.new.cells ≡ with_lse (year_in year.old.cells) id kw }
 {
-    lay(year, OBLIGATIONS_PLACE + id, &[kw]);
+    lay(&mut year.cells, OBLIGATIONS_PLACE + id, &[kw]);
 }
 
 // One more clearing of a registration that has fewer than four.
-pub fn add_clearing(year: &mut Cells, id: usize, price: u64, kw: u64)
-    requires valid_cells { ValidCells year.old }
+pub fn add_clearing(year: &mut YearCells, id: usize, price: u64, kw: u64)
     requires id_lt_registrations { id < registrations }
-    requires id_bound { (clearings_of (year_in year.old) id).count < clearing_limit }
+    requires id_bound { (clearings_of (year_in year.old.cells) id).count < clearing_limit }
     requires price_le_rate_limit { price ≤ rate_limit }
     requires le_kw { 1 ≤ kw }
     requires kw_le_nominated_limit { kw ≤ nominated_limit }
-    ensures equals { year_in year.new ≡ with_clearing (year_in year.old) id price kw }
-    ensures valid { ValidCells year.new }
+    ensures { year_in year.new.cells ≡ with_clearing (year_in year.old.cells) id price kw }
 {
-    let old = year_cells::clearings_at(year, id);
+    let old = year_cells::clearings_at(&year.cells, id);
     let count = old.count;
     let value = old.value;
     let cleared = old.kw;
     let row = [count + 1, value + price * kw, cleared + kw];
-    lay(year, CLEARINGS_PLACE + CLEARING_WIDTH * id, &row);
+    lay(&mut year.cells, CLEARINGS_PLACE + CLEARING_WIDTH * id, &row);
 }

@@ -1,14 +1,20 @@
 // A listing's entries put into a table of entries by registration.
 ghost use Rattle.std.specs.Prelude.{◌≡◌, ◌+◌, ◌≤◌, ◌<◌, length};
 ghost use Rattle.limits.specs.Limits.{registrations};
-ghost use Rattle.year_cells.specs.Places.{listing_width, entries_width, cell_count};
+ghost use Rattle.year_cells.specs.Places.{entries_width, cell_count};
 ghost use Rattle.year_test_steps.specs.Entered.{merged_at, merged, Entered};
 
 use limits::REGISTRATIONS;
-use year_cells::{Cells, REDUCTIONS_IN, lay};
+use year_cells::{Cells, LISTING_WIDTH, REDUCTIONS_IN, lay};
 
 // The number at i of one part of a table, marks or reductions, after a listing: the listing's own where it lists i, else what stands there.
-fn merged_at(year: &Cells, place: usize, listing: &[u64], part: usize, i: usize) -> u64
+fn merged_at(
+    year: &Cells,
+    place: usize,
+    listing: &[u64; LISTING_WIDTH],
+    part: usize,
+    i: usize,
+) -> u64
     requires i_bound { place + i < cell_count }
     requires i_in_bounds { i < length listing.now }
     requires i_in_bounds_2 { part + i < length listing.now }
@@ -21,25 +27,26 @@ fn merged_at(year: &Cells, place: usize, listing: &[u64], part: usize, i: usize)
 }
 
 // Such a part after a listing, whole.
-fn merge(year: &Cells, place: usize, listing: &[u64], part: usize) -> [u64; REGISTRATIONS]
+fn merge(
+    year: &Cells,
+    place: usize,
+    listing: &[u64; LISTING_WIDTH],
+    part: usize,
+) -> [u64; REGISTRATIONS]
     requires registrations_bound { place + registrations ≤ cell_count }
     requires registrations_in_bounds { part + registrations ≤ length listing.now }
     ensures { result ≡ merged year.now place listing.now part }
 {
     let mut entries = [0u64; REGISTRATIONS];
-    let mut i: usize = 0;
-    while i < REGISTRATIONS {
+    for i in 0..REGISTRATIONS {
         entries[i] = merged_at(year, place, listing, part, i);
-        i += 1;
     }
     entries
 }
 
 // A listing's entries go into a table: marks, then reductions.
-pub fn enter(year: &mut Cells, table: usize, listing: &[u64])
-    requires year_len { length year.old ≡ cell_count }
+pub fn enter(year: &mut Cells, table: usize, listing: &[u64; LISTING_WIDTH])
     requires entries_width_bound { table + entries_width ≤ cell_count }
-    requires listing_len { length listing.now ≡ listing_width }
     ensures { Entered table listing.now year.old year.new }
 {
     let marks = merge(year, table, listing, 0);

@@ -4,12 +4,12 @@
 ghost use Rattle.std.specs.Prelude.{◌≡◌, ◌<◌, get_or};
 ghost use Rattle.limits.specs.Limits.{registrations, test_groups};
 ghost use Rattle.year.specs.Year.{no_test, retest_of, listed, reduction};
-ghost use Rattle.year_cells.specs.Layout.{year_in, ValidCells};
+ghost use Rattle.year_cells.specs.Layout.{year_in};
 
 use year::Retest;
 use year_cells::{
     Cells, REDUCTIONS_IN, RETEST_ENTRIES_PLACE, TEST_ENTRIES_PLACE, TEST_WIDTH, TESTS_PLACE,
-    registration_at,
+    YearCells,
 };
 
 // Is the test of a group taken?
@@ -21,7 +21,7 @@ pub fn test_taken(year: &Cells, group: usize) -> bool
     year[p + 0] != 0
 }
 
-// The month of a group's test, 0 where it has none.
+// The month of a group's test, 0 where it has none: no Option, as `year.Year.no_test` has it (what may not change: its clause).
 pub fn test_month(year: &Cells, group: usize) -> u64
     requires { group < test_groups }
     ensures { result ≡ (get_or (year_in year.now).tests group no_test).month }
@@ -31,24 +31,22 @@ pub fn test_month(year: &Cells, group: usize) -> u64
 }
 
 // Does the test of a group list a registration?
-pub fn tested_in(year: &Cells, group: u64, i: usize) -> bool
-    requires valid_cells { ValidCells year.now }
+pub fn tested_in(year: &YearCells, group: u64, i: usize) -> bool
     requires i_lt_registrations { i < registrations }
-    ensures { result ≡ listed (get_or (year_in year.now).tests group no_test).listing i }
+    ensures { result ≡ listed (get_or (year_in year.now.cells).tests group no_test).listing i }
 {
-    let r = registration_at(year, i);
+    let r = year_cells::registration_at(&year.cells, i);
     let own = year::group_of(r.zone, r.product);
-    year[TEST_ENTRIES_PLACE + i] != 0 && own == group
+    year.cells[TEST_ENTRIES_PLACE + i] != 0 && own == group
 }
 
-// With which reduction, 0 where it does not.
-pub fn first_in(year: &Cells, group: u64, i: usize) -> u64
-    requires valid_cells { ValidCells year.now }
+// With which reduction, 0 where it does not, as `year.Year.reduction` has it (what may not change: its clause).
+pub fn first_in(year: &YearCells, group: u64, i: usize) -> u64
     requires i_lt_registrations { i < registrations }
-    ensures { result ≡ reduction (get_or (year_in year.now).tests group no_test).listing i }
+    ensures { result ≡ reduction (get_or (year_in year.now.cells).tests group no_test).listing i }
 {
     if tested_in(year, group, i) {
-        year[TEST_ENTRIES_PLACE + (REDUCTIONS_IN + i)]
+        year.cells[TEST_ENTRIES_PLACE + (REDUCTIONS_IN + i)]
     } else {
         0
     }

@@ -5,10 +5,9 @@ use Rattle.bill_step.proofs.step.Goals as goal
 
 pub returns : goal.returns
 returns c =
-    let p = c.post-posted.ensures in
+    let posts = c.post-posted.ensures.posts in
     record {
-      posts = p.posts;
-      prints = printed c.args.course.position (c.type_inv.bytes 0).fits p.posts c.answer_lines-at.ensures;
+      posts = posts;
+      prints = printed c.args.course.position (c.type_inv.bytes 0).fits posts (rw c.number_of-number.ensures at c.answer_lines-at.ensures);
       counts = refl;
-      valid = p.valid;
     }

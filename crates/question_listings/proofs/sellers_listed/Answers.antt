@@ -16,15 +16,15 @@ loop-i-init c = (omega arith, marked-none _ _)
 
 pub bounds-sellers-s : goal.bounds-sellers-s
 unfolding seller
-bounds-sellers-s c = rw c.registration_at-r.ensures (seller-below c.requires.valid_cells.sound.terms c.loop-i.i)
+bounds-sellers-s c = rw c.registration_at-r.ensures (seller-below c.args.year.now.valid.sound.terms c.loop-i.i)
 
 pub loop-i-preserved : goal.loop-i-preserved
 unfolding seller
 loop-i-preserved c =
     let row = c.args.listing.now in
     let l = c.loop-i in
-    let T = cell_terms c.args.year.now in
-    let small = seller-below c.requires.valid_cells.sound.terms l.i in
+    let T = cell_terms c.args.year.now.cells in
+    let small = seller-below c.args.year.now.valid.sound.terms l.i in
     let here = row_listed row {i = l.i} (omega arith) in (
       omega arith,
       elim c.if-listing-i-ne0.branch [
@@ -35,4 +35,4 @@ loop-i-preserved c =
 
 pub returns : goal.returns
 returns c =
-    marked_all (cell_terms c.args.year.now) (listing_at (at c.args.listing.now)) c.loop-i.invariant.1 (omega (arith, size_is c.requires.valid_cells.sound.terms))
+    marked_all (cell_terms c.args.year.now.cells) (listing_at (at c.args.listing.now)) c.loop-i.invariant.1 (omega (arith, size_is c.args.year.now.valid.sound.terms))

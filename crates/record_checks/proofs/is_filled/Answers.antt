@@ -1,8 +1,7 @@
 -- No bit that is left is zero; else the field of the bits that are left is read.
-use Prim.Native.Nat.{ℕ, ◌-◌, ◌*◌}
-use mathlib.Core.Path.{◌≡◌, ap}
+use Prim.Native.Nat.{◌-◌, ◌*◌}
+use mathlib.Core.Path.{◌≡◌}
 use native.Mathlib.Omega.{arith}
-use lib.Dec.{eqb}
 use Rattle.bits.specs.Bits.{number}
 use Rattle.bits.specs.Pack.{bytes_for}
 use Rattle.record_checks.proofs.is_filled.Goals as goal
@@ -12,6 +11,3 @@ unfolding number
 returns-then-left-eq0 c =
     let z : 8 * bytes_for c.args.c.at - c.args.c.at ≡ 0 = omega arith in
     rw z
-
-pub returns : goal.returns
-returns c = ap (λ (v : ℕ). eqb v 0) c.read_field.ensures.value

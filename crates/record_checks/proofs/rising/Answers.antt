@@ -23,36 +23,6 @@ pub loop-k-init : goal.loop-k-init
 unfolding all_to
 loop-k-init c = (omega arith, omega (arith, c.if-n-eq0.false), omega arith, refl)
 
-pub overflow_add-q : goal.overflow_add-q
-overflow_add-q c =
-    let a = c.args in
-    let l = c.loop-k in
-    omega (arith, c.requires, room a.fields a.n (l.k - 1) (omega (arith, l.invariant.0)))
-
-pub offset_bounds-values-q : goal.offset_bounds-values-q
-offset_bounds-values-q c =
-    let a = c.args in
-    let l = c.loop-k in
-    omega (arith, c.requires, room a.fields a.n (l.k - 1) (omega (arith, l.invariant.0)))
-
-pub bounds-values-q : goal.bounds-values-q
-bounds-values-q c =
-    let a = c.args in
-    let l = c.loop-k in
-    omega (arith, c.requires, room a.fields a.n (l.k - 1) (omega (arith, l.invariant.0)))
-
-pub offset_bounds-values-p : goal.offset_bounds-values-p
-offset_bounds-values-p c =
-    let a = c.args in
-    let l = c.loop-k in
-    omega (arith, c.requires, room a.fields a.n (l.k - 1) (omega (arith, l.invariant.0)))
-
-pub bounds-values-p : goal.bounds-values-p
-bounds-values-p c =
-    let a = c.args in
-    let l = c.loop-k in
-    omega (arith, c.requires, room a.fields a.n (l.k - 1) (omega (arith, l.invariant.0)))
-
 pub returns-then-values-q : goal.returns-then-values-q
 unfolding rises
 returns-then-values-q c =

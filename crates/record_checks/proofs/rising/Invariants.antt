@@ -8,6 +8,3 @@ use Rattle.record_checks.proofs.rising.Given as goal
 
 abbrev pub invariant-loop-k : goal.invariant-loop-k
 invariant-loop-k l = (1 ≤ l.k) × (l.k ≤ l.n) × (l.p ≡ l.from + l.fields * (l.k - 1)) × (all_to (l.k - 1) (λ i. ltb (at l.values (l.from + l.fields * i)) (at l.values (l.from + l.fields * (i + 1)))) ≡ true)
-
-abbrev pub decreases-loop-k : goal.decreases-loop-k
-decreases-loop-k l = l.n - l.k

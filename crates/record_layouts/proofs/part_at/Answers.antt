@@ -13,5 +13,4 @@ row_at-requires c = omega (arith, c.first_of.ensures, part_in c.args.kind c.requ
 
 pub returns : goal.returns
 returns c =
-    let s = c in
-    rw (c.row_at.ensures, c.first_of.ensures) (placed s.args.kind s.requires.kind_in_bounds s.args.i s.requires.i_in_bounds)
+    rw (c.row_at.ensures, c.first_of.ensures) (placed c.args.kind c.requires.kind_in_bounds c.args.i c.requires.i_in_bounds)

@@ -1,15 +1,24 @@
--- `record_listing::spread_list` meets its contract. The loop's invariant: the items passed are in the row. Assumes nothing.
-use Prim.Native.Nat.{◌-◌, ◌≤◌}
+-- The items passed are in the row, and the others are still to come.
+use Prim.Native.Nat.{◌*◌, ◌≤◌}
 use mathlib.Core.Path.{◌≡◌}
+use lib.ListN.{length, take, drop}
 use Rattle.ids.specs.Ids.{at}
-use Rattle.record_layouts.specs.Layout.{item_at}
+use Rattle.record_layouts.specs.Layout.{list_at, items_in, place_of}
 use Rattle.record_heads.specs.Record.{with_items, listing_to}
 use Rattle.record_listing.specs.Spread.{Spreads}
 use Rattle.record_listing.proofs.spread_list.Given as goal
 
-abbrev pub invariant-loop-k : goal.invariant-loop-k
-invariant-loop-k l =
-    (l.k ≤ l.n) × (l.p ≡ item_at (at l.values 0) l.values l.i l.k) × Spreads (with_items (at l.values 0) l.values l.i (listing_to (at l.values 0) l.values l.i) l.k) l.row
-
-abbrev pub decreases-loop-k : goal.decreases-loop-k
-decreases-loop-k l = l.n - l.k
+abbrev pub invariant-loop-item : goal.invariant-loop-item
+invariant-loop-item l =
+    let vs = l.values in
+    let kind = at vs 0 in
+    let fields = length (list_at kind l.i).fields in
+    let passed = length l.yielded in
+    record {
+      can : (goal.iterator-loop-item).can_next l.item-iterator;
+      ends : (goal.iterator-loop-item).is_finite l.item-iterator;
+      size : l.item-iterator.size ≡ fields;
+      some : passed ≤ items_in kind vs l.i;
+      rest : l.item-iterator.rest.now ≡ drop (passed * fields) (take (items_in kind vs l.i * fields) (drop (place_of kind vs l.i) vs));
+      spreads : Spreads (with_items kind vs l.i (listing_to kind vs l.i) passed) l.row;
+    }

@@ -1,43 +1,44 @@
 -- What is refused leaves the buffer as it was; else the row has the numbers in front.
-use mathlib.Core.Path.{refl, sym, ap, ◌∙◌}
+use mathlib.Core.Path.{◌≡◌, refl, sym, ◌∙◌}
+use mathlib.Core.List.{List}
+use Prim.Native.Nat.{ℕ, ◌≤◌}
+use lib.ListN.{length, take}
 use native.Mathlib.Omega.{arith}
-use lib.ListN.{length}
-use Rattle.record_layouts.specs.Questions.{numbers_of}
-use Rattle.record_numbers.specs.Accepted.{accepted, taken-numbers, consumed-size, numbers-few}
-use Rattle.record_unpack.specs.Reading.{row-long}
-use Rattle.record_read.specs.Answers.{read-fails, read_short, read-full, rejects, yields, row-front}
+use Rattle.std.proofs.Common.{length-take-le}
+use Rattle.record_parse.specs.Answers.{number-some}
+use Rattle.record_read.specs.Answers.{read-fails, read_short, read-full, rejects, yields, counted, few, front, all-used}
 use Rattle.record_read.proofs.read.Goals as goal
 
-pub returns-then-a-ne0 : goal.returns-then-a-ne0
-returns-then-a-ne0 c =
-    let p = c.parse-a.ensures in
-    let some = c.if-a-ne0.true in
-    let u = c.refused.ensures in
-    rejects _ (u.0 ∙ p.numbers) u.1 u.2 refl (λ e. some (p.numbers ∙ e)) (read-fails _ _ (λ e. some (p.numbers ∙ e)))
+pub returns-in-Err : goal.returns-in-Err
+returns-in-Err c =
+    let refused = c.in-Err.ensures in
+    let some = number-some c.in-Err.refused.refusal in
+    rejects _ refused.numbers refl refl refl (λ e. some (refused.numbers ∙ e)) (read-fails _ _ (λ e. some (refused.numbers ∙ e)))
 
 pub returns-then-numbers-lt-NUMBERS : goal.returns-then-numbers-lt-NUMBERS
 returns-then-numbers-lt-NUMBERS c =
-    let p = c.parse-a.ensures in
-    let u = c.refused-then-numbers-lt-NUMBERS.ensures in
-    rejects 16 u.0 u.1 u.2 refl (λ e. omega arith) (read_short _ _ (sym p.numbers ∙ c.if-a-ne0.false) (omega (arith, c.if-numbers-lt-NUMBERS.true)))
+    rejects 16 refl refl refl refl (λ e. omega arith) (read_short _ _ (sym c.in-Ok.ensures.numbers) c.if-numbers-lt-NUMBERS.true)
+
+-- as many numbers as there are, in the buffer and in the row
+fits : {n m : ℕ} (xs : List ℕ) → n ≤ m → m ≤ length xs → n ≡ length (take n xs)
+fits xs few room = sym (length-take-le _ xs (omega arith))
+
+pub slice_bounds-copy_from_slice-end : goal.slice_bounds-copy_from_slice-end
+slice_bounds-copy_from_slice-end c = omega (arith, few c.in-Ok.ensures, c.if-numbers-lt-NUMBERS.false)
+
+pub slice_bounds-copy_from_slice-end-2 : goal.slice_bounds-copy_from_slice-end-2
+slice_bounds-copy_from_slice-end-2 c = fits _ (few c.in-Ok.ensures) c.if-numbers-lt-NUMBERS.false
+
+pub slice_bounds-values-end : goal.slice_bounds-values-end
+slice_bounds-values-end c = omega (arith, few c.in-Ok.ensures)
+
+pub slice_bounds-copy_from_slice-end-3 : goal.slice_bounds-copy_from_slice-end-3
+slice_bounds-copy_from_slice-end-3 c = fits _ (few c.in-Ok.ensures) (omega arith)
+
+pub copy_from_slice-requires : goal.copy_from_slice-requires
+copy_from_slice-requires c = sym (fits _ (few c.in-Ok.ensures) c.if-numbers-lt-NUMBERS.false) ∙ fits _ (few c.in-Ok.ensures) (omega arith)
 
 pub returns : goal.returns
 returns c =
-    let p = c.parse-a.ensures in
-    let none = c.if-a-ne0.false in
-    let zero = sym p.numbers ∙ none in
-    let n = p.counts ∙ ap length (taken-numbers _ zero) in
-    let front = row-front _ _ _ (p.rows zero) n in
-    yields none n (p.uses ∙ consumed-size _ (accepted _ zero)) (c.copy_front.ensures ∙ rw (front, n)) (read-full _ _ zero (omega (arith, c.if-numbers-lt-NUMBERS.false)))
-
-pub copy_front-requires : goal.copy_front-requires
-copy_front-requires c =
-    let bytes = c.args.bytes.now in
-    let p = c.parse-a.ensures in
-    let none = c.if-a-ne0.false in
-    let zero = sym p.numbers ∙ none in
-    let few = numbers-few bytes (accepted bytes zero) in
-    let n = p.counts ∙ ap length (taken-numbers bytes zero) in record { n_in_bounds = omega (arith, row-long (numbers_of bytes), ap length (p.rows zero)); n_in_bounds_2 = omega arith }
-
-pub parse-a-requires : goal.parse-a-requires
-parse-a-requires c = refl
+    let p = c.in-Ok.ensures in
+    yields refl (counted p) (all-used p) (rw (c.copy_from_slice.ensures.after, front p, counted p)) (read-full _ _ (sym p.numbers) c.if-numbers-lt-NUMBERS.false)

@@ -1,56 +1,20 @@
--- A list's count is among the numbers of the head.
-use mathlib.Core.Path.{◌≡◌, sym, ap, ◌∙◌}
-use Prim.Native.Nat.{◌-◌, ◌<◌}
+-- With j lists passed, the place of list j.
+use Prim.Native.Nat.{◌<◌}
 use lib.ListN.{length}
-use Rattle.ids.specs.Ids.{at}
-use Rattle.record_layouts.specs.Layout.{head, list_at, items_in}
-use Rattle.record_layouts.specs.LayoutLaws.{head_small, lists-few, count-in, items-count}
-use Rattle.record_layouts.specs.ListLaws.{stated-count, stated-list}
-use native.Mathlib.Numerals.{add-one}
 use native.Mathlib.Omega.{arith}
+use Rattle.record_layouts.specs.Layout.{lists, rules_to}
+use Rattle.record_layouts.specs.ListLaws.{length-list, stated-list, stated-count}
 use Rattle.record_shapes.proofs.list_at.Goals as goal
-use Rattle.record_shapes.proofs.list_at.Goals.{After-part_at-part}
 
--- the place of the count, what stands there, and the fields of an item
-count_at : (c : After-part_at-part) → c.part_at-part.result.count < length (head c.args.kind)
-count_at c =
-    let s = c in
-    rw (rw (add-one s.args.i) at c.part_at-part.ensures).count (count-in s.args.kind s.args.i s.requires.i_in_bounds)
+pub loop-j-init : goal.loop-j-init
+unfolding rules_to
+loop-j-init c = c.head_of-from.ensures
 
-items_at : (c : After-part_at-part) → at c.args.values.now c.part_at-part.result.count ≡ items_in c.args.kind c.args.values.now c.args.i
-items_at c =
-    let s = c in
-    let h = rw (add-one s.args.i) at c.part_at-part.ensures in
-    ap (at s.args.values.now) h.count ∙ sym (items-count s.args.kind s.args.values.now s.args.i s.requires.i_in_bounds)
+pub overflow_add-from : goal.overflow_add-from
+overflow_add-from c =
+    let inside : c.loop-j.j < length (lists c.args.kind) = omega arith in
+    omega (arith, c.list_from-from.ensures.numbers, stated-list c.requires.stated inside, stated-count c.requires.stated)
 
-one_at : (c : After-part_at-part) → c.part_at-part.result.end - c.part_at-part.result.start ≡ length (list_at c.args.kind c.args.i).fields
-one_at c = let h = rw (add-one c.args.i) at c.part_at-part.ensures in omega (arith, h.long)
-
-pub overflow_add-i : goal.overflow_add-i
-overflow_add-i c = omega (arith, lists-few c.args.kind, c.requires.i_in_bounds)
-
-pub offset_bounds-values-place : goal.offset_bounds-values-place
-offset_bounds-values-place c = omega (arith, head_small c.args.kind, count_at c)
-
-pub bounds-values-place : goal.bounds-values-place
-bounds-values-place c = omega (arith, c.requires.stated.head, count_at (goal.at.bounds-values-place c).After-part_at-part)
-
-pub overflow_mul-numbers : goal.overflow_mul-numbers
-overflow_mul-numbers c =
-    let s = c in
-    let k = s.args.kind in
-    let h = c.part_at-part.ensures in
-    rw (items_at (goal.at.overflow_mul-numbers c).After-part_at-part, one_at (goal.at.overflow_mul-numbers c).After-part_at-part) (omega (arith, stated-list s.requires.stated s.requires.i_in_bounds, stated-count s.requires.stated))
-
-pub returns : goal.returns
-returns c =
-    let s = c in
-    let h = rw (add-one s.args.i) at c.part_at-part.ensures in
-    record {
-      fields = h.fields;
-      long = h.long;
-      within = h.within;
-      bits = h.bits;
-      items = items_at (goal.at.returns c).After-part_at-part;
-      numbers = rw (items_at (goal.at.returns c).After-part_at-part, one_at (goal.at.returns c).After-part_at-part);
-    }
+pub loop-j-preserved : goal.loop-j-preserved
+loop-j-preserved c =
+    omega (arith, c.list_from-from.ensures.numbers, length-list c.args.kind c.args.values.now c.loop-j.j)

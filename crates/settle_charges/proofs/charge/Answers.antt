@@ -14,7 +14,7 @@ use Rattle.settle_table.specs.Places.{compliance_row, u_row, off_u_row}
 use Rattle.settle_table.specs.Rows.{renewed-next}
 use Rattle.settle_charges.specs.declared.prices.Line.{Line}
 use Rattle.settle_charges.specs.Pricing.{line_at, daily_of}
-use Rattle.settle_charges.specs.Charging.{Charging, line_of, line-is, charging-first, charging-none, charging-more, charging-all, spent-most, compliance-most, sum-most, daily-is, charge-is, any_some, none-some}
+use Rattle.settle_charges.specs.Charging.{Charging, line_of, line-is, charging-first, charging-none, charging-more, charging-all, compliance-most, sum-most, daily-is, charge-is, any_some, none-some}
 use Rattle.settle_charges.proofs.charge.Goals as goal
 use Rattle.settle_charges.proofs.charge.Goals.{then-u-off, else-u-off}
 
@@ -43,13 +43,13 @@ module _ {F : Facts} (L : Limits F) (ev i : ℕ) where
 pub loop-i-preserved : goal.loop-i-preserved
 loop-i-preserved c =
     let h = c.loop-i.invariant in
-    let t = c.loop-i-test.true in
+    let t : c.loop-i.i < registrations = omega arith in
     elim c.if-u-off.branch [
       | then-u-off w ↦
           let d = daily-eq h t w.line_at-line.ensures w.if-u-off.true c.get-u.ensures c.get-off.ensures c.one_or_three-peak.ensures w.daily_of-daily.ensures in
           let r = charge-eq h t w.line_at-line.ensures d c.month_of-month.ensures c.days_to-days.ensures w.cents-due.ensures in
           rw (w.work-is, w.all-is)
-          (charging-more h t ((limits c.requires.valid_cells.sound).seller c.loop-i.i) d r w.add_at.ensures (rw (line h t w.line_at-line.ensures) at w.add_at-then-u-off.ensures))
+          (charging-more h t ((limits c.args.year.now.valid.sound).seller c.loop-i.i) d r w.add_at.ensures (rw (line h t w.line_at-line.ensures) at w.add_at-then-u-off.ensures))
       | else-u-off w ↦
           let zero = none-some w.if-u-off.false (c.get-u.ensures ∙ h.given.shares.u.is c.loop-i.i t) (c.get-off.ensures ∙ h.given.off.is c.loop-i.i t) in
           rw (w.work-is, w.all-is) (charging-none h t zero.0 zero.1)
@@ -57,49 +57,28 @@ loop-i-preserved c =
 
 pub daily_of-daily-requires : goal.daily_of-daily-requires
 daily_of-daily-requires c =
-    let L = limits c.requires.valid_cells.sound in
-    let e = line c.loop-i.invariant c.loop-i-test.true c.line_at-line.ensures in
+    let L = limits c.args.year.now.valid.sound in
+    let e = line c.loop-i.invariant (omega arith) c.line_at-line.ensures in
     record { u_le_unforced_limit = rw e (u-le L c.args.ev c.loop-i.i); off_le_unforced_limit = rw e (off-u-le L c.args.ev c.loop-i.i); rate_le_rate_limit = rw e (L.rate c.loop-i.i) }
 
 pub cents-due-requires : goal.cents-due-requires
 cents-due-requires c =
-    let L = limits c.requires.valid_cells.sound in
-    let d = daily-eq c.loop-i.invariant c.loop-i-test.true c.line_at-line.ensures c.if-u-off.true c.get-u.ensures c.get-off.ensures c.one_or_three-peak.ensures c.daily_of-daily.ensures in
+    let L = limits c.args.year.now.valid.sound in
+    let d = daily-eq c.loop-i.invariant (omega arith) c.line_at-line.ensures c.if-u-off.true c.get-u.ensures c.get-off.ensures c.one_or_three-peak.ensures c.daily_of-daily.ensures in
     record { month_bound = rw c.month_of-month.ensures (L.month c.args.ev); days_bound = rw c.days_to-days.ensures (D-le L c.args.k); daily_bound = daily-most L c.args.ev c.loop-i.i _ d }
-
-pub add_at-requires : goal.add_at-requires
-add_at-requires c =
-    let h = c.loop-i.invariant in
-    let L = limits c.requires.valid_cells.sound in
-    let d = daily-eq h c.loop-i-test.true c.line_at-line.ensures c.if-u-off.true c.get-u.ensures c.get-off.ensures c.one_or_three-peak.ensures c.daily_of-daily.ensures in
-    (omega (arith, h.given.columns.long), omega (arith, spent-most h L c.loop-i-test.true, daily-most L c.args.ev c.loop-i.i _ d))
 
 pub add_at-requires-then-u-off : goal.add_at-requires-then-u-off
 add_at-requires-then-u-off c =
     let h = c.loop-i.invariant in
-    let t = c.loop-i-test.true in
-    let L = limits c.requires.valid_cells.sound in
+    let t : c.loop-i.i < registrations = omega arith in
+    let L = limits c.args.year.now.valid.sound in
     let d = daily-eq h t c.line_at-line.ensures c.if-u-off.true c.get-u.ensures c.get-off.ensures c.one_or_three-peak.ensures c.daily_of-daily.ensures in
     let r = charge-eq h t c.line_at-line.ensures d c.month_of-month.ensures c.days_to-days.ensures c.cents-due.ensures in
     let s = c.add_at.ensures in
-    let q = (facts c.args.year.now).seller c.loop-i.i in
+    let q = (facts c.args.year.now.cells).seller c.loop-i.i in
     let b = L.seller c.loop-i.i in
     rw (line h t c.line_at-line.ensures)
     (omega (arith, b, s.long, h.given.columns.long), omega (arith, s.others (compliance_row + q) (λ e. omega (arith, t)), compliance-most h L c.requires.ev_lt_event_limit.0 q b, charge-most L c.args.ev c.loop-i.i c.args.k r))
-
-pub returns : goal.returns
-returns c =
-    let h = c.loop-i.invariant in
-    let z : c.loop-i.i ≡ registrations = omega (arith, h.upto) in record { billed = charging-all h z; charges = rw z at h.sum; aside = h.aside }
-
-pub one_or_three-peak-requires : goal.one_or_three-peak-requires
-one_or_three-peak-requires c = c.requires.ev_lt_event_limit.0
-
-pub month_of-month-requires : goal.month_of-month-requires
-month_of-month-requires c = c.requires.ev_lt_event_limit.0
-
-pub days_to-days-requires : goal.days_to-days-requires
-days_to-days-requires c = record { valid_cells = c.requires.valid_cells; le_k = c.requires.ev_lt_event_limit.1; k_le_close_limit = c.requires.ev_lt_event_limit.2 }
 
 pub loop-i-init : goal.loop-i-init
 loop-i-init c = charging-first c.requires.given c.requires.billed_2
@@ -107,8 +86,11 @@ loop-i-init c = charging-first c.requires.given c.requires.billed_2
 pub overflow_add-all : goal.overflow_add-all
 overflow_add-all c =
     let h = c.loop-i.invariant in
-    let t = c.loop-i-test.true in
-    let L = limits c.requires.valid_cells.sound in
+    let t : c.loop-i.i < registrations = omega arith in
+    let L = limits c.args.year.now.valid.sound in
     let d = daily-eq h t c.line_at-line.ensures c.if-u-off.true c.get-u.ensures c.get-off.ensures c.one_or_three-peak.ensures c.daily_of-daily.ensures in
     let r = charge-eq h t c.line_at-line.ensures d c.month_of-month.ensures c.days_to-days.ensures c.cents-due.ensures in
     omega (arith, sum-most h L, charge-most L c.args.ev c.loop-i.i c.args.k r)
+
+pub returns-clause-billed : goal.returns-clause-billed
+returns-clause-billed c = charging-all c.loop-i.invariant (omega (arith, c.loop-i.invariant.upto))

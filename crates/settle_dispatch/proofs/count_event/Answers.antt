@@ -1,47 +1,33 @@
 -- `settle_dispatch::count_event` meets its contract. The loop's invariant: the entries before i are counted. Assumes nothing.
-use mathlib.Core.Path.{ap, sym, ◌∙◌}
-use native.Mathlib.Omega.{arith}
+use Rattle.std.proofs.Common.{◌≡◌, Bool, true, false, refl, sym, ap, ◌∙◌, cond, rules, arith}
+use Rattle.std.specs.Prelude.{Some, None}
+use Rattle.std.specs.Option.{is_some}
+use Rattle.year.specs.Year.{listed}
 use Rattle.settle_facts.specs.CellFacts.{facts}
-use Rattle.settle_facts.specs.declared.EventEntry.{EventEntry}
 use Rattle.ids.specs.Tests.{cond-le}
 use Rattle.settle_table.specs.Rows.{mark}
-use Rattle.settle_dispatch.specs.Counting.{counts-first, counts-none, counts-next, counts-more, counts_all, dispatch-count-most}
+use Rattle.settle_dispatch.specs.Counting.{counts-none, counts-next, counts-more, dispatch-count-most}
 use Rattle.settle_dispatch.proofs.count_event.Goals as goal
-use Rattle.settle_dispatch.proofs.count_event.Goals.{then-x, else-x}
+use Rattle.settle_dispatch.proofs.count_event.Goals.{then-is_some, else-is_some}
 
-pub loop-i-init : goal.loop-i-init
-loop-i-init c = counts-first c.requires.counting
+-- an entry is told where the event lists it
+some-cond : {A : Type 0} (b : Bool) (x : A) → is_some (cond b (Some x) None) ≡ b
+some-cond true x = refl
+some-cond false x = refl
 
 pub add_at-requires : goal.add_at-requires
 add_at-requires c =
-    let s = c in
     let l = c.loop-i in
     let p = c.put.ensures in
-    let one = c.as_mark-one.ensures in
-    (omega (arith, p.long, l.invariant.long), omega (arith, s.requires.ev_lt_event_limit, counts-next l.invariant (omega arith) p, dispatch-count-most (facts s.args.year.now) s.args.ev l.i, one, cond-le c.one_or_three.result {x = 1} {b = 1} (omega arith)))
+    let one : c.from-one.result ≡ mark c.one_or_three.result = search rules in
+    (omega (arith, p.long, l.invariant.long), omega (arith, c.requires.ev_lt_event_limit, counts-next l.invariant (omega arith) p, dispatch-count-most (facts c.args.year.now.cells) c.args.ev l.i, one, cond-le c.one_or_three.result {x = 1} {b = 1} (omega arith)))
 
 pub loop-i-preserved : goal.loop-i-preserved
 loop-i-preserved c =
-    let s = c in
     let l = c.loop-i in
-    let listed = sym (ap (λ (x : EventEntry). x.listed) c.look-x.ensures) in
-    let one = c.as_mark-one.ensures ∙ ap mark c.one_or_three.ensures in
-    elim c.if-x.branch [
-      | then-x w ↦ rw w.work-is (counts-more l.invariant (omega arith) (listed ∙ w.if-x.true) one w.put.ensures w.add_at.ensures)
-      | else-x w ↦ rw w.work-is (counts-none l.invariant (omega arith) (listed ∙ w.if-x.false))
+    let e : c.is_some.result ≡ listed ((facts c.args.year.now.cells).event c.args.ev).listing l.i = c.is_some.ensures ∙ ap is_some c.look.ensures ∙ some-cond _ _ in
+    let one : c.from-one.result ≡ mark c.one_or_three.result = search rules in
+    elim c.if-is_some.branch [
+      | then-is_some w ↦ rw w.work-is (counts-more l.invariant (omega arith) (sym e ∙ w.if-is_some.true) (one ∙ ap mark c.one_or_three.ensures) w.put.ensures w.add_at.ensures)
+      | else-is_some w ↦ rw w.work-is (counts-none l.invariant (omega arith) (sym e ∙ w.if-is_some.false))
     ]
-
-pub returns : goal.returns
-returns c = let v = c.loop-i.invariant in record { counted = counts_all v (omega (arith, v.upto)); aside = v.aside }
-
-pub one_or_three-requires : goal.one_or_three-requires
-one_or_three-requires c = c.requires.ev_lt_event_limit
-
-pub as_mark-one-requires : goal.as_mark-one-requires
-as_mark-one-requires c = tt
-
-pub look-x-requires : goal.look-x-requires
-look-x-requires c = record { ev_lt_event_limit = c.requires.ev_lt_event_limit; i_lt_registrations = omega arith }
-
-pub put-requires : goal.put-requires
-put-requires c = omega (arith, c.loop-i.invariant.long)

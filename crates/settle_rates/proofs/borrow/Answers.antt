@@ -42,38 +42,38 @@ pub returns-then-own-gt0 : goal.returns-then-own-gt0
 returns-then-own-gt0 c =
     let h = c.requires.rating in
     let l = c.requires.i_lt_registrations in
-    rating-none h l (rate-kept (facts c.args.year.now) c.args.i (omega (arith, own_is h l c.get-own.ensures, c.if-own-gt0.true)))
+    rating-none h l (rate-kept (facts c.args.year.now.cells) c.args.i (omega (arith, own_is h l c.get-own.ensures, c.if-own-gt0.true)))
 
 pub new-committed-requires : goal.new-committed-requires
-new-committed-requires c = rw (committed-is c.requires.rating c.requires.i_lt_registrations c.get.ensures) ((limits c.requires.valid_cells.sound).committed c.args.i)
+new-committed-requires c = rw (committed-is c.requires.rating c.requires.i_lt_registrations c.get.ensures) ((limits c.args.year.now.valid.sound).committed c.args.i)
 
 pub returns-then-committed-eq0 : goal.returns-then-committed-eq0
 returns-then-committed-eq0 c =
     let h = c.requires.rating in
     let l = c.requires.i_lt_registrations in
-    let F = facts c.args.year.now in
+    let F = facts c.args.year.now.cells in
     let i = c.args.i in
     let k = c.new-committed.ensures ∙ committed-is h l c.get.ensures in
-    let unknown = known_is (limits c.requires.valid_cells.sound) i ∙ le-ltb 0 (committed F.terms i) (omega (arith, k, c.if-committed-eq0.true)) in
+    let unknown = known_is (limits c.args.year.now.valid.sound) i ∙ le-ltb 0 (committed F.terms i) (omega (arith, k, c.if-committed-eq0.true)) in
     rating-none h l (rate-unknown F i unknown)
 
 pub get-rate-requires : goal.get-rate-requires
-get-rate-requires c = omega (arith, area-is c.requires.rating c.requires.i_lt_registrations c.get-area.ensures, (limits c.requires.valid_cells.sound).area c.args.i)
+get-rate-requires c = omega (arith, area-is c.requires.rating c.requires.i_lt_registrations c.get-area.ensures, (limits c.args.year.now.valid.sound).area c.args.i)
 
 pub unforced-all-requires : goal.unforced-all-requires
 unforced-all-requires c =
     let k = c.new-committed.ensures ∙ committed-is c.requires.rating c.requires.i_lt_registrations c.get.ensures in
-    record { valid_cells = c.requires.valid_cells; kw_le_nominated_sum = omega (arith, k, (limits c.requires.valid_cells.sound).committed c.args.i) }
+    record { kw_le_nominated_sum = omega (arith, k, (limits c.args.year.now.valid.sound).committed c.args.i) }
 
 -- by the rate in force as by the registration's own
 pub overflow_mul-cap : goal.overflow_mul-cap
 overflow_mul-cap c =
     let h = c.requires.rating in
     let l = c.requires.i_lt_registrations in
-    let L = limits c.requires.valid_cells.sound in
+    let L = limits c.args.year.now.valid.sound in
     let k = c.new-committed.ensures ∙ committed-is h l c.get.ensures in
     let o = own_is h l c.get-own.ensures in
-    let r = rate-is h l c.requires.valid_cells o (omega (arith, c.if-own-gt0.false)) k (omega (arith, c.if-committed-eq0.false)) (area-is h l c.get-area.ensures) c.get-rate.ensures in
+    let r = rate-is h l c.args.year.now.valid o (omega (arith, c.if-own-gt0.false)) k (omega (arith, c.if-committed-eq0.false)) (area-is h l c.get-area.ensures) c.get-rate.ensures in
     let all : c.unforced-all.result.0 ≤ unforced_limit = rw (c.unforced-all.ensures, k) (unforced-one L (L.committed c.args.i)) in
     let rate : c.get-rate.result ≤ rate_limit = rw r (L.rate c.args.i) in
     let own : c.get-own.result ≤ rate_limit = rw o (L.own c.args.i) in
@@ -85,6 +85,6 @@ returns c =
     let h = c.requires.rating in
     let l = c.requires.i_lt_registrations in
     let k = c.new-committed.ensures ∙ committed-is h l c.get.ensures in
-    let all = c.unforced-all.ensures ∙ ap (owed.unforced (facts c.args.year.now)) k in
-    let rate = rate-is h l c.requires.valid_cells (own_is h l c.get-own.ensures) (omega (arith, c.if-own-gt0.false)) k (omega (arith, c.if-committed-eq0.false)) (area-is h l c.get-area.ensures) c.get-rate.ensures in
+    let all = c.unforced-all.ensures ∙ ap (owed.unforced (facts c.args.year.now.cells)) k in
+    let rate = rate-is h l c.args.year.now.valid (own_is h l c.get-own.ensures) (omega (arith, c.if-own-gt0.false)) k (omega (arith, c.if-committed-eq0.false)) (area-is h l c.get-area.ensures) c.get-rate.ensures in
     rating-more h l c.put.ensures rate c.put-2.ensures (λ j. all j * rate j)

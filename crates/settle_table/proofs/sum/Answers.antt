@@ -1,27 +1,28 @@
--- `settle_table::sum` meets its contract: each partial sum is at most the whole.
-use Prim.Native.Nat.{ℕ, ◌+◌}
-use mathlib.Core.Path.{◌≡◌, refl}
-use native.Mathlib.Omega.{arith}
+-- `settle_table::sum` meets its contract: the places of a slice are those from its front on. Assumes nothing.
+use Rattle.std.proofs.Common.{ℕ, zero, suc, ◌≡◌, ◌+◌, ◌-◌, ◌≤◌, ◌<◌, List, length, take, drop, sum, refl, ◌∙◌, rules, arith, length-drop}
+use Rattle.std.proofs.Math.Seq.{take-suc}
+use Rattle.std.proofs.lemmas.List.{get_or-drop}
+use Rattle.std.proofs.lemmas.List.Sums.{sum_by_push}
 use Rattle.ids.specs.Ids.{at, sum_to}
-use Rattle.ids.specs.Sums.{sum_step, sum_mono}
 use Rattle.settle_table.proofs.sum.Goals as goal
 
-pub loop-i-init : goal.loop-i-init
-unfolding sum_to
-loop-i-init c = (omega arith, refl)
+-- the sum of the n places of l from p on, and the same of a slice
+module _ (l : List ℕ) (p : ℕ) where
+  sum-front : (n : ℕ) → p + n ≤ length l → sum (take n (drop p l)) ≡ sum_to n (λ i. at l (p + i))
+  unfolding sum_to
+  sum-front zero h = refl
+  sum-front (suc n) h =
+      let z : n < length (drop p l) = omega (arith, length-drop p l) in
+      rw (take-suc (drop p l) n 0 z, get_or-drop p l n 0) (omega (arith, sum-front n (omega arith), sum_by_push (λ x. x) (take n (drop p l)) (at l (p + n))))
 
-pub overflow_add-sum-in-loop-i : goal.overflow_add-sum-in-loop-i
-overflow_add-sum-in-loop-i c =
-    let l = c.loop-i in
-    let s = c in
-    let f : ℕ → ℕ = λ i. at s.args.cells.now (s.args.p + i) in
-    record { fits = omega (arith, l.invariant.1, sum_step l.i f, sum_mono {i = l.i + 1} {n = s.args.n} f (omega arith), s.requires.1) }
+  sum-slice : (n : ℕ) → p + n ≤ length l → sum (take (p + n - p) (drop p l)) ≡ sum_to n (λ i. at l (p + i))
+  sum-slice n h = let z : p + n - p ≡ n = omega arith in rw z (sum-front n h)
 
-pub loop-i-preserved : goal.loop-i-preserved
-loop-i-preserved c =
-    let l = c.loop-i in
-    let s = c in
-    (omega arith, omega (arith, l.invariant.1, sum_step l.i (λ i. at s.args.cells.now (s.args.p + i))))
+pub sum-requires-clause-fits : goal.sum-requires-clause-fits
+sum-requires-clause-fits c =
+    let b = rw (← (sum-slice c.args.cells.now c.args.p c.args.n c.requires.0)) at c.requires.1 in search rules
 
 pub returns : goal.returns
-returns c = let l = c.loop-i in let z : l.i ≡ c.args.n = omega arith in rw z at l.invariant.1
+returns c =
+    let part : c.sum.result ≡ sum (take (c.args.p + c.args.n - c.args.p) (drop c.args.p c.args.cells.now)) = search rules in
+    part ∙ sum-slice c.args.cells.now c.args.p c.args.n c.requires.0

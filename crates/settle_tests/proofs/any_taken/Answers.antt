@@ -1,25 +1,13 @@
--- `settle_tests::any_taken` meets its contract: no group so far has a test.
-use mathlib.Core.Path.{◌≡◌, refl, sym, ◌∙◌}
-use native.Mathlib.Omega.{arith}
-use Rattle.ids.specs.Ids.{any_to}
-use Rattle.ids.specs.Tests.{any_none, any_at}
+-- `settle_tests::any_taken` meets its contract: the chain asks each group.
+use Rattle.std.proofs.Common.{◌∙◌, arith, rules, tests}
+use Rattle.std.proofs.lemmas.Iterator.{YieldsList-from_range}
+use Rattle.std.proofs.lemmas.Iterator.Search.{any_from_yields_List}
+use Rattle.ids.specs.Chains.{any_over}
 use Rattle.limits.specs.Limits.{test_groups}
 use Rattle.settle_tests.specs.Entries.{taken_at}
 use Rattle.settle_tests.proofs.any_taken.Goals as goal
 
-pub loop-group-init : goal.loop-group-init
-unfolding any_to
-loop-group-init c = (omega arith, refl)
-
-pub returns-then-test_taken : goal.returns-then-test_taken
-returns-then-test_taken c =
-    let l = c in
-    sym (any_at test_groups (taken_at l.args.year.now) l.loop-group.group (omega arith) (sym c.test_taken.ensures ∙ c.if-test_taken.true))
-
-pub loop-group-preserved : goal.loop-group-preserved
-loop-group-preserved c =
-    let l = c in
-    (omega arith, any_none l.loop-group.group (taken_at l.args.year.now) l.loop-group.invariant.1 (sym c.test_taken.ensures ∙ c.if-test_taken.false))
-
 pub returns : goal.returns
-returns c = let z : c.loop-group.group ≡ test_groups = omega arith in sym (rw z at c.loop-group.invariant.1)
+returns c =
+    let p = taken_at c.args.year.now.cells in
+    any_from_yields_List p _ _ c.any.result c.any.ensures.ran (YieldsList-from_range 0 test_groups test_groups (cc) (omega arith)) (λ x b q k. search (rules, tests)) ∙ any_over p test_groups

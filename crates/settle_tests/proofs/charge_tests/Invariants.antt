@@ -1,5 +1,5 @@
 -- `settle_tests::charge_tests` meets its contract: seller by seller; where no test is taken, every charge is 0.
-use Prim.Native.Nat.{◌-◌, ◌≤◌}
+use Prim.Native.Nat.{◌≤◌}
 use mathlib.Core.Path.{◌≡◌}
 use lib.ListN.{length}
 use Rattle.limits.specs.Limits.{sellers}
@@ -11,7 +11,4 @@ use Rattle.settle_tests.specs.Sums.{Summed}
 use Rattle.settle_tests.proofs.charge_tests.Given as goal
 
 abbrev pub invariant-loop-s : goal.invariant-loop-s
-invariant-loop-s l = (l.s ≤ sellers) × (length l.work ≡ size) × Aside test_row sellers l.initial.work l.work × Row l.work test_row l.s (test (facts l.year) l.k) × Summed l.year l.sums
-
-abbrev pub decreases-loop-s : goal.decreases-loop-s
-decreases-loop-s l = sellers - l.s
+invariant-loop-s l = (l.s ≤ sellers) × (length l.work ≡ size) × Aside test_row sellers l.initial.work l.work × Row l.work test_row l.s (test (facts l.year.cells) l.k) × Summed l.year.cells l.sums

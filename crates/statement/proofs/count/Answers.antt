@@ -1,28 +1,35 @@
--- `statement::count` meets its contract. The loop's invariant: n is the number of marks before i.
-use mathlib.Core.Bool.{cond}
-use mathlib.Core.Path.{◌≡◌, refl, ◌∙◌}
+-- `statement::count` meets its contract.
+use mathlib.Core.Bool.{Bool, true, false, cond}
+use mathlib.Core.List.{List, [], ◌∷◌}
+use mathlib.Core.Path.{◌≡◌, refl, sym, ◌∙◌}
+use Prim.Native.Nat.{ℕ, zero, suc, ◌+◌}
 use native.Mathlib.Omega.{arith}
-use Rattle.ids.specs.Ids.{holds, sum_to}
-use Rattle.ids.specs.Sums.{sum_step, count_most}
-use Rattle.limits.specs.Limits.{parties}
+use lib.ListN.{length}
+use Rattle.std.specs.Prelude.{count_by}
+use Rattle.std.proofs.Common.{rules}
+use Rattle.std.proofs.lemmas.List.Recursion.{is_count_by}
+use Rattle.ids.specs.Ids.{holds, sum_to, count_to}
 use Rattle.statement.proofs.count.Goals as goal
-use Rattle.statement.proofs.count.Goals.{then-marks-i, else-marks-i}
 
-pub loop-i-init : goal.loop-i-init
+-- a sum from its first summand on
+sum-first : (n : ℕ) (f : ℕ → ℕ) → sum_to (suc n) f ≡ f 0 + sum_to n (λ i. f (suc i))
 unfolding sum_to
-loop-i-init c = (omega arith, refl)
+sum-first zero f = omega arith
+sum-first (suc n) f = omega (arith, sum-first n f)
 
-pub overflow_add-n : goal.overflow_add-n
-overflow_add-n c = omega (arith, count_most c.loop-i.i (holds c.args.marks))
+none-counted : count_to 0 (holds []) ≡ 0
+unfolding sum_to
+none-counted = refl
 
-pub loop-i-preserved : goal.loop-i-preserved
-loop-i-preserved c =
-    let m = holds c.args.marks in
-    let step = sum_step c.loop-i.i (λ i. cond (m i) 1 0) in
-    elim c.if-marks-i.branch [
-      | then-marks-i w ↦ (omega arith, w.n-is ∙ rw (step, w.if-marks-i.true) (omega arith))
-      | else-marks-i w ↦ (omega arith, w.n-is ∙ rw (step, w.if-marks-i.false) (omega arith))
-    ]
+one_more : (b : Bool) (marks : List Bool) → count_to (suc (length marks)) (holds (b ∷ marks)) ≡ cond b (1 + count_to (length marks) (holds marks)) (count_to (length marks) (holds marks))
+one_more true marks = sum-first (length marks) (λ i. cond (holds (true ∷ marks) i) 1 0)
+one_more false marks = sum-first (length marks) (λ i. cond (holds (false ∷ marks) i) 1 0) ∙ omega arith
+
+-- so marks are counted from the first on, as a list's are
+counted : (marks : List Bool) → count_to (length marks) (holds marks) ≡ count_by (λ b. b) marks
+counted = is_count_by (λ marks. count_to (length marks) (holds marks)) (λ b. b) none-counted one_more
 
 pub returns : goal.returns
-returns c = let all : c.loop-i.i ≡ parties = omega arith in rw all at c.loop-i.invariant.1
+returns c =
+    let n : c.count.result ≡ count_by (λ (b : Bool). b) c.args.marks = search rules in
+    let all : length c.args.marks ≡ 16 = search rules in n ∙ sym (rw all at (counted c.args.marks))

@@ -1,20 +1,13 @@
--- `statement::obliged` meets its contract. The loop's invariant: the LSEs before j are marked.
+-- `statement::obliged` meets its contract: each mark is what the test says of its obligation.
 use mathlib.Core.Bool.{false}
-use mathlib.Core.Path.{◌≡◌, refl}
 use native.Mathlib.Omega.{arith}
-use lib.ListN.{length-replicate}
-use Rattle.ids.specs.Fill.{filled_none, filled_more}
-use Rattle.limits.specs.Limits.{parties}
+use Rattle.std.proofs.Common.{rules}
 use Rattle.year.specs.Year.{obligation}
 use Rattle.statement.specs.Statement.{has_obligation}
 use Rattle.statement.proofs.obliged.Goals as goal
 
-pub loop-j-init : goal.loop-j-init
-loop-j-init c = filled_none (length-replicate parties false)
-
-pub loop-j-preserved : goal.loop-j-preserved
-unfolding has_obligation obligation
-loop-j-preserved c = filled_more c.loop-j.invariant (omega arith) refl
-
 pub returns : goal.returns
-returns c = let all : c.loop-j.j ≡ parties = omega arith in rw all at c.loop-j.invariant
+unfolding has_obligation obligation
+returns c =
+    let m = c.map.ensures.items in
+    record { upto = omega arith; long = m.long; done = λ j l. search (rules, (m.at j 0 false l).2.met) }

@@ -1,4 +1,4 @@
--- A pair goes by its loads, and a direct reduction with nothing metered.
+-- A direct reduction goes with nothing metered.
 use mathlib.Core.Path.{◌≡◌, sym, ap, ◌∙◌}
 use mathlib.Core.Bool.{and-true}
 use native.Mathlib.Nat.{sub-zero}
@@ -12,9 +12,6 @@ use Rattle.telemetry.proofs.reduction.Goals as goal
 with_none : (x : Float) → reduction_of (Pair x (of_bits binary32 0)) ≡ reduction_of (Direct x)
 unfolding reduction_of counts eighths_of of_bits
 with_none x = rw (and-true, sub-zero)
-
-pub returns-in-Pair : goal.returns-in-Pair
-returns-in-Pair c = c.of_loads.ensures ∙ sym (ap reduction_of c.in-Pair.is)
 
 pub returns-in-Direct : goal.returns-in-Direct
 returns-in-Direct c = c.of_loads-in-Direct.ensures ∙ with_none c.in-Direct.reduction ∙ sym (ap reduction_of c.in-Direct.is)

@@ -11,14 +11,12 @@ none x y l = record { subtracted = λ h. absurd (let z : ⊥ = omega arith in z)
 
 pub returns-then-l : goal.returns-then-l
 returns-then-l c =
-    let a = c in
-    let x = a.args.l.expected in
-    let y = a.args.l.metered in
-    none x y (ltb-true (eighths_of x) (eighths_of y) (sym (lt-counts x y a.requires.expected_value a.requires.metered_value) ∙ c.if-l.true))
+    let x = c.args.l.expected in
+    let y = c.args.l.metered in
+    none x y (ltb-true (eighths_of x) (eighths_of y) (sym (lt-counts x y c.requires.expected_value c.requires.metered_value) ∙ c.if-l.true))
 
 pub returns : goal.returns
 returns c =
-    let a = c in
-    let x = a.args.l.expected in
-    let y = a.args.l.metered in
-    sub-exact x y a.requires.expected_value a.requires.metered_value (ltb-false (eighths_of x) (eighths_of y) (sym (lt-counts x y a.requires.expected_value a.requires.metered_value) ∙ c.if-l.false))
+    let x = c.args.l.expected in
+    let y = c.args.l.metered in
+    sub-exact x y c.requires.expected_value c.requires.metered_value (ltb-false (eighths_of x) (eighths_of y) (sym (lt-counts x y c.requires.expected_value c.requires.metered_value) ∙ c.if-l.false))

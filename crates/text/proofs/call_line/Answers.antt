@@ -24,9 +24,4 @@ put_byte-requires c =
 pub returns : goal.returns
 unfolding call_line
 returns c =
-    let s5 = c in
-    let s4 = s5 in
-    let s3 = s4 in
-    let s2 = s3 in
-    let s1 = s2 in
-    then s1.put_decimal-p.ensures (then s2.put_number-p.ensures.pasted (then s3.put_byte-p.ensures (then s4.put_bytes-p.ensures.pasted s5.put_byte.ensures)))
+    then c.put_decimal-p.ensures (then c.put_number-p.ensures.pasted (then c.put_byte-p.ensures (then c.put_bytes-p.ensures.pasted c.put_byte.ensures)))

@@ -12,29 +12,27 @@ pub returns-then-bytes-eq0 : goal.returns-then-bytes-eq0
 returns-then-bytes-eq0 c =
     let put = c.put_byte.ensures in record { pasted = rw (no_bytes c.args.bytes.now c.if-bytes-eq0.true) put; upper_bound = omega (arith, put.next) }
 
-pub loop-i-init : goal.loop-i-init
+pub loop-b-init : goal.loop-b-init
 unfolding each
-loop-i-init c =
-    let a = c.args in
-    (omega arith, none a.out.now a.at (omega arith), omega arith)
+loop-b-init c =
+    let a = c.args in record { pasted = none a.out.now a.at (omega arith); upper_bound = omega arith }
 
 pub put_hexadecimal-p-requires : goal.put_hexadecimal-p-requires
 put_hexadecimal-p-requires c =
-    let same = pasted_length c.loop-i.invariant.1 in
+    let same = pasted_length c.loop-b.invariant.pasted in
     omega arith
 
-pub loop-i-preserved : goal.loop-i-preserved
-loop-i-preserved c =
-    let bytes = c.args.bytes.now in
-    let l = c.loop-i in
+pub loop-b-preserved : goal.loop-b-preserved
+loop-b-preserved c =
+    let l = c.loop-b in
     let put = c.put_hexadecimal-p.ensures in
-    (omega arith, rw (each_step hex_of bytes l.i (omega arith)) (then l.invariant.1 put), omega (arith, put.next))
+    record { pasted = rw (each_step hex_of c.args.bytes.now l.b-index (omega arith)) (then l.invariant.pasted put); upper_bound = omega (arith, put.next) }
 
 pub shape_of-out : goal.shape_of-out
-shape_of-out c = pasted_length c.loop-i.invariant.1
+shape_of-out c = pasted_length c.loop-b.invariant.pasted
 
 pub returns : goal.returns
 returns c =
     let bytes = c.args.bytes.now in
-    let l = c.loop-i in
-    let all : l.i ≡ length bytes = omega arith in record { pasted = rw (some_bytes bytes (omega arith)) (rw (all, take-length bytes) at l.invariant.1); upper_bound = omega arith }
+    let l = c.loop-b in
+    let all : l.b-index ≡ length bytes = omega arith in record { pasted = rw (some_bytes bytes (omega arith)) (rw (all, take-length bytes) at l.invariant.pasted); upper_bound = omega arith }

@@ -1,5 +1,4 @@
 -- A space, then the digits, or `-` and those of what is left to 2 ^ 42.
-use borrow.Author.Rules.{rules}
 use native.Mathlib.Omega.{arith}
 use Prim.Native.Nat.{◌-◌, ◌^◌}
 use Rattle.text.specs.Pasted.{then}

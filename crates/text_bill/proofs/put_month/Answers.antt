@@ -1,5 +1,4 @@
 -- The words of the line, one after another.
-use borrow.Author.Rules.{rules}
 use native.Mathlib.Omega.{arith}
 use Rattle.text_bill.specs.Text.{month_line}
 use Rattle.text.specs.Pasted.{then}

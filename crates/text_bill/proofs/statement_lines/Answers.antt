@@ -1,5 +1,4 @@
 -- The month, the sellers and the LSEs, one after another.
-use borrow.Author.Rules.{rules}
 use native.Mathlib.Omega.{arith}
 use Prim.Native.Nat.{◌≤◌}
 use mathlib.Core.Path.{◌≡◌}
@@ -28,21 +27,20 @@ counts-at c =
 pub put_parties-place-requires : goal.put_parties-place-requires
 put_parties-place-requires c =
     let n = counts-at (goal.at.put_parties-place-requires c).After-read_field-lses in
-    let f = front_at (goal.at.put_parties-place-requires c).After-read_field-lses in record { amounts_bound = (omega arith, n.0); lies = record { within = omega (arith, f.3); small = omega (arith, f.3) }; count_in_bounds = omega (arith, n.0, c.put_month-p.ensures.upper_bound) }
+    let f = front_at (goal.at.put_parties-place-requires c).After-read_field-lses in record { count_bound = n.0; lies = record { within = omega (arith, f.3); small = omega (arith, f.3) }; count_in_bounds = omega (arith, n.0, c.put_month.ensures.upper_bound) }
 
 pub put_parties-requires : goal.put_parties-requires
 put_parties-requires c =
-    let s = c in
     let n = counts-at (goal.at.put_parties-requires c).After-read_field-lses in
     let f = front_at (goal.at.put_parties-requires c).After-read_field-lses in
-    let month = c.put_month-p.ensures in
+    let month = c.put_month.ensures in
     let sellers = c.put_parties-place.ensures in
-    let long = pasted_length (then month.pasted sellers.puts) in record { amounts_bound = (omega arith, n.1); lies = record { within = omega (arith, n.0, n.1, f.3, sellers.reaches, s.requires.statement_room_in_bounds); small = omega (arith, n.0, n.1, f.3, sellers.reaches) }; count_in_bounds = omega (arith, n.0, n.1, month.upper_bound, sellers.reaches, s.requires.room_in_bounds) }
+    let long = pasted_length (then month.pasted sellers.puts) in record { count_bound = n.1; lies = record { within = omega (arith, n.0, n.1, f.3, sellers.reaches, c.requires.statement_room_in_bounds); small = omega (arith, n.0, n.1, f.3, sellers.reaches) }; count_in_bounds = omega (arith, n.0, n.1, month.upper_bound, sellers.reaches, c.requires.room_in_bounds) }
 
 pub returns : goal.returns
 unfolding statement_lines
 returns c =
     let f = front_at (goal.at.returns c).After-read_field-lses in
     let sellers = c.put_parties-place.ensures in
-    let lines = then c.put_month-p.ensures.pasted (then sellers.puts c.put_parties.ensures.puts) in
+    let lines = then c.put_month.ensures.pasted (then sellers.puts c.put_parties.ensures.puts) in
     rw (sellers.reaches.1, f.3, f.0, f.1, f.2) at lines

@@ -6,5 +6,4 @@ use Rattle.year_cells.proofs.clearings_at.Goals as goal
 
 pub returns : goal.returns
 returns c =
-    let s = c in
-    sym (clearings-in s.args.year.now no_clearings s.requires)
+    sym (clearings-in c.args.year.now no_clearings c.requires)

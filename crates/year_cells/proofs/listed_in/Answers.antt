@@ -4,4 +4,4 @@ use Rattle.year_cells.specs.Regions.{listed_in}
 use Rattle.year_cells.proofs.listed_in.Goals as goal
 
 pub returns : goal.returns
-returns c = let s = c in sym (listed_in s.args.year.now s.requires.e_lt_event_limit s.requires.i_lt_registrations)
+returns c = sym (listed_in c.args.year.now c.requires.e_lt_event_limit c.requires.i_lt_registrations)

@@ -6,5 +6,4 @@ use Rattle.year_cells.proofs.registration_at.Goals as goal
 
 pub returns : goal.returns
 returns c =
-    let s = c in
-    sym (registration-in s.args.year.now no_registration s.requires)
+    sym (registration-in c.args.year.now no_registration c.requires)

@@ -1,17 +1,13 @@
--- `year_copies::numbers_at` meets its contract. The loop's invariant: the first i places are filled. Assumes nothing.
-use Prim.Native.Nat.{ℕ}
-use mathlib.Core.Path.{refl}
-use native.Mathlib.Omega.{arith}
-use lib.ListN.{length-replicate}
-use Rattle.ids.specs.Fill.{filled_none, filled_more, filled-all}
+-- `year_copies::numbers_at` meets its contract: number i of what is copied is the one at place p + i. Assumes nothing.
+use Rattle.std.proofs.Common.{◌+◌, ◌-◌, ◌∙◌, arith, get_or-take, get_or-drop}
+use Rattle.ids.specs.Tables.{is-tabulate}
 use Rattle.limits.specs.Limits.{parties}
+use Rattle.year_cells.specs.Rows.{from}
 use Rattle.year_copies.proofs.numbers_at.Goals as goal
 
-pub loop-i-init : goal.loop-i-init
-loop-i-init c = filled_none (length-replicate {A = ℕ} parties 0)
-
-pub loop-i-preserved : goal.loop-i-preserved
-loop-i-preserved c = filled_more c.loop-i.invariant (omega arith) refl
-
 pub returns : goal.returns
-returns c = filled-all c.loop-i.invariant (omega arith)
+returns c =
+    let copied = c.copy_from_slice in
+    let p = c.args.p in
+    is-tabulate (from p c.args.cells.now) parties 0 copied.new.self copied.ensures.len
+    (λ i l. rw copied.ensures.after (get_or-take (p + 16 - p) _ i 0 (omega arith) ∙ get_or-drop p c.args.cells.now i 0))

@@ -5,7 +5,10 @@ use Rattle.year_test_steps.specs.Laying.{retest-laid}
 use Rattle.year_test_steps.proofs.add_retest.Goals as goal
 
 pub returns : goal.returns
-returns c =
-    let s = c in
-    let r = stepped s.requires.valid_cells c.enter.ensures.long (retest-laid s.args.listing.now c.enter.ensures) (sound-retest s.requires.valid_cells.sound s.requires.year_value s.requires.sound_listing) in
-    record { equals = r.0; valid = r.1 }
+returns c = retest-laid c.args.listing.now c.enter.ensures
+
+pub invariant_of-year : goal.invariant_of-year
+invariant_of-year c =
+    let valid = c.args.year.now.valid in
+    let h = c.enter.ensures in
+    record { valid = (stepped valid h.long (retest-laid c.args.listing.now h) (sound-retest valid.sound c.requires.year_value c.requires.sound_listing)).1 }

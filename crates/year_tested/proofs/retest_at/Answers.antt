@@ -6,5 +6,4 @@ use Rattle.year_tested.proofs.retest_at.Goals as goal
 
 pub returns : goal.returns
 returns c =
-    let s = c in
-    sym (retest-in s.args.year.now no_retest s.requires)
+    sym (retest-in c.args.year.now no_retest c.requires)

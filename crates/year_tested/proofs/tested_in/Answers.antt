@@ -14,13 +14,13 @@ use Rattle.year_tested.proofs.tested_in.Goals.{After-group_of-own, After-registr
 -- the registration's zone, product and group
 zone-most : (c : After-registration_at-r) → c.registration_at-r.result.zone < zones
 unfolding zone
-zone-most c = rw c.registration_at-r.ensures (zone-below c.requires.valid_cells.sound.terms c.args.i)
+zone-most c = rw c.registration_at-r.ensures (zone-below c.args.year.now.valid.sound.terms c.args.i)
 
 product-most : (c : After-registration_at-r) → c.registration_at-r.result.product < products
 unfolding product
-product-most c = rw c.registration_at-r.ensures (product-below c.requires.valid_cells.sound.terms c.args.i)
+product-most c = rw c.registration_at-r.ensures (product-below c.args.year.now.valid.sound.terms c.args.i)
 
-group-is : (c : After-group_of-own) → c.group_of-own.result ≡ group_in c.args.year.now c.args.i
+group-is : (c : After-group_of-own) → c.group_of-own.result ≡ group_in c.args.year.now.cells c.args.i
 unfolding group_in zone product
 group-is c = rw c.registration_at-r.ensures at c.group_of-own.ensures
 
@@ -29,10 +29,8 @@ group_of-own-requires c = omega (arith, zone-most c, product-most c)
 
 pub returns-then-year-i-ne0 : goal.returns-then-year-i-ne0
 returns-then-year-i-ne0 c =
-    let s = c in
-    rw (group-is (goal.at.returns-then-year-i-ne0 c).After-group_of-own) (sym (tested-in s.args.year.now s.requires.valid_cells.sound s.args.group s.requires.i_lt_registrations ∙ rw (ne_eqb _ 0 c.if-year-i-ne0.true)))
+    rw (group-is (goal.at.returns-then-year-i-ne0 c).After-group_of-own) (sym (tested-in c.args.year.now.cells c.args.year.now.valid.sound c.args.group c.requires.i_lt_registrations ∙ rw (ne_eqb _ 0 c.if-year-i-ne0.true)))
 
 pub returns-else-year-i-ne0 : goal.returns-else-year-i-ne0
 returns-else-year-i-ne0 c =
-    let s = c in
-    sym (tested-in s.args.year.now s.requires.valid_cells.sound s.args.group s.requires.i_lt_registrations ∙ rw (eq-eqb _ 0 c.if-year-i-ne0.false))
+    sym (tested-in c.args.year.now.cells c.args.year.now.valid.sound c.args.group c.requires.i_lt_registrations ∙ rw (eq-eqb _ 0 c.if-year-i-ne0.false))

@@ -2,9 +2,8 @@
 use Prim.Native.Nat.{ℕ, ◌+◌, ◌-◌, ◌*◌, ◌/◌}
 use mathlib.Core.Path.{◌≡◌, refl, sym}
 use native.Mathlib.Omega.{arith}
-use native.Mathlib.Nat.{add-zero, div-zero, mul-le-mul_left, lt_of_le_of_lt}
+use native.Mathlib.Nat.{add-zero, div-zero}
 use borrow.Author.Rules.{rules}
-use Rattle.allotment.specs.Allot.{div_mono}
 use Rattle.allotment.specs.Divisions.{divisions-none, divisions-some}
 use Rattle.allotment.specs.Stepper.{Asks, Gives}
 use Rattle.allotment.specs.declared.Allotment.{Allotment}
@@ -32,14 +31,3 @@ one {s} {x} k o =
 
 pub returns : goal.returns
 returns c = one (search rules) (search rules)
-
-pub overflow_mul-quotient : goal.overflow_mul-quotient
-overflow_mul-quotient c = record { fits = lt_of_le_of_lt (mul-le-mul_left _ c.requires.within) c.requires.fits }
-
-pub overflow_sub-result : goal.overflow_sub-result
-overflow_sub-result c =
-    let k = c.requires in
-    rw k.carried (div_mono _ _ _ (mul-le-mul_left _ (omega arith)))
-
-pub overflow_add-divisions : goal.overflow_add-divisions
-overflow_add-divisions c = record { fits = c.requires.counted }

@@ -8,10 +8,9 @@ use Rattle.bits_read.proofs.Cursor.read_field.Goals as goal
 
 pub returns : goal.returns
 returns c =
-    let s = c in
-    let a = s.args in
+    let a = c.args in
     let f = c.field.ensures in
     let first = 8 * (a.self.at / 8) in
     let here : first + a.self.at % 8 ≡ a.self.at = omega arith in
-    let value = middle a.bytes.now first (a.self.at % 8) a.width _ (omega (arith, s.requires.narrow)) c.ahead-word.ensures in
+    let value = middle a.bytes.now first (a.self.at % 8) a.width _ (omega (arith, c.requires.narrow)) c.ahead-word.ensures in
     record { value = f.0 ∙ c.cut.ensures ∙ value ∙ ap (λ (p : ℕ). field_at a.bytes.now p a.width) here; next = f.1 }

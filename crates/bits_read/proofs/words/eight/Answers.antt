@@ -1,12 +1,19 @@
--- Two fields of four bytes in a row.
-use mathlib.Core.Path.{◌≡◌, ◌∙◌}
-use Prim.Native.Nat.{◌+◌, ◌*◌}
+-- Eight bytes in a row make the field of their bits: four of them, and four more.
+use mathlib.Core.Path.{◌≡◌}
+use Prim.Native.Nat.{ℕ, ◌+◌, ◌*◌, ◌^◌, ◌<◌}
 use native.Mathlib.Omega.{arith}
-use Rattle.bits.specs.Shifts.{in_a_row}
+use lib.ListN.{get_or}
+use Rattle.bits.specs.BitLaws.{field-split}
+use Rattle.bits.specs.Shifts.{quad-field}
 use Rattle.bits_read.proofs.words.eight.Goals as goal
 
 pub returns : goal.returns
 returns c =
-    let a = c.args in
-    let at : 8 * (a.i + 4) ≡ 8 * a.i + 32 = omega arith in
-    in_a_row a.bytes.now (8 * a.i) 32 32 _ _ (omega arith) c.four.ensures (c.four-2.ensures ∙ rw at)
+    let xs = c.args.bytes.now in
+    let i = c.args.i in
+    let b : (k : ℕ) → get_or xs k 0 < 2 ^ 8 = λ k. (c.type_inv.bytes k).fits in
+    let second : 8 * i + 32 ≡ 8 * (i + 4) = omega arith in
+    let fifth : i + 4 + 1 ≡ i + 5 = omega arith in
+    let sixth : i + 4 + 2 ≡ i + 6 = omega arith in
+    let last : i + 4 + 3 ≡ i + 7 = omega arith in
+    rw (field-split xs (8 * i) 32 32, second, quad-field xs i b, quad-field xs (i + 4) b, fifth, sixth, last) (omega (arith, c.from_be_bytes.ensures))

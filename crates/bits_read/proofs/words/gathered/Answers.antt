@@ -1,25 +1,26 @@
 -- The word holds, turn by turn, the field of the whole bytes passed so far.
-use mathlib.Core.Path.{◌≡◌}
-use Prim.Native.Nat.{◌-◌, ◌*◌}
+use mathlib.Core.Path.{◌≡◌, refl, ◌∙◌}
+use Prim.Native.Nat.{◌+◌, ◌-◌, ◌<◌}
 use native.Mathlib.Omega.{arith}
+use lib.ListN.{get_or, drop}
+use Rattle.std.proofs.Common.{length-drop, length-take-le, get_or-drop, get_or-take}
 use Rattle.bits.specs.Bits.{number}
 use Rattle.bits.specs.Shifts.{gather}
 use Rattle.bits_read.proofs.words.gathered.Goals as goal
 
-pub loop-i-init : goal.loop-i-init
+pub loop-byte-init : goal.loop-byte-init
 unfolding number
-loop-i-init c =
-    let n : 8 * (c.args.first - c.args.first) ≡ 0 = omega arith in
-    (omega arith, omega arith, rw n)
+loop-byte-init c = refl
 
-pub loop-i-preserved : goal.loop-i-preserved
-loop-i-preserved c =
-    let a = c.args in
-    let l = c.loop-i in
-    (omega arith, omega arith, rw c.wide.ensures (gather a.bytes.now a.first l.i l.acc (omega arith) (omega arith) (c.type_inv.bytes l.i).fits l.invariant.2))
-
-pub returns : goal.returns
-returns c =
-    let l = c.loop-i in
-    let n : l.i ≡ c.args.last = omega arith in
-    rw n at l.invariant.2
+pub loop-byte-preserved : goal.loop-byte-preserved
+loop-byte-preserved c =
+    let xs = c.args.bytes.now in
+    let first = c.args.first in
+    let i = c.loop-byte.byte-index in
+    let n = c.args.last - first in
+    let part = drop first xs in
+    let inside : i < n = omega (arith, length-take-le n part (omega (arith, length-drop first xs))) in
+    let byte : c.from.result ≡ get_or xs (first + i) 0 = c.from.ensures ∙ get_or-take n part i 0 inside ∙ get_or-drop first xs i 0 in
+    let here : first + i - first ≡ i = omega arith in
+    let next : first + i + 1 - first ≡ i + 1 = omega arith in
+    rw byte (rw next at (gather xs first (first + i) c.loop-byte.acc (omega arith) (omega arith) (c.type_inv.bytes (first + i)).fits (rw here c.loop-byte.invariant)))

@@ -1,9 +1,8 @@
 -- With k items written, the writer has written their table.
-use mathlib.Core.Path.{◌≡◌, sym, ◌∙◌}
+use mathlib.Core.Path.{◌≡◌}
 use Prim.Native.Nat.{◌+◌, ◌-◌, ◌≤◌}
 use native.Mathlib.Omega.{arith}
 use lib.ListN.{length}
-use lib.Seq.{take-length}
 use Rattle.bits.specs.Table.{times}
 use Rattle.bits.specs.ItemLaws.{length-item, total-item, length_more, total-more-item}
 use Rattle.bits_write.specs.Written.{joined}
@@ -13,54 +12,42 @@ use Rattle.bits_write.proofs.Writer.put_items.Goals.{In-loop-k}
 
 pub loop-k-init : goal.loop-k-init
 unfolding times joined
-loop-k-init c = (omega arith, omega arith, written_none _ _ c.requires.ready)
+loop-k-init c = (omega arith, omega arith, written_none _ _)
 
 -- item k ends within the values
-ends : (c : In-loop-k) → let s = c in let l = c.loop-k in l.i + length s.args.ws.now ≤ length s.args.values.now
+ends : (c : In-loop-k) → let l = c.loop-k in l.i + length c.args.ws.now ≤ length c.args.values.now
 ends c =
-    let s = c in
     let l = c.loop-k in
-    omega (arith, length-item s.args.ws.now s.args.n l.k c.loop-k-test.true, l.invariant.1, s.requires.values_len)
+    omega (arith, length-item c.args.ws.now c.args.n l.k c.loop-k-test.true, l.invariant.1, c.requires.values_len)
 
 part : (i m : _) → i + m - i ≡ m
 part i m = omega arith
 
 pub put_all-p-requires : goal.put_all-p-requires
 put_all-p-requires c =
-    let s = c in
     let l = c.loop-k in
     let h = c.loop-k-test.true in
-    let ws = s.args.ws.now in
-    let vs = s.args.values.now in
-    let n = s.args.n in
-    let all = s.requires.values_len in
+    let ws = c.args.ws.now in
+    let vs = c.args.values.now in
+    let n = c.args.n in
+    let all = c.requires.values_len in
     let w = l.invariant.2 in
     record {
-      ready = w.ready;
-      t = s.requires.t;
+      narrow = c.requires.narrow;
       values_len = rw (part l.i (length ws)) ((length-item-values ws vs n l.k l.i h l.invariant.1 all).1);
-      valid = rw (part l.i (length ws)) (valid-item ws vs n l.k l.i h l.invariant.1 all s.requires.valid);
+      valid = rw (part l.i (length ws)) (valid-item ws vs n l.k l.i h l.invariant.1 all c.requires.valid);
       ws_bound = omega (arith, total-item ws n l.k h, w.ends, w.long);
     }
 
 pub loop-k-preserved : goal.loop-k-preserved
 loop-k-preserved c =
-    let s = c in
     let l = c.loop-k in
     let h = c.loop-k-test.true in
-    let ws = s.args.ws.now in
-    let vs = s.args.values.now in
-    let more = joined-item ws vs s.args.n l.k l.i h l.invariant.1 s.requires.values_len in
+    let ws = c.args.ws.now in
+    let vs = c.args.values.now in
+    let more = joined-item ws vs c.args.n l.k l.i h l.invariant.1 c.requires.values_len in
     let step = rw (part l.i (length ws)) at c.put_all-p.ensures in
     (omega arith, rw (length_more ws l.k) (omega arith), rw (more, total-more-item ws l.k) (written-join l.invariant.2 step))
-
-pub returns : goal.returns
-returns c =
-    let s = c in
-    let l = c.loop-k in
-    let k : l.k ≡ s.args.n = omega arith in
-    let n : l.i ≡ length s.args.values.now = rw k at l.invariant.1 ∙ sym s.requires.values_len in
-    rw (k, n, take-length) at l.invariant.2
 
 pub overflow_add-end : goal.overflow_add-end
 overflow_add-end c = omega (arith, ends c)
@@ -68,11 +55,5 @@ overflow_add-end c = omega (arith, ends c)
 pub offset_bounds-values-i : goal.offset_bounds-values-i
 offset_bounds-values-i c = omega (arith, ends (goal.at.offset_bounds-values-i c).In-loop-k)
 
-pub slice_bounds-put_all-start : goal.slice_bounds-put_all-start
-slice_bounds-put_all-start c = omega (arith, ends (goal.at.slice_bounds-put_all-start c).In-loop-k)
-
 pub slice_bounds-put_all-end : goal.slice_bounds-put_all-end
 slice_bounds-put_all-end c = omega (arith, ends (goal.at.slice_bounds-put_all-end c).In-loop-k)
-
-pub shape_of-bytes : goal.shape_of-bytes
-shape_of-bytes c = omega (arith, c.loop-k.invariant.2.long)

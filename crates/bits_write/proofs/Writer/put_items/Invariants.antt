@@ -1,6 +1,6 @@
 -- With k items written, the writer has written their table.
 use mathlib.Core.Path.{◌≡◌}
-use Prim.Native.Nat.{◌-◌, ◌≤◌}
+use Prim.Native.Nat.{◌≤◌}
 use lib.ListN.{length, take}
 use Rattle.bits.specs.Table.{total, times}
 use Rattle.bits_write.specs.Written.{joined, Wrote}
@@ -9,6 +9,3 @@ use Rattle.bits_write.proofs.Writer.put_items.Given as goal
 abbrev pub invariant-loop-k : goal.invariant-loop-k
 invariant-loop-k l =
     (l.k ≤ l.n) × (l.i ≡ length (times l.k l.ws)) × Wrote l.initial.bytes l.bytes l.initial.p l.p (total (times l.k l.ws)) (joined (times l.k l.ws) (take l.i l.values))
-
-abbrev pub decreases-loop-k : goal.decreases-loop-k
-decreases-loop-k l = l.n - l.k

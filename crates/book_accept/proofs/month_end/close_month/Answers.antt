@@ -16,7 +16,7 @@ record AtHand (b : After-billed_of-billed) : Type 0 where
 
 at-hand : (b : After-billed_of-billed) → AtHand b
 at-hand b =
-    let s = b.requires.valid_cells.sound in
+    let s = b.args.year.now.valid.sound in
     record {
       terms = rw b.terms_of-terms.ensures s.terms;
       owed = rw b.amounts_of-owed.ensures (sound-amounts (limits s) b.args.month);
@@ -24,7 +24,7 @@ at-hand b =
     }
 
 pub amounts_of-owed-requires : goal.amounts_of-owed-requires
-amounts_of-owed-requires c = (c.requires.valid_cells, ap (λ (t : Terms). t.registrations) c.terms_of-terms.ensures, omega arith, omega arith)
+amounts_of-owed-requires c = (ap (λ (t : Terms). t.registrations) c.terms_of-terms.ensures, omega arith, omega arith)
 
 pub write_statement-written-requires : goal.write_statement-written-requires
 write_statement-written-requires c =
@@ -34,12 +34,11 @@ write_statement-written-requires c =
 pub add_close-requires : goal.add_close-requires
 add_close-requires c =
     let h = at-hand (goal.at.add_close-requires c).After-billed_of-billed in
-    record { valid_cells = c.requires.valid_cells; year_bound = c.requires.year_bound; sound_amounts = h.owed }
+    record { year_bound = c.requires.year_bound; sound_amounts = h.owed }
 
 pub returns : goal.returns
 returns c =
     let terms = c.terms_of-terms.ensures in
     let owed = c.amounts_of-owed.ensures in
-    let closed = c.add_close.ensures in
     let written = c.write_statement-written.ensures in
-    record { equals = rw owed at closed.equals; valid = closed.valid; leaves = rw (owed, terms, c.billed_of-billed.ensures) at written.leaves; writes = rw (owed, terms, c.billed_of-billed.ensures) at written.writes }
+    record { equals = rw owed at c.add_close.ensures; leaves = rw (owed, terms, c.billed_of-billed.ensures) at written.leaves; writes = rw (owed, terms, c.billed_of-billed.ensures) at written.writes }

@@ -1,46 +1,34 @@
--- `question_listings::registrations::committed_kw` meets its contract. The invariant: what those so far commit is summed. Assumes nothing.
-use Prim.Native.Nat.{◌*◌, ◌≤◌}
-use mathlib.Core.Path.{◌≡◌, refl, sym, ◌∙◌}
-use native.Mathlib.Omega.{arith}
-use Rattle.ids.specs.Ids.{sum_to}
-use Rattle.ids.specs.Sums.{sum_step}
-use Rattle.ids.specs.Tests.{cond-le}
-use Rattle.limits.specs.Limits.{registrations, nominated_limit}
-use Rattle.year.specs.Limits.{committed-most, committed-sum}
+-- `question_listings::registrations::committed_kw` meets its contract: what the selected ones commit is summed. Assumes nothing.
+use Rattle.std.proofs.Common.{ℕ, ◌<◌, ◌^◌, ◌≡◌, ◌∙◌, arith, rules, tests}
+use Rattle.std.specs.Prelude.{map}
+use Rattle.std.specs.List.{sum, range_with_len}
+use Rattle.std.proofs.lemmas.Iterator.{YieldsList-from_range, YieldsList-from_map}
+use Rattle.std.proofs.lemmas.Iterator.Consumers.{sum_from_yields_List, fits_from_yields_list}
+use Rattle.ids.specs.Ids.{sum_to, only}
+use Rattle.limits.specs.Limits.{registrations}
+use Rattle.year.specs.Year.{committed}
+use Rattle.year.specs.Limits.{committed-sum}
 use Rattle.year_cells.specs.Layout.{year_in}
+use Rattle.ids.specs.Chains.{sum_over}
 use Rattle.question_conditions.specs.Selects.{selects}
 use Rattle.question_listings.proofs.registrations.committed_kw.Goals as goal
-use Rattle.question_listings.proofs.registrations.committed_kw.Goals.{After-committed_by-sum, At-loop-i}
+use Rattle.question_listings.proofs.registrations.committed_kw.Goals.{After-sum-sum}
 
-pub loop-i-init : goal.loop-i-init
-unfolding sum_to
-loop-i-init c = (omega arith, refl)
+pub sum-sum-requires-clause-fits : goal.sum-sum-requires-clause-fits
+sum-sum-requires-clause-fits c =
+    let y = year_in c.args.year.now.cells in
+    let f : ℕ → ℕ = only (selects y c.args.selection) (committed y.terms) in
+    let small : sum (map f (range_with_len 0 registrations)) < 2 ^ 64 = omega (arith, sum_over f registrations, committed-sum c.args.year.now.valid.sound.terms (selects y c.args.selection) registrations) in
+    fits_from_yields_list c.map.result _ (YieldsList-from_map _ f (YieldsList-from_range 0 registrations registrations (cc) (omega arith)) c.map.ensures.closure (λ x r q k. search (rules, tests))) small
 
--- what is summed, at most
-sum-most : (c : At-loop-i) → c.loop-i.sum ≤ c.loop-i.i * nominated_limit
-sum-most c =
-    rw c.loop-i.invariant.1 (committed-sum c.requires.sound.terms (selects (year_in c.args.year.now) c.args.selection) c.loop-i.i)
-
-one-most : (c : After-committed_by-sum) → c.committed_by-sum.result ≤ nominated_limit
-one-most c =
-    let i = c.loop-i.i in
-    rw c.committed_by-sum.ensures (cond-le (selects (year_in c.args.year.now) c.args.selection i) (committed-most c.requires.sound.terms i))
-
-pub loop-i-preserved : goal.loop-i-preserved
-loop-i-preserved c =
-    let l = c.loop-i in
-    (omega arith, rw (l.invariant.1, c.committed_by-sum.ensures) (sym (sum_step l.i _)))
-
-pub returns : goal.returns
-returns c =
-    let all : c.loop-i.i ≡ registrations = omega arith in
-    c.sum.ensures ∙ (rw all at c.loop-i.invariant.1)
-
-pub committed_by-sum-requires : goal.committed_by-sum-requires
-committed_by-sum-requires c = record { valid_cells = c.requires; i_lt_registrations = omega arith }
-
-pub overflow_add-sum : goal.overflow_add-sum
-overflow_add-sum c = record { fits = omega (arith, sum-most (goal.at.overflow_add-sum c).At-loop-i, one-most c) }
+total : (c : After-sum-sum) → c.sum-sum.result ≡ sum_to registrations (only (selects (year_in c.args.year.now.cells) c.args.selection) (committed (year_in c.args.year.now.cells).terms))
+total c =
+    let y = year_in c.args.year.now.cells in
+    let f : ℕ → ℕ = only (selects y c.args.selection) (committed y.terms) in
+    sum_from_yields_List c.map.result c.sum-sum.result c.sum-sum.ensures.ran (YieldsList-from_map _ f (YieldsList-from_range 0 registrations registrations (cc) (omega arith)) c.map.ensures.closure (λ x r q k. search (rules, tests))) ∙ sum_over f registrations
 
 pub sum-requires : goal.sum-requires
-sum-requires c = omega (arith, sum-most (goal.at.sum-requires c).At-loop-i)
+sum-requires c = omega (arith, total (goal.at.sum-requires c).After-sum-sum, committed-sum c.args.year.now.valid.sound.terms (selects (year_in c.args.year.now.cells) c.args.selection) registrations)
+
+pub returns : goal.returns
+returns c = c.sum.ensures ∙ total (goal.at.returns c).After-sum-sum

@@ -25,7 +25,7 @@ returns-then-any_selected c =
 
 pub below_quarter-requires : goal.below_quarter-requires
 below_quarter-requires c =
-    rw c.committed_kw-failed.ensures (committed-sum c.requires.valid_cells.sound.terms (selects (year_in c.args.year.now) (Failed c.group_of-group.result c.args.t.seller)) registrations)
+    rw c.committed_kw-failed.ensures (committed-sum c.args.year.now.valid.sound.terms (selects (year_in c.args.year.now.cells) (Failed c.group_of-group.result c.args.t.seller)) registrations)
 
 pub returns : goal.returns
 unfolding had_retest failed_kw tested_kw

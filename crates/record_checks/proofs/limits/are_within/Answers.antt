@@ -1,49 +1,31 @@
 -- Every number passed is within its limits; the first that is not settles the question.
-use mathlib.Core.Bool.{and-false}
-use mathlib.Core.Path.{◌≡◌, refl, sym}
-use Prim.Native.Nat.{◌+◌}
-use borrow.Author.Tests.{le-leb, lt-leb}
-use lib.ListN.{length, drop}
-use lib.Seq.{get_or-drop}
+use mathlib.Core.Path.{◌≡◌, refl, sym, ◌∙◌}
+use native.Mathlib.Omega.{arith}
+use lib.ListN.{length}
 use Rattle.ids.specs.Ids.{at, all_to}
 use Rattle.ids.specs.Tests.{all_more, all-fails}
-use Rattle.record_layouts.specs.Parts.{within}
-use native.Mathlib.Omega.{arith}
-use Rattle.record_checks.proofs.limits.are_within.Invariants.{limits}
+use Rattle.record_layouts.specs.Parts.{between, within}
 use Rattle.record_checks.proofs.limits.are_within.Goals as goal
 
 pub loop-j-init : goal.loop-j-init
 unfolding all_to
-loop-j-init c = (omega arith, refl)
+loop-j-init c = refl
 
-pub returns-then-v-wide : goal.returns-then-v-wide
+pub returns-then-not-is_between : goal.returns-then-not-is_between
 unfolding within
-returns-then-v-wide c =
+returns-then-not-is_between c =
     let a = c.args in
-    let j = c.loop-j.j in
-    sym (all-fails (length a.lows.now) (limits a.lows.now a.highs.now (drop a.from a.values.now)) j (omega arith)
-    (rw (get_or-drop a.from a.values.now j 0, lt-leb (at a.lows.now j) (at a.values.now (a.from + j)) (omega (arith, c.if-v-wide.true, c.wide.ensures)))))
-
-pub returns-then-wide-v : goal.returns-then-wide-v
-unfolding within
-returns-then-wide-v c =
-    let a = c.args in
-    let j = c.loop-j.j in
-    sym (all-fails (length a.lows.now) (limits a.lows.now a.highs.now (drop a.from a.values.now)) j (omega arith)
-    (rw (get_or-drop a.from a.values.now j 0, lt-leb (at a.values.now (a.from + j)) (at a.highs.now j) (omega (arith, c.if-wide-v.true, c.wide-in-loop-j.ensures)), and-false)))
+    let no = rw (c.from.ensures, c.from-in-loop-j.ensures) at (sym c.is_between.ensures) ∙ c.if-not-is_between.true in
+    sym (all-fails (length a.lows.now) (λ j. between (at a.lows.now j) (at a.highs.now j) (at a.values.now j)) c.loop-j.j c.loop-j-test.true no)
 
 pub loop-j-preserved : goal.loop-j-preserved
 loop-j-preserved c =
     let a = c.args in
-    let l = c.loop-j in
-    let v = at a.values.now (a.from + l.j) in
-    let low = le-leb (at a.lows.now l.j) v (omega (arith, c.if-v-wide.false, c.wide.ensures)) in
-    let high = le-leb v (at a.highs.now l.j) (omega (arith, c.if-wide-v.false, c.wide-in-loop-j.ensures)) in
-    (omega arith, all_more l.j (limits a.lows.now a.highs.now (drop a.from a.values.now)) l.invariant.1 (rw (get_or-drop a.from a.values.now l.j 0, low, high)))
+    let yes = rw (c.from.ensures, c.from-in-loop-j.ensures) at (sym c.is_between.ensures) ∙ c.if-not-is_between.false in
+    all_more c.loop-j.j (λ j. between (at a.lows.now j) (at a.highs.now j) (at a.values.now j)) c.loop-j.invariant yes
 
 pub returns : goal.returns
 unfolding within
 returns c =
-    let l = c.loop-j in
-    let n : l.j ≡ length c.args.lows.now = omega arith in
-    sym (rw n at l.invariant.1)
+    let n : c.loop-j.j ≡ length c.args.lows.now = omega arith in
+    sym (rw n at c.loop-j.invariant)

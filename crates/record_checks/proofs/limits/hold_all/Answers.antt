@@ -2,13 +2,9 @@
 use mathlib.Core.Path.{◌≡◌}
 use borrow.Author.Tests.{ne_eqb}
 use native.Mathlib.Omega.{arith}
-use lib.Pow.{pow_pos}
 use Rattle.bits.specs.Shifts.{one_shl}
 use Rattle.record_layouts.specs.Parts.{hold_all}
 use Rattle.record_checks.proofs.limits.hold_all.Goals as goal
-
-pub overflow_sub-result : goal.overflow_sub-result
-overflow_sub-result c = rw (one_shl c.args.width (omega arith)) (pow_pos c.args.width)
 
 pub returns-then-low-eq0 : goal.returns-then-low-eq0
 unfolding hold_all

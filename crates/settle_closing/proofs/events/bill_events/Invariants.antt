@@ -1,5 +1,5 @@
 -- `settle_closing::events::bill_events` meets its contract. The loop's invariant: the events before ev are billed. Assumes nothing.
-use Prim.Native.Nat.{◌-◌, ◌≤◌}
+use Prim.Native.Nat.{◌≤◌}
 use Rattle.settle_facts.specs.CellFacts.{facts}
 use Rattle.settle_table.specs.Places.{dispatch_count_row, passed_places}
 use Rattle.settle_table.specs.Rows.{Aside}
@@ -7,7 +7,4 @@ use Rattle.settle_closing.specs.Passes.{Run}
 use Rattle.settle_closing.proofs.events.bill_events.Given as goal
 
 abbrev pub invariant-loop-ev : goal.invariant-loop-ev
-invariant-loop-ev l = (l.ev ≤ l.accepted) × (Run (facts l.year) l.k l.ev l.work × Aside dispatch_count_row passed_places l.initial.work l.work)
-
-abbrev pub decreases-loop-ev : goal.decreases-loop-ev
-decreases-loop-ev l = l.accepted - l.ev
+invariant-loop-ev l = (l.ev ≤ l.ev-end) × (Run (facts l.year.cells) l.k l.ev l.work × Aside dispatch_count_row passed_places l.initial.work l.work)

@@ -1,50 +1,43 @@
 -- `settle_shortfalls::off_peak::sums` meets its contract. The loop's invariant: the entries before i are added up. Assumes nothing.
 use Prim.Native.Nat.{◌+◌}
-use mathlib.Core.Path.{ap, sym, ◌∙◌}
 use native.Mathlib.Omega.{arith}
 use Rattle.settle_facts.specs.CellFacts.{facts}
 use Rattle.owed_laws.specs.Limits.{limits}
 use Rattle.settle_table.specs.Places.{off_over_row}
-use Rattle.settle_shortfalls.specs.Sums.{short-room, over-room}
-use Rattle.settle_shortfalls.specs.declared.off_peak.OffPeakEntry.{OffPeakEntry}
+use Rattle.settle_shortfalls.specs.Sums.{told, untold, short-room, over-room}
 use Rattle.settle_shortfalls.specs.OffPeak.{weighing-first, weighing-none, weighing-more, weighing-all, second-small}
 use Rattle.settle_shortfalls.proofs.off_peak.sums.Goals as goal
-use Rattle.settle_shortfalls.proofs.off_peak.sums.Goals.{then-x, else-x}
+use Rattle.settle_shortfalls.proofs.off_peak.sums.Goals.{in-Some, in_default}
 
 pub add_at-requires : goal.add_at-requires
 add_at-requires c =
     let l = c.loop-i in
-    let s = c in
-    let L = limits s.requires.valid_cells.sound in
+    let L = limits c.args.year.now.valid.sound in
     let b = L.seller l.i in
-    rw c.entry_at-x.ensures (omega (arith, b, l.invariant.entries.columns.long), omega (arith, L.committed l.i, short-room l.invariant.sums L l.invariant.upto _ b))
+    rw (← (told c.in-Some.ensures).1) (omega (arith, b, l.invariant.entries.columns.long), omega (arith, L.committed l.i, short-room l.invariant.sums L l.invariant.upto _ b))
 
-pub add_at-requires-then-x : goal.add_at-requires-then-x
-add_at-requires-then-x c =
+pub add_at-requires-in-Some : goal.add_at-requires-in-Some
+add_at-requires-in-Some c =
     let l = c.loop-i in
-    let s = c in
-    let L = limits s.requires.valid_cells.sound in
+    let L = limits c.args.year.now.valid.sound in
     let b = L.seller l.i in
-    let e = c.entry_at-x.ensures in
-    let d = rw e at c.add_at.ensures in
-    let kept = d.others (off_over_row + (facts s.args.year.now).seller l.i) (λ z. omega (arith, b)) in
-    rw e (omega (arith, b, d.long, l.invariant.entries.columns.long), omega (arith, second-small L s.args.ev l.i, kept, over-room l.invariant.sums L l.invariant.upto _ b (L.off_peak s.args.ev)))
+    let e = (told c.in-Some.ensures).1 in
+    let d = rw (← e) at c.add_at.ensures in
+    let kept = d.others (off_over_row + (facts c.args.year.now.cells).seller l.i) (λ z. omega (arith, b)) in
+    rw (← e) (omega (arith, b, d.long, l.invariant.entries.columns.long), omega (arith, second-small L c.args.ev l.i, kept, over-room l.invariant.sums L l.invariant.upto _ b (L.off_peak c.args.ev)))
 
 pub loop-i-preserved : goal.loop-i-preserved
 loop-i-preserved c =
     let l = c.loop-i in
-    let e = c.entry_at-x.ensures in
-    let measured = sym (ap (λ (x : OffPeakEntry). x.measured) e) in
-    elim c.if-x.branch [
-      | then-x w ↦ rw w.work-is (weighing-more l.invariant (omega arith) (measured ∙ w.if-x.true) ((limits c.requires.valid_cells.sound).seller l.i) (rw e at w.add_at.ensures) (rw e at w.add_at-then-x.ensures))
-      | else-x w ↦ rw w.work-is (weighing-none l.invariant (omega arith) (measured ∙ w.if-x.false))
+    elim c.match-entry_at.branch [
+      | in-Some w ↦
+          let x = told w.in-Some.ensures in
+          rw w.work-is (weighing-more l.invariant (omega arith) x.0 ((limits c.args.year.now.valid.sound).seller l.i) (rw (← x.1) at w.add_at.ensures) (rw (← x.1) at w.add_at-in-Some.ensures))
+      | in_default w ↦ rw w.work-is (weighing-none l.invariant (omega arith) (untold _ w.in_default.ensures))
     ]
-
-pub returns : goal.returns
-returns c = let v = c.loop-i.invariant in record { weighed = weighing-all v (omega (arith, v.upto)); aside = v.aside }
 
 pub loop-i-init : goal.loop-i-init
 loop-i-init c = weighing-first c.args.ev c.requires.entries c.requires.row
 
-pub entry_at-x-requires : goal.entry_at-x-requires
-entry_at-x-requires c = record { valid_cells = c.requires.valid_cells; ev_lt_event_limit = (c.requires.ev_lt_event_limit, omega arith); entries = c.loop-i.invariant.entries }
+pub returns-clause-weighed : goal.returns-clause-weighed
+returns-clause-weighed c = weighing-all c.loop-i.invariant (omega (arith, c.loop-i.invariant.upto))

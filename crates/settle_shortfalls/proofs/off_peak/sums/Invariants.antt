@@ -1,12 +1,7 @@
 -- `settle_shortfalls::off_peak::sums` meets its contract. The loop's invariant: the entries before i are added up. Assumes nothing.
-use Prim.Native.Nat.{◌-◌}
-use Rattle.limits.specs.Limits.{registrations}
 use Rattle.settle_facts.specs.CellFacts.{facts}
 use Rattle.settle_shortfalls.specs.OffPeak.{Weighing}
 use Rattle.settle_shortfalls.proofs.off_peak.sums.Given as goal
 
 abbrev pub invariant-loop-i : goal.invariant-loop-i
-invariant-loop-i l = Weighing (facts l.year) l.ev l.i l.initial.work l.work
-
-abbrev pub decreases-loop-i : goal.decreases-loop-i
-decreases-loop-i l = registrations - l.i
+invariant-loop-i l = Weighing (facts l.year.cells) l.ev l.i l.initial.work l.work

@@ -1,5 +1,5 @@
 -- The amounts of the first k columns stand behind the id.
-use Prim.Native.Nat.{◌-◌, ◌≤◌}
+use Prim.Native.Nat.{◌≤◌}
 use Rattle.ids.specs.Ids.{tabulate}
 use Rattle.statement.specs.Statement.{amount_field}
 use Rattle.statement.specs.WrittenFields.{WrittenFields}
@@ -7,6 +7,3 @@ use Rattle.statement.proofs.issue.put_line.Given as goal
 
 abbrev pub invariant-loop-k : goal.invariant-loop-k
 invariant-loop-k l = (l.k ≤ l.n) × WrittenFields l.initial.out l.out l.initial.r l.r (tabulate l.k (amount_field l.owed l.billed l.id))
-
-abbrev pub decreases-loop-k : goal.decreases-loop-k
-decreases-loop-k l = l.n - l.k

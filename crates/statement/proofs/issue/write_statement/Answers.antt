@@ -3,7 +3,6 @@ use mathlib.Core.Path.{refl}
 use native.Mathlib.Omega.{arith}
 use Rattle.ids.specs.Ids.{holds}
 use Rattle.limits.specs.Limits.{parties}
-use Rattle.bits_write.specs.Written.{Ready}
 use Rattle.bits_write.specs.WrittenLaws.{written-encodes}
 use Rattle.statement.specs.Statement.{widths_of, values_of, statement_fields, statement_of}
 use Rattle.ids.specs.Sums.{count_most}
@@ -17,18 +16,11 @@ put_all-w-requires c =
     let e = c.new.ensures in
     let sellers = count_most parties (holds c.present-sellers.result) in
     let lses = count_most parties (holds c.obliged-lses.result) in
-    let ready : Ready c.new.result = record { part = omega (arith, e); small = rw (e.1, e.2) (omega arith) } in
-    record { ready = ready; t = tt; values_len = refl; valid = (omega (arith, c.requires), (omega (arith, c.count.ensures), (omega (arith, c.count-2.ensures), tt))); ws_bound = omega (arith, e, c.requires) }
-
-pub put_parties-requires : goal.put_parties-requires
-put_parties-requires c =
-    let w = c.put_all-w.ensures in
-    record { ready = w.ready; sound_amounts = (c.requires.sound_amounts, c.requires.sound_amounts_2); w_bound = omega (arith, w.ends, w.long, c.new.ensures, c.requires) }
+    record { narrow = tt; values_len = refl; valid = (omega (arith, c.requires), (omega (arith, c.count.ensures), (omega (arith, c.count-2.ensures), tt))); ws_bound = omega (arith, e, c.requires) }
 
 -- the writer has gone on from the first bit by the statement's fields
-laid : (c : After-put_parties) → let n = c in
-    let a = n.args in
-    WrittenFields a.bytes.now c.put_parties.new.out n.new.result c.put_parties.result (statement_fields a.terms a.month a.owed a.billed)
+laid : (c : After-put_parties) → let a = c.args in
+    WrittenFields a.bytes.now c.put_parties.new.out c.new.result c.put_parties.result (statement_fields a.terms a.month a.owed a.billed)
 laid c =
     statement-written c.args.owed c.args.billed c.requires.sound_terms c.present-sellers.ensures c.obliged-lses.ensures
     (record { wrote = rw (c.count.ensures, c.count-2.ensures) at c.put_all-w.ensures })
@@ -38,7 +30,7 @@ pub finish-requires : goal.finish-requires
 finish-requires c =
     let w = (laid (goal.at.finish-requires c).After-put_parties).wrote in
     let few = statement-bits c.requires.sound_terms c.args.month c.args.owed c.args.billed in
-    record { ready = w.ready; self_bound = omega (arith, w.ends, w.long, c.new.ensures, c.requires) }
+    record { self_bound = omega (arith, w.ends, w.long, c.new.ensures, c.requires) }
 
 pub returns : goal.returns
 unfolding statement_of

@@ -14,9 +14,9 @@ pub loop-i-preserved : goal.loop-i-preserved
 loop-i-preserved c =
     let a = c.args in
     let l = c.loop-i in
-    (omega arith, rw length-set l.invariant.1, rw (c.pair.ensures, l.invariant.2) (pairs-more a.s.now a.out.now l.i (omega (arith, c.least-n.ensures))))
+    (omega arith, rw length-set l.invariant.1, rw (c.pair.ensures, l.invariant.2) (pairs-more a.s.now a.out.now l.i (omega (arith, c.min-n.ensures))))
 
 pub returns : goal.returns
 returns c =
     let l = c.loop-i in
-    let n : l.i ≡ c.least-n.result = omega arith in record { value = c.least-n.ensures; out_after = rw n at l.invariant.2 }
+    let n : l.i ≡ c.min-n.result = omega arith in record { value = omega arith; out_after = rw n at l.invariant.2 }

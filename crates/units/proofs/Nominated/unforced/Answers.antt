@@ -1,13 +1,8 @@
 -- `Nominated::unforced` meets its contract: both products fit, since the factors are at most 12,000.
-use mathlib.Core.Path.{refl}
 use native.Mathlib.Omega.{arith}
 use native.Mathlib.Nat.{mul-le-mul}
-use Rattle.units.specs.Units.{convert, product_le}
+use Rattle.units.specs.Units.{product_le}
 use Rattle.units.proofs.Nominated.unforced.Goals as goal
-
-pub returns : goal.returns
-unfolding convert
-returns c = refl
 
 pub overflow_mul-result : goal.overflow_mul-result
 overflow_mul-result c = record { fits = omega (arith, mul-le-mul c.requires.0 c.requires.1) }

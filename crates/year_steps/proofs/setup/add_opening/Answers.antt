@@ -1,12 +1,14 @@
 -- `year_steps::setup::add_opening` meets its contract: one row. Assumes nothing.
+use Rattle.year.specs.StaysSound.{sound-opening}
 use Rattle.year_cells.specs.Regions.{stepped}
 use Rattle.year_steps.specs.SetupLaid.{opening-laid}
-use Rattle.year.specs.StaysSound.{sound-opening}
 use Rattle.year_steps.proofs.setup.add_opening.Goals as goal
 
 pub returns : goal.returns
-returns c =
-    let s = c in
+returns c = opening-laid c.lay.ensures
+
+pub invariant_of-year : goal.invariant_of-year
+invariant_of-year c =
+    let year = c.args.year.now in
     let h = c.lay.ensures in
-    let r = stepped s.requires.valid_cells h.long (opening-laid h) (sound-opening s.requires.valid_cells.sound s.requires.factors) in
-    record { equals = r.0; valid = r.1 }
+    record { valid = (stepped year.valid h.long (opening-laid h) (sound-opening year.valid.sound c.requires.factors)).1 }

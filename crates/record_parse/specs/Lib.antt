@@ -1,0 +1,2 @@
+-- What taking a record apart answers.
+pub mod Answers

@@ -1,9 +1,0 @@
--- `settle_charges::prices::higher` meets its contract. Assumes nothing.
-use native.Mathlib.Omega.{arith}
-use Rattle.settle_charges.proofs.prices.higher.Goals as goal
-
-pub returns-then-a-b : goal.returns-then-a-b
-returns-then-a-b c = omega (arith, c.if-a-b.true)
-
-pub returns-else-a-b : goal.returns-else-a-b
-returns-else-a-b c = omega (arith, c.if-a-b.false)
