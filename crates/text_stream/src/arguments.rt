@@ -9,7 +9,7 @@ use std::rt::Runtime;
 
 // Reads argument `i` into the lent buffer, where there is one. One that can be no file's name here is told on standard error.
 // No contract can name what the system gives.
-pub fn read_argument<'a>(
+fn read_argument<'a>(
     rt: &impl Runtime,
     i: usize,
     buffer: &'a mut [u8],

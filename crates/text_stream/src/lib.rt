@@ -11,7 +11,7 @@ mod output;
 mod unread;
 mod window;
 
-pub use arguments::{TakesInput, each_input, exit_code, read_argument};
+pub use arguments::{TakesInput, each_input, exit_code};
 pub use output::{finish, with_room};
 use std::io::{self, Read};
 pub use unread::Unread;
