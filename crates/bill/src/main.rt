@@ -28,21 +28,17 @@ fn bill<R: Read, W: Write>(
     let mut year = book::new_book();
     let least = record_file::window();
     let mut window = Window::new();
-    let mut at = 0;
-    for position in 1..u64::MAX {
+    let mut course = Course { position: 1, at: 0 };
+    // a turn for each record
+    for _ in 1..u64::MAX {
         window = text_stream::filled(input, buffer, window, least)?;
         if window.start == window.end {
-            return text_stream::finish(output, out, at);
+            return text_stream::finish(output, out, course.at);
         }
         let bytes = &buffer[window.start..window.end];
-        let answered = bill_step::step(
-            &mut year,
-            Course { position, at },
-            bytes,
-            &mut statement,
-            out,
-        );
-        at = text_stream::with_room(output, out, answered.next.at, text_bill::ROOM)?;
+        let answered = bill_step::step(&mut year, course, bytes, &mut statement, out);
+        course = answered.next;
+        course.at = text_stream::with_room(output, out, course.at, text_bill::ROOM)?;
         window = match answered.posted {
             Ok(posted) => window.behind(posted.used, false),
             Err(refused) => window.behind(

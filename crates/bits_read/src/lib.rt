@@ -66,7 +66,7 @@ impl Cursor {
         self.field(words::cut(word, self.at, width), width)
     }
 
-    // The fields of the widths ws from here on, so many bits, which lie in one word of eight bytes, into out from a place on; the cursor behind them. The word is read once, and each field cut out of it.
+    // The fields of the widths ws from here on, so many bits, which lie in one word of eight bytes, into out from a place on; the cursor behind them. It goes through the word, whose bits it counts from the first on, up to their end.
     pub fn read_fields(
         self,
         bytes: &[u8],
@@ -84,10 +84,15 @@ impl Cursor {
         let first = self.at / 8;
         let word = words::ahead(bytes, first);
         let mut c = Cursor { at: self.at % 8 };
+        let end = c.at + bits;
         for (i, w) in ws.iter().enumerate() {
             let f = c.cut(word, *w as usize);
             out[to + i] = f.value;
             c = f.next;
+            // without this, which the last field alone meets, the compiler unrolls the loop, and long lists are read a fifth slower
+            if c.at == end {
+                break;
+            }
         }
         Cursor { at: self.at + bits }
     }

@@ -22,7 +22,7 @@ fn cases<R: Read>(rt: &impl Print, input: &mut R, buffer: &mut [u8]) -> io::Resu
     for _ in 0..u64::MAX {
         let line = match text_stream::next_line(input, buffer, window) {
             Ok(line) => line,
-            Err(unread) => unread.found,
+            Err(failed) => failed.found,
         };
         window = line.rest;
         if line.start == window.end {
@@ -190,8 +190,7 @@ fn value_of(word: &[u8]) -> f32 {
 
 // Prints the answer to a sample.
 fn reduce(rt: &impl Print, sample: Sample) -> io::Result<()> {
-    match telemetry::reduction(sample) {
-        Ok(kw) => print_numbers(rt, &[0, kw]),
-        Err(refusal) => print_numbers(rt, &[refusal.number(), 0]),
-    }
+    let mut kw = 0;
+    let number = telemetry::answer(sample, &mut kw);
+    print_numbers(rt, &[number, kw])
 }

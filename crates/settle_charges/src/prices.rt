@@ -37,14 +37,19 @@ pub fn line_at(work: &Work, i: usize) -> Line
     }
 }
 
-// The daily charge before the cap, in thousandths of a cent; `peak` where the event is of period 1 or 3.
+// The daily charge before the cap, in thousandths of a cent; `peak` where the event is of period 1 or 3. A division by a constant is a
+// multiplication: by one number of parts, whatever it is, a close of off-peak events takes a fifth more.
 fn before_cap(peak: bool, n: u64, u: Unforced, rate: u64) -> u64
     requires u_le_unforced_limit { u.0 ≤ unforced_limit }
     requires rate_le_rate_limit { rate ≤ rate_limit }
     ensures { result ≡ u.0 * rate / cond peak (max n 2) 52 }
 {
-    let parts = if peak { n.max(2) } else { 52 };
-    u.0 * rate / parts
+    let all = u.0 * rate;
+    match n {
+        _ if !peak => all / 52,
+        0..=2 => all / 2,
+        _ => all / n,
+    }
 }
 
 // The daily charge: the lesser of that, off-peak if it is higher, and the cap's rest.

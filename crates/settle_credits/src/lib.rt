@@ -42,7 +42,8 @@ pub fn credit(year: &YearCells, work: &mut Work, ev: usize, k: u64, charges: u64
     let total = settle_table::sum(work, settle_table::E, REGISTRATIONS);
     let mut allotment = Allotment::new(charges, total);
     for i in 0..REGISTRATIONS {
-        if settle_table::get(work, settle_table::LISTED, i) == 0 {
+        let listed = settle_table::get(work, settle_table::LISTED, i) != 0;
+        if !listed {
             continue;
         }
         let line = settle_charges::line_at(work, i);

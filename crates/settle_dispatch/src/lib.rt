@@ -21,7 +21,7 @@ fn count_event(year: &YearCells, work: &mut Work, ev: usize)
 {
     let one = u64::from(settle_facts::one_or_three(&year.cells, ev));
     for i in 0..REGISTRATIONS {
-        if settle_facts::look(&year.cells, ev, i).is_some() {
+        if settle_facts::look(&year.cells, ev, i).is_ok() {
             settle_table::put(work, settle_table::DISPATCHED, i, 1);
             settle_table::add_at(work, settle_table::DISPATCH_COUNT, i, one);
         }

@@ -1,5 +1,5 @@
 -- What a look at the year's cells returns: the facts of the rules.
-use Rattle.std.specs.Prelude.{ℕ, ◌+◌, ◌*◌, ◌<◌, ◌≡◌, Option, Some, None, cond, List}
+use Rattle.std.specs.Prelude.{ℕ, ◌+◌, ◌*◌, ◌<◌, ◌≡◌, Result, Ok, Err, cond, List}
 use native.Mathlib.Omega.{arith}
 use Rattle.ids.specs.Ids.{at}
 use Rattle.ids.specs.Tables.{get_or-tabulate}
@@ -16,12 +16,12 @@ use Rattle.settle_facts.specs.declared.EventEntry.{EventEntry}
 abbrev pub facts : List ℕ → Facts
 facts c = facts_of (year_in c)
 
--- an event's entry as the rules have it; none where the event does not list the registration
+-- an event's entry as the rules have it; Err where the event does not list the registration
 abbrev pub entry : Facts → ℕ → ℕ → EventEntry
 entry F ev i = record { reduction = record { 0 = year.reduction (F.event ev).listing i }; second = record { 0 = year.second (F.event ev).listing i } }
 
-abbrev pub look_at : Facts → ℕ → ℕ → Option EventEntry
-look_at F ev i = cond (year.listed (F.event ev).listing i) (Some (entry F ev i)) None
+abbrev pub look_at : Facts → ℕ → ℕ → Result EventEntry EventEntry
+look_at F ev i = cond (year.listed (F.event ev).listing i) (Ok (entry F ev i)) (Err (entry F ev i))
 
 -- where an event's numbers stand
 module _ (c : List ℕ) {ev : ℕ} (l : ev < event_limit) where

@@ -27,18 +27,21 @@ fn event_cell(year: &Cells, ev: usize, k: usize) -> u64
     year[year_cells::EVENTS_PLACE + year_cells::EVENT_WIDTH * ev + k]
 }
 
-// One look at an entry: nothing else reads one.
-pub fn look(year: &Cells, ev: usize, i: usize) -> Option<EventEntry>
+// One look at an entry: nothing else reads one. Ok: the event lists the registration; Err: it does not, and the numbers are the row's all the same
+// (what may not change: the clause says both of every entry, so that no Option can answer it).
+pub fn look(year: &Cells, ev: usize, i: usize) -> Result<EventEntry, EventEntry>
     requires ev_lt_event_limit { ev < event_limit }
     requires i_lt_registrations { i < registrations }
     ensures { result ≡ look_at (facts year.now) ev i }
 {
-    if !year_cells::listed_in(year, ev, i) {
-        return None;
-    }
     let reduction = Nominated(event_cell(year, ev, year_cells::EVENT_REDUCTIONS_IN + i));
     let second = Nominated(event_cell(year, ev, year_cells::EVENT_SECOND_IN + i));
-    Some(EventEntry { reduction, second })
+    let entry = EventEntry { reduction, second };
+    if year_cells::listed_in(year, ev, i) {
+        Ok(entry)
+    } else {
+        Err(entry)
+    }
 }
 
 pub fn month_of(year: &Cells, ev: usize) -> u64

@@ -41,7 +41,8 @@ pub fn credit_lses(year: &YearCells, work: &mut Work) -> u64
     let mut allotment = Allotment::new(net_of(work), obligations);
     for j in 0..LSES {
         let weight = year_cells::obligation_of(&year.cells, j);
-        if weight == 0 {
+        let known = weight != 0;
+        if !known {
             continue;
         }
         let share = allotment.share(weight);

@@ -1,5 +1,5 @@
 -- What entries that are picked are short and over, summed up by seller in two rows of the working table, and their sellers' shortfalls from these.
-use Rattle.std.specs.Prelude.{ℕ, ◌+◌, ◌-◌, ◌≤◌, ◌<◌, ◌≡◌, refl, Bool, true, false, cond, Some, None, List}
+use Rattle.std.specs.Prelude.{ℕ, ◌+◌, ◌-◌, ◌≤◌, ◌<◌, ◌≡◌, refl, Bool, true, false, cond, Some, None, Ok, Err, List}
 use Rattle.std.proofs.Common.{sym, arith}
 use Rattle.std.proofs.lemmas.Option.{cond_some}
 use Rattle.ids.specs.Ids.{at}
@@ -24,6 +24,15 @@ told {A} {b} {e} {x} q = cond_some b e x (sym q)
 pub untold : {A : Type 0} {b : Bool} (e : A) → None ≡ cond b (Some e) None → b ≡ false
 untold {b = true} e q = cc
 untold {b = false} e q = refl
+
+-- the same of what is told either way
+pub told_ok : {A : Type 0} {b : Bool} {e x : A} → Ok x ≡ cond b (Ok e) (Err e) → (b ≡ true) × (e ≡ x)
+told_ok {b = true} q = (refl, cc)
+told_ok {b = false} q = cc
+
+pub told_err : {A : Type 0} {b : Bool} (e : A) {x : A} → Err x ≡ cond b (Ok e) (Err e) → b ≡ false
+told_err {b = true} e q = cc
+told_err {b = false} e q = refl
 
 -- a registration's reduction compared with what it committed: in the table, and by the rules
 abbrev pub compare : List ℕ → ℕ → ℕ → Compared

@@ -1,5 +1,5 @@
 -- Pass 2: sums by seller entry by entry, then shortfalls and excesses seller by seller.
-use Rattle.std.specs.Prelude.{ℕ, ◌+◌, ◌-◌, ◌≤◌, ◌<◌, ◌≡◌, true, false, cond, Option, Some, None, List, length}
+use Rattle.std.specs.Prelude.{ℕ, ◌+◌, ◌-◌, ◌≤◌, ◌<◌, ◌≡◌, true, false, cond, Result, Ok, Err, List, length}
 use Rattle.std.proofs.Common.{sym, ◌∙◌, arith, lit≤}
 use Rattle.ids.specs.Ids.{at}
 use Rattle.limits.specs.Limits.{registrations, sellers}
@@ -12,16 +12,21 @@ use Rattle.owed_laws.specs.Sellers.{excess-is}
 use Rattle.settle_table.specs.Columns.{Columns, columns-aside}
 use Rattle.settle_table.specs.Places.{amount_in, passed_in, carried_width, short_row, over_row, u_row, allotment_places, later_places, size}
 use Rattle.settle_shortfalls.specs.declared.MeasuredEntry.{MeasuredEntry}
-use Rattle.settle_shortfalls.specs.Sums.{compared_by, Sums, Summed, sums_first, sums_none, sums-more, sums-all, summed_kept, shortfall-is}
+use Rattle.settle_facts.specs.declared.EventEntry.{EventEntry}
+use Rattle.settle_shortfalls.specs.Sums.{compare, compared_by, Sums, Summed, sums_first, sums_none, sums-more, sums-all, summed_kept, shortfall-is}
 use Rattle.settle_table.specs.Rows.{Stored, Aside, Row, none, aside_none, aside-of, aside-more, row_kept, row_within, row_more}
 
--- an entry as the rules have it; none where the event does not list the registration
+-- a look at registration i's entry, compared with what the table says that it committed
+abbrev pub compared_entry : List ℕ → ℕ → EventEntry → MeasuredEntry
+compared_entry w i x = record { first = compare w i x.reduction.0; second = x.second }
+
+-- an entry as the rules have it; Err where the event does not list the registration
 abbrev pub entry : Facts → ℕ → ℕ → MeasuredEntry
 entry F ev i =
     record { first = compared_by F i (year.reduction (F.event ev).listing i); second = record { 0 = year.second (F.event ev).listing i } }
 
-abbrev pub entry_at : Facts → ℕ → ℕ → Option MeasuredEntry
-entry_at F ev i = cond (year.listed (F.event ev).listing i) (Some (entry F ev i)) None
+abbrev pub entry_at : Facts → ℕ → ℕ → Result MeasuredEntry MeasuredEntry
+entry_at F ev i = cond (year.listed (F.event ev).listing i) (Ok (entry F ev i)) (Err (entry F ev i))
 
 -- the sums of an event's entries, and nothing allotted yet
 pub record Weighed (F : Facts) (ev : ℕ) (w : List ℕ) : Type 0 where

@@ -9,9 +9,10 @@ ghost use Rattle.ids.specs.Ids.{at};
 ghost use Rattle.settle_table.specs.Places.{allotment_width, short_row, allotment_places, event_places, size};
 ghost use Rattle.settle_table.specs.Rows.{Aside, Row, none};
 ghost use Rattle.settle_shortfalls.specs.Sums.{compare, net_of};
-ghost use Rattle.settle_shortfalls.specs.Weighing.{entry_at, Weighed, Netted, Ready};
+ghost use Rattle.settle_shortfalls.specs.Weighing.{compared_entry, entry_at, Weighed, Netted, Ready};
 
 use limits::{REGISTRATIONS, SELLERS};
+use settle_facts::EventEntry;
 use settle_table::Work;
 use units::{Kilowatts, Nominated, Unforced};
 use year_cells::YearCells;
@@ -50,17 +51,32 @@ pub struct MeasuredEntry {
     pub second: Nominated,
 }
 
-// One look at an entry, compared with what its registration committed.
-pub fn entry_at(year: &YearCells, work: &Work, ev: usize, i: usize) -> Option<MeasuredEntry>
+// What a look at registration i's entry gave, compared with what it committed.
+fn compared_entry(work: &Work, i: usize, x: EventEntry) -> MeasuredEntry
+    requires { i < registrations }
+    ensures { result ≡ compared_entry work.now i x }
+{
+    MeasuredEntry {
+        first: compare(work, i, x.reduction),
+        second: x.second,
+    }
+}
+
+// One look at an entry, compared with what its registration committed: Ok and Err as `settle_facts::look` has them.
+pub fn entry_at(
+    year: &YearCells,
+    work: &Work,
+    ev: usize,
+    i: usize,
+) -> Result<MeasuredEntry, MeasuredEntry>
     requires ev_lt_event_limit { (ev < event_limit) × (i < registrations) }
     requires columns { Columns (facts year.now.cells) registrations work.now }
     ensures { result ≡ entry_at (facts year.now.cells) ev i }
 {
-    let x = settle_facts::look(&year.cells, ev, i)?;
-    Some(MeasuredEntry {
-        first: compare(work, i, x.reduction),
-        second: x.second,
-    })
+    match settle_facts::look(&year.cells, ev, i) {
+        Ok(x) => Ok(compared_entry(work, i, x)),
+        Err(x) => Err(compared_entry(work, i, x)),
+    }
 }
 
 // What each seller's entries are short, and what they are over. In the contracts `ev < event_limit` is of an index alone, and Columns
@@ -73,7 +89,7 @@ fn sums(year: &YearCells, work: &mut Work, ev: usize)
     ensures aside { Aside short_row allotment_places work.old work.new }
 {
     for i in 0..REGISTRATIONS {
-        if let Some(x) = entry_at(year, work, ev, i) {
+        if let Ok(x) = entry_at(year, work, ev, i) {
             settle_table::add_at(work, settle_table::SHORT, x.first.seller, x.first.short.0);
             settle_table::add_at(work, settle_table::OVER, x.first.seller, x.first.over.0);
         }

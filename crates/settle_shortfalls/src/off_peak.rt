@@ -9,7 +9,7 @@ ghost use Rattle.settle_shortfalls.specs.OffPeak.{Entries, OffShares, OffDivided
 use crate::Compared;
 use limits::{REGISTRATIONS, SELLERS};
 use settle_table::Work;
-use units::{Kilowatts, Nominated};
+use units::{Kilowatts, Nominated, Unforced};
 use year_cells::YearCells;
 
 // An event's entry in the table, its second reduction compared. Limited ones are left out.
@@ -77,8 +77,13 @@ fn share(year: &YearCells, work: &mut Work, ev: usize)
 {
     for i in 0..REGISTRATIONS {
         if let Some(x) = entry_at(year, work, ev, i) {
-            let u = settle_table::share(work, settle_table::OFF_SHORT, x.seller, x.short.0);
-            settle_table::put(work, settle_table::OFF_U, i, u);
+            let u = Unforced(settle_table::share(
+                work,
+                settle_table::OFF_SHORT,
+                x.seller,
+                x.short.0,
+            ));
+            settle_table::put(work, settle_table::OFF_U, i, u.0);
         }
     }
 }

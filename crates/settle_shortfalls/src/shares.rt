@@ -10,6 +10,7 @@ ghost use Rattle.settle_shortfalls.specs.Sharing.{Shares, Divided};
 
 use limits::REGISTRATIONS;
 use settle_table::Work;
+use units::{Nominated, Unforced};
 use year_cells::YearCells;
 
 // Each entry's shares of its seller's shortfall and excess; the table then tells each seller's divisions.
@@ -22,11 +23,22 @@ pub fn share(year: &YearCells, work: &mut Work, ev: usize)
     ensures aside { Aside short_row shared_places work.old work.new }
 {
     for i in 0..REGISTRATIONS {
-        if let Some(x) = crate::entry_at(year, work, ev, i) {
-            let u = settle_table::share(work, settle_table::SHORT, x.first.seller, x.first.short.0);
-            let e = settle_table::share(work, settle_table::OVER, x.first.seller, x.first.over.0);
-            settle_table::put(work, settle_table::U, i, u);
-            settle_table::put(work, settle_table::E, i, e);
+        if let Ok(x) = crate::entry_at(year, work, ev, i) {
+            let first = x.first;
+            let u = Unforced(settle_table::share(
+                work,
+                settle_table::SHORT,
+                first.seller,
+                first.short.0,
+            ));
+            let e = Nominated(settle_table::share(
+                work,
+                settle_table::OVER,
+                first.seller,
+                first.over.0,
+            ));
+            settle_table::put(work, settle_table::U, i, u.0);
+            settle_table::put(work, settle_table::E, i, e.0);
             settle_table::put(work, settle_table::LISTED, i, 1);
             settle_table::put(work, settle_table::SECOND, i, x.second.0);
         }

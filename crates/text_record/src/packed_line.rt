@@ -22,6 +22,9 @@ pub fn pack(line: &[u8], cut: bool, out: &mut [u8], at: usize) -> Result<usize, 
     }
     let mut numbers = [0u64; NUMBERS];
     let n = text::decimals(line, &mut numbers);
-    let used = record_write::write(&numbers[..n], &mut out[at..])?;
-    Ok(at + used)
+    // by `match`: behind a `?` no edit of a value shows that a refused line keeps its number
+    match record_write::write(&numbers[..n], &mut out[at..]) {
+        Ok(used) => Ok(at + used),
+        Err(refusal) => Err(refusal),
+    }
 }

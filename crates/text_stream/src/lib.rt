@@ -7,14 +7,14 @@ ghost use Rattle.text_stream.specs.Filled.{Filled, LineWithin};
 ghost use Rattle.text_stream.specs.Found.{found};
 
 mod arguments;
+mod failed;
 mod output;
-mod unread;
 mod window;
 
 pub use arguments::{TakesInput, each_input, exit_code};
+pub use failed::Failed;
 pub use output::{finish, with_room};
 use std::io::{self, Read};
-pub use unread::Unread;
 pub use window::Window;
 
 // Reads until the window has at least so many bytes, or the input ends; answers the window, that of a failed read with the error.
@@ -23,7 +23,7 @@ pub fn filled<R: Read>(
     buffer: &mut [u8],
     window: Window,
     least: usize,
-) -> Result<Window, Unread<Window>>
+) -> Result<Window, Failed<Window>>
     requires end_in_bounds { window.end ≤ length buffer.old }
     requires least_in_bounds { least ≤ length buffer.old }
     ensures { Filled buffer.old buffer.new window least (found result) }
@@ -42,7 +42,7 @@ pub fn filled<R: Read>(
         match read_behind(input, buffer, end) {
             Ok(0) => return Ok(last),
             Ok(count) => end += count,
-            Err(error) => return Err(Unread { found: last, error }),
+            Err(error) => return Err(Failed { found: last, error }),
         }
     }
     Ok(Window {
@@ -75,7 +75,7 @@ pub fn next_line<R: Read>(
     input: &mut R,
     buffer: &mut [u8],
     window: Window,
-) -> Result<Line, Unread<Line>>
+) -> Result<Line, Failed<Line>>
     requires { window.end ≤ length buffer.old }
     ensures line_within { LineWithin buffer.old (found result) }
     ensures ends { Ends (take (found result).rest.end buffer.new) (found result).start 10 (found result).end }
@@ -87,9 +87,9 @@ pub fn next_line<R: Read>(
     let size = buffer.len();
     match filled(input, buffer, window, size) {
         Ok(more) => Ok(line_in(buffer, more)),
-        Err(unread) => Err(Unread {
-            found: line_in(buffer, unread.found),
-            error: unread.error,
+        Err(failed) => Err(Failed {
+            found: line_in(buffer, failed.found),
+            error: failed.error,
         }),
     }
 }

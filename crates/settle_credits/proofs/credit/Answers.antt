@@ -17,15 +17,15 @@ use Rattle.settle_charges.specs.Pricing.{line_at}
 use Rattle.settle_charges.specs.Charging.{line_of, line-is}
 use Rattle.settle_credits.specs.Crediting.{Crediting, excesses, crediting-first, crediting-none, crediting-more, crediting-all, crediting-divisions, credit-most, asks, credit-is}
 use Rattle.settle_credits.proofs.credit.Goals as goal
-use Rattle.settle_credits.proofs.credit.Goals.{After-get, After-min-credit}
+use Rattle.settle_credits.proofs.credit.Goals.{After-get-listed, After-min-credit}
 
 -- an entry's line, as the rules have it
 line : {F : Facts} {k ev i : ℕ} {w₀ w : List ℕ} {a : Allotment} {x : Line} → Crediting F k ev i w₀ w a → i < registrations → x ≡ line_at w i → x ≡ line_of F ev i (at w (spent_row + i))
 line h l p = p ∙ line-is h.given l refl
 
 -- its mark, and its credit
-marked : (c : After-get) → c.get.result ≡ mark (year.listed ((facts c.args.year.now.cells).event c.args.ev).listing c.loop-i.i)
-marked c = c.get.ensures ∙ c.loop-i.invariant.given.shares.listed.is c.loop-i.i c.loop-i-test.true
+marked : (c : After-get-listed) → c.get-listed.result ≡ mark (year.listed ((facts c.args.year.now.cells).event c.args.ev).listing c.loop-i.i)
+marked c = c.get-listed.ensures ∙ c.loop-i.invariant.given.shares.listed.is c.loop-i.i c.loop-i-test.true
 
 credited : (c : After-min-credit) → c.min-credit.result ≡ credit_of (facts c.args.year.now.cells) c.args.k c.args.ev c.loop-i.i
 credited c =
@@ -60,16 +60,16 @@ add_at-requires c =
     rw (line h c.loop-i-test.true c.line_at-line.ensures)
     (omega (arith, b, h.given.columns.long), omega (arith, credit-most h L c.requires.ev_lt_event_limit.0 _ b, credited (goal.at.add_at-requires c).After-min-credit, credit-le L c.args.k c.args.ev i))
 
-pub loop-i-preserved-then-get-eq0 : goal.loop-i-preserved-then-get-eq0
-loop-i-preserved-then-get-eq0 c =
-    crediting-none c.loop-i.invariant c.loop-i-test.true (mark-false _ (marked (goal.at.loop-i-preserved-then-get-eq0 c).After-get) c.if-get-eq0.true)
+pub loop-i-preserved-then-not-listed : goal.loop-i-preserved-then-not-listed
+loop-i-preserved-then-not-listed c =
+    crediting-none c.loop-i.invariant c.loop-i-test.true (mark-false _ (marked (goal.at.loop-i-preserved-then-not-listed c).After-get-listed) c.if-not-listed.true)
 
 pub loop-i-preserved : goal.loop-i-preserved
 loop-i-preserved c =
     let h = c.loop-i.invariant in
     let l = c.loop-i-test.true in
     let e = line h l c.line_at-line.ensures in
-    crediting-more h (rw e at c.share-share.ensures) l (mark-true _ (marked (goal.at.loop-i-preserved c).After-get) c.if-get-eq0.false) ((limits c.args.year.now.valid.sound).seller c.loop-i.i) (credited (goal.at.loop-i-preserved c).After-min-credit) (rw e at c.add_at.ensures)
+    crediting-more h (rw e at c.share-share.ensures) l (mark-true _ (marked (goal.at.loop-i-preserved c).After-get-listed) c.if-not-listed.false) ((limits c.args.year.now.valid.sound).seller c.loop-i.i) (credited (goal.at.loop-i-preserved c).After-min-credit) (rw e at c.add_at.ensures)
 
 pub returns : goal.returns
 returns c =

@@ -1,19 +1,19 @@
 -- `settle_dispatch::count_event` meets its contract. The loop's invariant: the entries before i are counted. Assumes nothing.
 use Rattle.std.proofs.Common.{◌≡◌, Bool, true, false, refl, sym, ap, ◌∙◌, cond, rules, arith}
-use Rattle.std.specs.Prelude.{Some, None}
-use Rattle.std.specs.Option.{is_some}
+use Rattle.std.specs.Prelude.{Ok, Err}
+use Rattle.std.specs.Result.{is_ok}
 use Rattle.year.specs.Year.{listed}
 use Rattle.settle_facts.specs.CellFacts.{facts}
 use Rattle.ids.specs.Tests.{cond-le}
 use Rattle.settle_table.specs.Rows.{mark}
 use Rattle.settle_dispatch.specs.Counting.{counts-none, counts-next, counts-more, dispatch-count-most}
 use Rattle.settle_dispatch.proofs.count_event.Goals as goal
-use Rattle.settle_dispatch.proofs.count_event.Goals.{then-is_some, else-is_some}
+use Rattle.settle_dispatch.proofs.count_event.Goals.{then-is_ok, else-is_ok}
 
--- an entry is told where the event lists it
-some-cond : {A : Type 0} (b : Bool) (x : A) → is_some (cond b (Some x) None) ≡ b
-some-cond true x = refl
-some-cond false x = refl
+-- an entry is told to be listed where the event lists it
+ok-cond : {A : Type 0} (b : Bool) (x : A) → is_ok (cond b (Ok x) (Err x)) ≡ b
+ok-cond true x = refl
+ok-cond false x = refl
 
 pub add_at-requires : goal.add_at-requires
 add_at-requires c =
@@ -25,9 +25,9 @@ add_at-requires c =
 pub loop-i-preserved : goal.loop-i-preserved
 loop-i-preserved c =
     let l = c.loop-i in
-    let e : c.is_some.result ≡ listed ((facts c.args.year.now.cells).event c.args.ev).listing l.i = c.is_some.ensures ∙ ap is_some c.look.ensures ∙ some-cond _ _ in
+    let e : c.is_ok.result ≡ listed ((facts c.args.year.now.cells).event c.args.ev).listing l.i = c.is_ok.ensures.value ∙ ap is_ok c.look.ensures ∙ ok-cond _ _ in
     let one : c.from-one.result ≡ mark c.one_or_three.result = search rules in
-    elim c.if-is_some.branch [
-      | then-is_some w ↦ rw w.work-is (counts-more l.invariant (omega arith) (sym e ∙ w.if-is_some.true) (one ∙ ap mark c.one_or_three.ensures) w.put.ensures w.add_at.ensures)
-      | else-is_some w ↦ rw w.work-is (counts-none l.invariant (omega arith) (sym e ∙ w.if-is_some.false))
+    elim c.if-is_ok.branch [
+      | then-is_ok w ↦ rw w.work-is (counts-more l.invariant (omega arith) (sym e ∙ w.if-is_ok.true) (one ∙ ap mark c.one_or_three.ensures) w.put.ensures w.add_at.ensures)
+      | else-is_ok w ↦ rw w.work-is (counts-none l.invariant (omega arith) (sym e ∙ w.if-is_ok.false))
     ]

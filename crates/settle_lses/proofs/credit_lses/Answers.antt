@@ -27,11 +27,11 @@ loop-j-init c =
 pub share-share-requires : goal.share-share-requires
 share-share-requires c = share-asks c.loop-j.invariant.carried (omega arith) (lit< tt) c.obligation_of-weight.ensures c.requires.year_bound
 
-pub loop-j-preserved-then-weight-eq0 : goal.loop-j-preserved-then-weight-eq0
-loop-j-preserved-then-weight-eq0 c = begun-none c.loop-j.invariant (omega arith) c.obligation_of-weight.ensures c.if-weight-eq0.true
+pub loop-j-preserved-then-not-known : goal.loop-j-preserved-then-not-known
+loop-j-preserved-then-not-known c = begun-none c.loop-j.invariant (omega arith) c.obligation_of-weight.ensures c.if-not-known.true
 
 pub loop-j-preserved : goal.loop-j-preserved
-loop-j-preserved c = begun-more c.loop-j.invariant (omega arith) c.obligation_of-weight.ensures c.if-weight-eq0.false c.share-share.ensures c.put.ensures
+loop-j-preserved c = begun-more c.loop-j.invariant (omega arith) c.obligation_of-weight.ensures c.if-not-known.false c.share-share.ensures c.put.ensures
 
 pub returns-clause-divisions : goal.returns-clause-divisions
 unfolding lse_divisions

@@ -7,8 +7,8 @@ use Rattle.settle_shortfalls.specs.OffPeak.{sharing-none, sharing-more, sharing-
 use Rattle.settle_shortfalls.proofs.off_peak.share.Goals as goal
 use Rattle.settle_shortfalls.proofs.off_peak.share.Goals.{in-Some, in_default}
 
-pub share-u-requires : goal.share-u-requires
-share-u-requires c =
+pub share-requires : goal.share-requires
+share-requires c =
     let l = c.loop-i in
     let L = limits c.args.year.now.valid.sound in
     let x = told c.in-Some.ensures in record { within = rw (← x.1) (lit≤ tt, L.seller l.i); asks = rw (← x.1) (u-asks l.invariant L (omega arith) x.0) }
@@ -19,7 +19,7 @@ loop-i-preserved c =
     elim c.match-entry_at.branch [
       | in-Some w ↦
           let x = told w.in-Some.ensures in
-          rw w.work-is (sharing-more l.invariant (limits c.args.year.now.valid.sound) (omega arith) x.0 (rw (← x.1) at w.share-u.ensures) w.put.ensures)
+          rw w.work-is (sharing-more l.invariant (limits c.args.year.now.valid.sound) (omega arith) x.0 (rw (← x.1) at w.share.ensures) w.put.ensures)
       | in_default w ↦ rw w.work-is (sharing-none l.invariant (omega arith) (untold _ w.in_default.ensures))
     ]
 

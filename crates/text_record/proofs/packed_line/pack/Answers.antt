@@ -10,7 +10,6 @@ use lib.Seq.{length-take-le, take_all}
 use Rattle.refusals.specs.Numbers.{answered}
 use Rattle.record_numbers.specs.Calls.{Writes}
 use Rattle.record_write.specs.Encoding.{written_of}
-use Rattle.std.proofs.lemmas.Result.{err_from_is_err_and}
 use Rattle.text.specs.Pasted.{Pasted}
 use Rattle.text_record.specs.Packs.{kept, line_number, line_record, kept-front, cut_record, written-number, written-record}
 use Rattle.text_record.proofs.packed_line.pack.Goals as goal
@@ -44,22 +43,21 @@ packed c = written-record c.args.line.now c.args.out.now c.args.at c.requires (w
 numbered : (c : After-write) → answered c.write.result ≡ line_number false c.args.line.now
 numbered c = written-number c.args.line.now c.args.out.now c.args.at c.requires (wrote c)
 
-pub returns-in_err-used : goal.returns-in_err-used
-returns-in_err-used c =
-    let after = (goal.at.returns-in_err-used c).After-write in
-    let handed = err_from_is_err_and c.from_residual.result c.from_residual.ensures.1 in
+pub returns-in-Err : goal.returns-in-Err
+returns-in-Err c =
+    let after = (goal.at.returns-in-Err c).After-write in
     record {
-      number_value = rw (c.if-cut.false, handed.1, handed.2) (rw c.in_err-used.was at (numbered after));
-      pasted = rw (c.if-cut.false, handed.1) (rw (c.in_err-used.was, add-zero) at (packed after));
+      number_value = rw c.if-cut.false (rw c.in-Err.is at (numbered after));
+      pasted = rw c.if-cut.false (rw (c.in-Err.is, add-zero) at (packed after));
     }
 
 pub overflow_add-result : goal.overflow_add-result
-overflow_add-result c = omega (arith, (rw c.in_ok-used.was at (packed (goal.at.overflow_add-result c).After-write)).within)
+overflow_add-result c = omega (arith, (rw c.in-Ok.is at (packed (goal.at.overflow_add-result c).After-write)).within)
 
-pub returns : goal.returns
-returns c =
-    let after = (goal.at.returns c).After-write in
+pub returns-in-Ok : goal.returns-in-Ok
+returns-in-Ok c =
+    let after = (goal.at.returns-in-Ok c).After-write in
     record {
-      number_value = rw c.if-cut.false (rw c.in_ok-used.was at (numbered after));
-      pasted = rw c.if-cut.false (rw c.in_ok-used.was at (packed after));
+      number_value = rw c.if-cut.false (rw c.in-Ok.is at (numbered after));
+      pasted = rw c.if-cut.false (rw c.in-Ok.is at (packed after));
     }
