@@ -37,8 +37,9 @@ pub fn line_at(work: &Work, i: usize) -> Line
     }
 }
 
-// The daily charge before the cap, in thousandths of a cent; `peak` where the event is of period 1 or 3. A division by a constant is a
-// multiplication: by one number of parts, whatever it is, a close of off-peak events takes a fifth more.
+// The daily charge before the cap, in thousandths of a cent; `peak` where the event is of period 1 or 3. Each case has a
+// division of its own: the compiler multiplies in place of dividing by a constant, and with one division by a variable a close of off-peak
+// events takes a fifth longer.
 fn before_cap(peak: bool, n: u64, u: Unforced, rate: u64) -> u64
     requires u_le_unforced_limit { u.0 ≤ unforced_limit }
     requires rate_le_rate_limit { rate ≤ rate_limit }

@@ -27,8 +27,8 @@ fn event_cell(year: &Cells, ev: usize, k: usize) -> u64
     year[year_cells::EVENTS_PLACE + year_cells::EVENT_WIDTH * ev + k]
 }
 
-// One look at an entry: nothing else reads one. Ok: the event lists the registration; Err: it does not, and the numbers are the row's all the same
-// (what may not change: the clause says both of every entry, so that no Option can answer it).
+// One look at an entry: nothing else reads one. Ok: the event lists the registration; Err: it does not. The row's numbers are told either way,
+// as the clause says of every entry, so an Option would say too little.
 pub fn look(year: &Cells, ev: usize, i: usize) -> Result<EventEntry, EventEntry>
     requires ev_lt_event_limit { ev < event_limit }
     requires i_lt_registrations { i < registrations }

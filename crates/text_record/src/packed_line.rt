@@ -22,7 +22,7 @@ pub fn pack(line: &[u8], cut: bool, out: &mut [u8], at: usize) -> Result<usize, 
     }
     let mut numbers = [0u64; NUMBERS];
     let n = text::decimals(line, &mut numbers);
-    // by `match`: behind a `?` no edit of a value shows that a refused line keeps its number
+    // a `match` and no `?`: so an edit of one arm (refused_line_accepted) shows that a refused line has its number
     match record_write::write(&numbers[..n], &mut out[at..]) {
         Ok(used) => Ok(at + used),
         Err(refusal) => Err(refusal),
