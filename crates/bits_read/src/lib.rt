@@ -66,7 +66,7 @@ impl Cursor {
         self.field(words::cut(word, self.at, width), width)
     }
 
-    // The fields of the widths ws from here on, so many bits, which lie in one word of eight bytes, into out from a place on; the cursor behind them. It goes through the word, whose bits it counts from the first on, up to their end.
+    // The fields of the widths ws from here on, so many bits, which lie in one word of eight bytes, into out from a place on; the cursor behind them. The word is read once, and each field cut out of it; the loop counts the word's bits, and ends where theirs do.
     pub fn read_fields(
         self,
         bytes: &[u8],
@@ -89,7 +89,7 @@ impl Cursor {
             let f = c.cut(word, *w as usize);
             out[to + i] = f.value;
             c = f.next;
-            // without this, which the last field alone meets, the compiler unrolls the loop, and long lists are read a fifth slower
+            // true at the last field alone: without this test the compiler unrolls the loop, and reading long lists takes a fifth longer
             if c.at == end {
                 break;
             }
